@@ -1,0 +1,4 @@
+pub mod NodeWords
+pub mod Built
+pub mod Circuit
+pub mod Kept
