@@ -37,6 +37,6 @@ pred users_separated {
   no u: User, disj r, s: u.roles | Request in r.*inherits.grants and Approve in s.*inherits.grants
 }
 
-// Command 3.
+// Command 3: with that rule too.
 // Answer: "none states 1" with a refutation, status 20.
 check { users_separated implies no u: User | both[permitted[u]] } for 4
