@@ -1,0 +1,135 @@
+use crate::chooser::Chooser;
+use crate::heap::WeightHeap;
+use crate::picks::{Picks, literal_of, value_of};
+use std::alloc::{AllocError, Global};
+
+/// What a bump adds at first.
+const FIRST_STEP: u64 = 1 << 20;
+
+/// A step or a weight above this lets all weights be scaled down.
+const LIMIT: u64 = 1 << 58;
+
+/// The power of two by which weights and step are scaled down.
+const SHIFT: u32 = 30;
+
+/// Notes the sign of a variable.
+fn note_sign(signs: &mut [bool], variable: usize, is_true: bool) {
+    if variable < signs.len() {
+        signs[variable] = is_true;
+    }
+}
+
+/// Picks a free variable of greatest weight, with the sign that it had last; at first it is false.
+///
+/// Weights are whole numbers that a bump raises and that count half after a decay: in place of halving all of them
+/// a decay doubles what later bumps add. Where numbers grow too great, all are scaled down, which keeps their order.
+/// The free variables wait in a heap. One that is found assigned is set aside, and waits again once a pick before
+/// it has been undone.
+#[derive(Drop)]
+pub struct Activity {
+    alloc: Global,
+    heap: WeightHeap,
+    signs: Vec<bool>,
+    picks: Picks,
+    step: u64,
+    has_conflict: bool,
+}
+
+impl Activity {
+    /// A chooser without variables; `start` makes its room.
+    pub fn new(alloc: Global) -> Activity {
+        Activity {
+            alloc,
+            heap: WeightHeap::empty(alloc),
+            signs: Vec::new(alloc),
+            picks: Picks::empty(alloc),
+            step: FIRST_STEP,
+            has_conflict: false,
+        }
+    }
+
+    /// Lets the variables wait again that were set aside and have become free.
+    fn refresh(&mut self, values: &[i8]) {
+        if !self.has_conflict && !self.picks.is_last_undone(values) {
+            return;
+        }
+        self.has_conflict = false;
+        let start = self.picks.forget_undone(values);
+        let end = self.picks.aside_count;
+        self.picks.cut_aside(start);
+        for place in start..end {
+            let variable = self.picks.aside_at(place);
+            if value_of(values, variable) == 0 {
+                self.heap.insert(variable);
+            } else {
+                self.picks.set_aside(variable);
+            }
+        }
+    }
+
+    /// Takes waiting variables in turn, up to one that is free; the others are set aside.
+    fn next_free(&mut self, values: &[i8]) -> Option<usize> {
+        'waiting: while let Some(variable) = self.heap.pop() {
+            let value = value_of(values, variable);
+            if value == 0 {
+                return Some(variable);
+            }
+            note_sign(&mut self.signs, variable, value > 0);
+            self.picks.set_aside(variable);
+        }
+        None
+    }
+
+    /// The sign that a variable had last.
+    fn sign(&self, variable: usize) -> bool {
+        variable < self.signs.len() && self.signs[variable]
+    }
+
+    /// Scales the weights and the step down.
+    fn scale_down(&mut self) {
+        self.heap.scale_down(SHIFT);
+        self.step = (self.step >> SHIFT).max(1);
+    }
+}
+
+impl Chooser for Activity {
+    fn start(&mut self, variables: u64) -> Result<(), AllocError> {
+        let variables = variables as usize;
+        self.heap = WeightHeap::new(self.alloc, variables)?;
+        self.signs = vec![in self.alloc; false; variables]?;
+        self.picks = Picks::new(self.alloc, variables)?;
+        Ok(())
+    }
+
+    fn pick(&mut self, values: &[i8]) -> i64 {
+        self.refresh(values);
+        let Some(variable) = self.next_free(values) else {
+            return 0;
+        };
+        let literal = literal_of(variable, self.sign(variable));
+        self.picks.add(literal);
+        self.picks.set_aside(variable);
+        literal
+    }
+
+    fn bump(&mut self, variable: i64) {
+        self.has_conflict = true;
+        let number = variable.unsigned_abs() as usize;
+        if number == 0 {
+            return;
+        }
+        note_sign(&mut self.signs, number - 1, variable > 0);
+        let weight = self.heap.raise(number - 1, self.step);
+        if weight > LIMIT {
+            self.scale_down();
+        }
+    }
+
+    fn decay(&mut self) {
+        self.has_conflict = true;
+        self.step = self.step.saturating_mul(2);
+        if self.step > LIMIT {
+            self.scale_down();
+        }
+    }
+}

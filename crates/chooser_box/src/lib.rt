@@ -1,0 +1,19 @@
+//! What a search makes true next.
+//!
+//! A search asks its chooser for a literal whenever nothing is forced. Nothing is promised of what a chooser picks:
+//! a search has to answer rightly whatever it is told.
+#![tactic(auto)]
+
+mod activity;
+mod chooser;
+mod first_free;
+mod heap;
+mod lying;
+mod picks;
+#[cfg(test)]
+mod tests;
+
+pub use activity::Activity;
+pub use chooser::Chooser;
+pub use first_free::FirstFree;
+pub use lying::Lying;
