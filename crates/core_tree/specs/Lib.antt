@@ -1,0 +1,7 @@
+pub mod Trees
+pub mod Rows
+pub mod Past
+pub mod Columns
+pub mod Models
+pub mod Types
+pub mod Kernel
