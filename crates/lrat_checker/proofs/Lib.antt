@@ -1,0 +1,4 @@
+pub mod Agreeing
+pub mod Distinct
+pub mod Marking
+pub mod Standing

@@ -1,0 +1,17 @@
+//! A checker of refutations in the LRAT format, line by line.
+//!
+//! A lemma passes where its hints show it by unit propagation alone, so that a line is checked in a time that goes by
+//! the literals in its hints.
+#![tactic(auto)]
+
+mod checker;
+mod fault;
+mod marks;
+mod store;
+mod walk;
+
+pub use checker::Checker;
+pub use fault::{LineFault, Step};
+
+#[cfg(test)]
+mod tests;
