@@ -1,0 +1,109 @@
+-- Which answers the settings allow, from what came of the files.
+use Rattle.std.proofs.Common.{◌≡◌, ◌≢◌, ℕ, List, [], ◌∷◌, map, Option, Some, None, Vec, Global, IfOk, Result, Ok, Err, refl, sym, ap, ◌∙◌, subst, inl, inr}
+use Rattle.std.specs.declared.alloc.AllocError.{AllocError}
+use Rattle.alloy_base.specs.Causes.{SomeRose, NoneFell}
+use Rattle.alloy_base.specs.Texts.{Texts}
+use Rattle.alloy_base.specs.declared.limits.TheConstants.{MODULE_BYTES, FILE_BYTES}
+use Rattle.alloy_base.specs.declared.place.Rule.{Rule}
+use Rattle.command_words.specs.declared.named.Mode.{Mode}
+use Rattle.command_words.specs.declared.named.Mode.TheVariants.{Exec, Commands, Lrat, Make, Replay, Eval, Least, Core}
+use Rattle.command_words.specs.declared.settings.Settings.{Settings}
+use Rattle.als_command.specs.Files.{Asked, IsFile, asked, asked_in, second_asked, at_start, file_rule, first_broken, first_of}
+use Rattle.als_command.specs.Run.{AllowsFiles, IsOnTexts, RefusedFor}
+use Rattle.als_command.specs.declared.answer.Answer.{Answer}
+use Rattle.als_command.specs.declared.answer.Answer.TheVariants.{Usage, Refused, ReadFault, Trace, Absent}
+use Rattle.als_command.specs.declared.files.File.TheVariants.{Whole, Broken}
+
+module _ (settings : Settings) (held : List (Option Texts)) (before now : List ℕ) where
+  -- an answer on texts that are all whole
+  pub on_texts : (a : Answer) → now ≡ before → IsOnTexts settings a → AllowsFiles [] settings held before now a
+  on_texts Usage same h = absurd h
+  on_texts (Refused refusal name) same h = (same, λ told tells. h)
+  on_texts (ReadFault name) same h = absurd h
+  on_texts (Trace text) same h = (same, record { mode = h; whole = λ told tells. refl })
+  on_texts (Absent text) same h = (same, record { mode = h; whole = λ told tells. refl })
+
+  -- a file that breaks a rule as a whole is refused
+  pub on_broken : (name : List ℕ) (most : ℕ) (files : List Asked) (rule : Rule) → IsFile held name most before now (Broken rule) →
+      AllowsFiles ((name, most) ∷ files) settings held before now (Refused (at_start rule) name)
+  on_broken name most files rule h = (
+    h.0,
+    λ told tells. subst (λ o. RefusedFor (first_of o name (first_broken told files)) settings (at_start rule) name) (sym (h.1 told tells)) (refl, refl),
+  )
+
+  pub on_failed : (name : List ℕ) (most : ℕ) (files : List Asked) → SomeRose before now → AllowsFiles ((name, most) ∷ files) settings held before now (ReadFault name)
+  on_failed name most files h = (inl refl, h)
+
+  -- after a file that is whole, what the other files allow
+  pub on_whole : (name : List ℕ) (most : ℕ) (files : List Asked) (a : Answer) → ((told : List Texts) → held ≡ map (λ t. Some t) told → file_rule told (name, most) ≡ None) →
+      AllowsFiles files settings held before now a → AllowsFiles ((name, most) ∷ files) settings held before now a
+  on_whole name most files Usage whole h = absurd h
+  on_whole name most files (Refused refusal n) whole h = (
+    h.0,
+    λ told tells. subst (λ o. RefusedFor (first_of o name (first_broken told files)) settings refusal n) (sym (whole told tells)) (h.1 told tells),
+  )
+  on_whole name most files (ReadFault n) whole h = (inr h.0, h.1)
+  on_whole name most files (Trace text) whole h = (
+    h.0,
+    record { mode = h.1.mode; whole = λ told tells. ap (λ o. first_of o name (first_broken told files)) (whole told tells) ∙ h.1.whole told tells },
+  )
+  on_whole name most files (Absent text) whole h = (
+    h.0,
+    record { mode = h.1.mode; whole = λ told tells. ap (λ o. first_of o name (first_broken told files)) (whole told tells) ∙ h.1.whole told tells },
+  )
+
+-- a mode on one model asks for that model
+asked_in_one : (m : Mode) (file : List ℕ) (second : Option (List ℕ)) → m ≢ Make → m ≢ Lrat → asked_in m file second ≡ (file, MODULE_BYTES) ∷ []
+asked_in_one Exec file second make lrat = refl
+asked_in_one Commands file second make lrat = refl
+asked_in_one Lrat file second make lrat = absurd (lrat refl)
+asked_in_one Make file second make lrat = absurd (make refl)
+asked_in_one Replay file second make lrat = refl
+asked_in_one Eval file second make lrat = refl
+asked_in_one Least file second make lrat = refl
+asked_in_one Core file second make lrat = refl
+
+pub asked_model : (settings : Settings) → settings.mode ≢ Make → settings.mode ≢ Lrat → asked settings ≡ (settings.file, MODULE_BYTES) ∷ []
+asked_model settings make lrat = asked_in_one settings.mode settings.file settings.second make lrat
+
+pub asked_lrat : (settings : Settings) → settings.mode ≡ Lrat → asked settings ≡ (settings.file, FILE_BYTES) ∷ second_asked settings.second
+asked_lrat settings lrat = ap (λ m. asked_in m settings.file settings.second) lrat
+
+-- what holds of each value that r is, holds of the one that is returned
+pub if_ok : {T : Type 0} (P : T → Type 0) (r : Result T AllocError) (x : T) → IfOk r P → r ≡ Ok x → P x
+if_ok P (Ok y) x h is = subst P (cc is) h
+if_ok P (Err e) x h is = cc
+
+module _ (settings : Settings) (held : List (Option Texts)) (before now : List ℕ) (name : List ℕ) (most : ℕ) (files rest : List Asked) (asks : files ≡ (name, most) ∷ rest)
+    (r : Result Answer AllocError) (answer : Answer) (is : r ≡ Ok answer) where
+  pub broken_allows : (rule : Rule) → IsFile held name most before now (Broken rule) → IfOk r (λ a. a ≡ Refused (at_start rule) name) → AllowsFiles files settings held before now answer
+  broken_allows rule file refuses =
+      let refusal : answer ≡ Refused (at_start rule) name = if_ok (λ a. a ≡ Refused (at_start rule) name) r answer refuses is in
+      subst (λ fs. AllowsFiles fs settings held before now answer) (sym asks)
+      (subst (λ a. AllowsFiles ((name, most) ∷ rest) settings held before now a) (sym refusal) (on_broken settings held before now name most rest rule file))
+
+  pub failed_allows : SomeRose before now → IfOk r (λ a. a ≡ ReadFault name) → AllowsFiles files settings held before now answer
+  failed_allows rose fails =
+      let fault : answer ≡ ReadFault name = if_ok (λ a. a ≡ ReadFault name) r answer fails is in
+      subst (λ fs. AllowsFiles fs settings held before now answer) (sym asks)
+      (subst (λ a. AllowsFiles ((name, most) ∷ rest) settings held before now a) (sym fault) (on_failed settings held before now name most rest rose))
+
+-- the last file is whole, and the answer is one on the texts
+pub whole_allows : (settings : Settings) (held : List (Option Texts)) (before now : List ℕ) (name : List ℕ) (most : ℕ) (files : List Asked) → files ≡ (name, most) ∷ [] →
+    (r : Result Answer AllocError) (answer : Answer) → r ≡ Ok answer → (text : Vec ℕ Global) → IsFile held name most before now (Whole text) → IfOk r (IsOnTexts settings) →
+    AllowsFiles files settings held before now answer
+whole_allows settings held before now name most files asks r answer is text file on =
+    subst (λ fs. AllowsFiles fs settings held before now answer) (sym asks)
+    (on_whole settings held before now name most [] answer (λ told tells. (file.1 told tells).1) (on_texts settings held before now answer file.0 (if_ok (IsOnTexts settings) r answer on is)))
+
+-- a file is whole, and the answer is one that the others allow
+pub then_allows : (settings : Settings) (held later : List (Option Texts)) (before mid now : List ℕ) (name : List ℕ) (most : ℕ) (files rest : List Asked) → files ≡ (name, most) ∷ rest →
+    (answer : Answer) (text : Vec ℕ Global) → IsFile held name most before mid (Whole text) → later ≡ held → AllowsFiles rest settings later mid now answer →
+    AllowsFiles files settings held before now answer
+then_allows settings held later before mid now name most files rest asks answer text file keeps allows =
+    subst (λ fs. AllowsFiles fs settings held before now answer) (sym asks)
+    (on_whole settings held before now name most rest answer (λ told tells. (file.1 told tells).1)
+    (subst (λ ns. AllowsFiles rest settings held ns now answer) file.0 (subst (λ h. AllowsFiles rest settings h mid now answer) keeps allows)))
+
+pub then_later : (before mid now : List ℕ) → mid ≡ before → NoneFell mid now → NoneFell before now
+then_later before mid now same later = subst (λ ns. NoneFell ns now) same later

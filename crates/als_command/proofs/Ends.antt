@@ -1,0 +1,215 @@
+-- How a run ends, status by status.
+use Rattle.std.proofs.Common.{◌≡◌, ◌≢◌, ◌⊎◌, ℕ, List, [], Option, Some, None, Result, refl, sym, ap, ◌∙◌, subst, inl, inr, arith, map, append-nil}
+use Rattle.std.specs.declared.alloc.AllocError.{AllocError}
+use Rattle.alloy_base.specs.Causes.{Rose}
+use Rattle.alloy_base.specs.Texts.{Texts}
+use Rattle.alloy_base.specs.declared.place.Rule.{Rule}
+use Rattle.command_words.specs.declared.settings.Settings.{Settings}
+use Rattle.als_command.specs.Answer.{text_of, status_of, usage_line}
+use Rattle.als_command.specs.Files.{asked, first_broken}
+use Rattle.als_command.specs.Run.{Allows, Written, written, no_memory, write_fault, Finished, delivered, gave_up, Justified, Refuses, FailsToRead, FailsToWrite, Searches, IsStatus}
+use Rattle.als_command.specs.declared.answer.Answer.{Answer}
+use Rattle.als_command.specs.declared.answer.Answer.TheVariants.{Usage, Refused, ReadFault, Trace, Absent}
+
+-- an empty text is written by no call
+pub nothing_written : (old : Option (List ℕ)) → Written old old []
+nothing_written None = refl
+nothing_written (Some got) = ap (λ l. Some l) (sym (append-nil got))
+
+-- an answer's own status is neither of the two that say that it couldn't be delivered
+not_five : (a : Answer) → status_of a ≡ 5 → ⊥
+not_five Usage is = omega arith
+not_five (Refused refusal name) is = omega arith
+not_five (ReadFault name) is = omega arith
+not_five (Trace text) is = omega arith
+not_five (Absent text) is = omega arith
+
+not_six : (a : Answer) → status_of a ≡ 6 → ⊥
+not_six Usage is = omega arith
+not_six (Refused refusal name) is = omega arith
+not_six (ReadFault name) is = omega arith
+not_six (Trace text) is = omega arith
+not_six (Absent text) is = omega arith
+
+answer_status : (a : Answer) → IsStatus (status_of a)
+answer_status Usage = inl refl
+answer_status (Refused refusal name) = inr (inl refl)
+answer_status (ReadFault name) = inr (inr (inl refl))
+answer_status (Trace text) = inr (inr (inr (inr (inr (inl refl)))))
+answer_status (Absent text) = inr (inr (inr (inr (inr (inr refl)))))
+
+module _ (old new : Option (List ℕ)) (f g s : ℕ) where
+  pub memory : (r : Result Answer AllocError) → Finished r old new f g s → s ≡ 5 → new ≡ old
+  memory r (delivered a built (written is whole same)) five = absurd (not_five a (sym is ∙ five))
+  memory r (delivered a built (no_memory is nothing same)) five = nothing
+  memory r (delivered a built (write_fault is part later rose)) five = absurd (omega arith)
+  memory r (gave_up is nothing same) five = nothing
+
+  pub sink_fault_always : (r : Result Answer AllocError) → Finished r old new f g s → g ≢ f → s ≡ 6
+  sink_fault_always r (delivered a built (written is whole same)) other = absurd (other same)
+  sink_fault_always r (delivered a built (no_memory is nothing same)) other = absurd (other same)
+  sink_fault_always r (delivered a built (write_fault is part later rose)) other = is
+  sink_fault_always r (gave_up is nothing same) other = absurd (other same)
+
+module _ (given : Option Settings) (held : List (Option Texts)) (before now : List ℕ) where
+  usage_given : (o : Option Settings) (a : Answer) → Allows o held before now a → status_of a ≡ 2 → (o ≡ None) × (text_of a ≡ usage_line)
+  usage_given None Usage allows is = (refl, refl)
+  usage_given None (Refused refusal name) allows is = absurd allows
+  usage_given None (ReadFault name) allows is = absurd allows
+  usage_given None (Trace text) allows is = absurd allows
+  usage_given None (Absent text) allows is = absurd allows
+  usage_given (Some settings) Usage allows is = absurd allows
+  usage_given (Some settings) (Refused refusal name) allows is = absurd (omega arith)
+  usage_given (Some settings) (ReadFault name) allows is = absurd (omega arith)
+  usage_given (Some settings) (Trace text) allows is = absurd (omega arith)
+  usage_given (Some settings) (Absent text) allows is = absurd (omega arith)
+
+  usage_where_none : (a : Answer) → Allows None held before now a → status_of a ≡ 2
+  usage_where_none Usage allows = refl
+  usage_where_none (Refused refusal name) allows = absurd allows
+  usage_where_none (ReadFault name) allows = absurd allows
+  usage_where_none (Trace text) allows = absurd allows
+  usage_where_none (Absent text) allows = absurd allows
+
+  refused_given : (o : Option Settings) (a : Answer) (old new : Option (List ℕ)) → Allows o held before now a → status_of a ≡ 3 → Written old new (text_of a) → Refuses o held old new
+  refused_given None Usage old new allows is line = absurd (omega arith)
+  refused_given None (Refused refusal name) old new allows is line = absurd allows
+  refused_given None (ReadFault name) old new allows is line = absurd allows
+  refused_given None (Trace text) old new allows is line = absurd allows
+  refused_given None (Absent text) old new allows is line = absurd allows
+  refused_given (Some settings) Usage old new allows is line = absurd allows
+  refused_given (Some settings) (Refused refusal name) old new allows is line =
+      record { settings = settings; refusal = refusal; name = name; fit = refl; cause = allows.1; line = line }
+  refused_given (Some settings) (ReadFault name) old new allows is line = absurd (omega arith)
+  refused_given (Some settings) (Trace text) old new allows is line = absurd (omega arith)
+  refused_given (Some settings) (Absent text) old new allows is line = absurd (omega arith)
+
+  read_fault_given : (o : Option Settings) (a : Answer) (old new : Option (List ℕ)) → Allows o held before now a → status_of a ≡ 4 → Written old new (text_of a) → FailsToRead o before now old new
+  read_fault_given None Usage old new allows is line = absurd (omega arith)
+  read_fault_given None (Refused refusal name) old new allows is line = absurd allows
+  read_fault_given None (ReadFault name) old new allows is line = absurd allows
+  read_fault_given None (Trace text) old new allows is line = absurd allows
+  read_fault_given None (Absent text) old new allows is line = absurd allows
+  read_fault_given (Some settings) Usage old new allows is line = absurd allows
+  read_fault_given (Some settings) (Refused refusal name) old new allows is line = absurd (omega arith)
+  read_fault_given (Some settings) (ReadFault name) old new allows is line =
+      record { settings = settings; name = name; fit = refl; asked_for = allows.0; rose = allows.1; line = line }
+  read_fault_given (Some settings) (Trace text) old new allows is line = absurd (omega arith)
+  read_fault_given (Some settings) (Absent text) old new allows is line = absurd (omega arith)
+
+  searched_given : (o : Option Settings) (a : Answer) → Allows o held before now a → (status_of a ≡ 10) ⊎ (status_of a ≡ 20) → Searches o held
+  searched_given None Usage allows is = elim is [ inl e ↦ absurd (omega arith) | inr e ↦ absurd (omega arith) ]
+  searched_given None (Refused refusal name) allows is = absurd allows
+  searched_given None (ReadFault name) allows is = absurd allows
+  searched_given None (Trace text) allows is = absurd allows
+  searched_given None (Absent text) allows is = absurd allows
+  searched_given (Some settings) Usage allows is = absurd allows
+  searched_given (Some settings) (Refused refusal name) allows is = elim is [ inl e ↦ absurd (omega arith) | inr e ↦ absurd (omega arith) ]
+  searched_given (Some settings) (ReadFault name) allows is = elim is [ inl e ↦ absurd (omega arith) | inr e ↦ absurd (omega arith) ]
+  searched_given (Some settings) (Trace text) allows is = record { settings = settings; fit = refl; searched = allows.1 }
+  searched_given (Some settings) (Absent text) allows is = record { settings = settings; fit = refl; searched = allows.1 }
+
+  -- where a file breaks a rule as a whole, the answer is a refusal or a library's fault
+  broken_given : (settings : Settings) (a : Answer) (told : List Texts) (broken : Rule × List ℕ) → Allows (Some settings) held before now a → held ≡ map (λ t. Some t) told →
+      first_broken told (asked settings) ≡ Some broken → (status_of a ≡ 3) ⊎ (status_of a ≡ 4)
+  broken_given settings Usage told broken allows tells breaks = absurd allows
+  broken_given settings (Refused refusal name) told broken allows tells breaks = inl refl
+  broken_given settings (ReadFault name) told broken allows tells breaks = inr refl
+  broken_given settings (Trace text) told broken allows tells breaks = cc (allows.1.whole told tells, breaks)
+  broken_given settings (Absent text) told broken allows tells breaks = cc (allows.1.whole told tells, breaks)
+
+  -- where a count has changed, the answer is a library's fault
+  risen_given : (o : Option Settings) (a : Answer) → Allows o held before now a → now ≢ before → status_of a ≡ 4
+  risen_given None Usage allows other = absurd (other allows)
+  risen_given None (Refused refusal name) allows other = absurd allows
+  risen_given None (ReadFault name) allows other = absurd allows
+  risen_given None (Trace text) allows other = absurd allows
+  risen_given None (Absent text) allows other = absurd allows
+  risen_given (Some settings) Usage allows other = absurd allows
+  risen_given (Some settings) (Refused refusal name) allows other = absurd (other allows.0)
+  risen_given (Some settings) (ReadFault name) allows other = refl
+  risen_given (Some settings) (Trace text) allows other = absurd (other allows.0)
+  risen_given (Some settings) (Absent text) allows other = absurd (other allows.0)
+
+  module _ (old new : Option (List ℕ)) (f g s : ℕ) where
+    -- an answer with this status was written
+    pub record Said (status : ℕ) : Type 0 where
+      pub answer : Answer
+      pub allowed : Allows given held before now answer
+      pub has : status_of answer ≡ status
+      pub line : Written old new (text_of answer)
+
+    said : (status : ℕ) (r : Result Answer AllocError) → Justified given held before now r → Finished r old new f g s → s ≡ status → status ≢ 5 → status ≢ 6 → Said status
+    said status r justified (delivered a built (written is whole same)) at five six = record { answer = a; allowed = justified.allowed a built; has = sym is ∙ at; line = whole }
+    said status r justified (delivered a built (no_memory is nothing same)) at five six = absurd (five (sym at ∙ is))
+    said status r justified (delivered a built (write_fault is part later rose)) at five six = absurd (six (sym at ∙ is))
+    said status r justified (gave_up is nothing same) at five six = absurd (five (sym at ∙ is))
+
+    -- what holds of the status of each answer that is allowed, or one of the two statuses without an answer
+    ends : (P : ℕ → Type 0) (r : Result Answer AllocError) → Justified given held before now r → Finished r old new f g s →
+        ((a : Answer) → Allows given held before now a → P (status_of a)) → P s ⊎ ((s ≡ 5) ⊎ (s ≡ 6))
+    ends P r justified (delivered a built (written is whole same)) all = inl (subst P (sym is) (all a (justified.allowed a built)))
+    ends P r justified (delivered a built (no_memory is nothing same)) all = inr (inl is)
+    ends P r justified (delivered a built (write_fault is part later rose)) all = inr (inr is)
+    ends P r justified (gave_up is nothing same) all = inr (inl is)
+
+    pub usage : (r : Result Answer AllocError) → Justified given held before now r → Finished r old new f g s → s ≡ 2 → (given ≡ None) × Written old new usage_line
+    usage r justified finished is =
+        let told = said 2 r justified finished is (λ e. omega arith) (λ e. omega arith) in
+        let both = usage_given given told.answer told.allowed told.has in
+        (both.0, subst (λ t. Written old new t) both.1 told.line)
+
+    pub usage_always : (r : Result Answer AllocError) → Justified given held before now r → Finished r old new f g s → given ≡ None → (s ≡ 2) ⊎ (s ≡ 5) ⊎ (s ≡ 6)
+    usage_always r justified finished none =
+        elim (ends (λ n. n ≡ 2) r justified finished (λ a allows. usage_where_none a (subst (λ o. Allows o held before now a) none allows))) [
+          | inl two ↦ inl two
+          | inr rest ↦ elim rest [ inl five ↦ inr (inl five) | inr six ↦ inr (inr six) ]
+        ]
+
+    pub refused : (r : Result Answer AllocError) → Justified given held before now r → Finished r old new f g s → s ≡ 3 → Refuses given held old new
+    refused r justified finished is =
+        let told = said 3 r justified finished is (λ e. omega arith) (λ e. omega arith) in
+        refused_given given told.answer old new told.allowed told.has told.line
+
+    pub refused_always : (r : Result Answer AllocError) → Justified given held before now r → Finished r old new f g s → (settings : Settings) (told : List Texts) (broken : Rule × List ℕ) →
+        given ≡ Some settings → held ≡ map (λ t. Some t) told → first_broken told (asked settings) ≡ Some broken → (s ≡ 3) ⊎ (s ≡ 4) ⊎ (s ≡ 5) ⊎ (s ≡ 6)
+    refused_always r justified finished settings told broken fit tells breaks =
+        elim (ends (λ n. (n ≡ 3) ⊎ (n ≡ 4)) r justified finished (λ a allows. broken_given settings a told broken (subst (λ o. Allows o held before now a) fit allows) tells breaks)) [
+          | inl either ↦ elim either [ inl three ↦ inl three | inr four ↦ inr (inl four) ]
+          | inr rest ↦ elim rest [ inl five ↦ inr (inr (inl five)) | inr six ↦ inr (inr (inr six)) ]
+        ]
+
+    pub read_fault : (r : Result Answer AllocError) → Justified given held before now r → Finished r old new f g s → s ≡ 4 → FailsToRead given before now old new
+    read_fault r justified finished is =
+        let told = said 4 r justified finished is (λ e. omega arith) (λ e. omega arith) in
+        read_fault_given given told.answer old new told.allowed told.has told.line
+
+    pub read_fault_always : (r : Result Answer AllocError) → Justified given held before now r → Finished r old new f g s → now ≢ before → (s ≡ 4) ⊎ (s ≡ 5) ⊎ (s ≡ 6)
+    read_fault_always r justified finished other =
+        elim (ends (λ n. n ≡ 4) r justified finished (λ a allows. risen_given given a allows other)) [
+          | inl four ↦ inl four
+          | inr rest ↦ elim rest [ inl five ↦ inr (inl five) | inr six ↦ inr (inr six) ]
+        ]
+
+    pub trace : (r : Result Answer AllocError) → Justified given held before now r → Finished r old new f g s → s ≡ 10 → Searches given held
+    trace r justified finished is =
+        let told = said 10 r justified finished is (λ e. omega arith) (λ e. omega arith) in
+        searched_given given told.answer told.allowed (inl told.has)
+
+    pub absent : (r : Result Answer AllocError) → Justified given held before now r → Finished r old new f g s → s ≡ 20 → Searches given held
+    absent r justified finished is =
+        let told = said 20 r justified finished is (λ e. omega arith) (λ e. omega arith) in
+        searched_given given told.answer told.allowed (inr told.has)
+
+    pub sink_fault : (r : Result Answer AllocError) → Justified given held before now r → Finished r old new f g s → s ≡ 6 → Rose f g × FailsToWrite given held before now old new
+    sink_fault r justified (delivered a built (written is whole same)) six = absurd (not_six a (sym is ∙ six))
+    sink_fault r justified (delivered a built (no_memory is nothing same)) six = absurd (omega arith)
+    sink_fault r justified (delivered a built (write_fault is part later rose)) six = (rose, record { answer = a; allowed = justified.allowed a built; front = part })
+    sink_fault r justified (gave_up is nothing same) six = absurd (omega arith)
+
+    pub status : (r : Result Answer AllocError) → Justified given held before now r → Finished r old new f g s → IsStatus s
+    status r justified finished =
+        elim (ends IsStatus r justified finished (λ a allows. answer_status a)) [
+          | inl one ↦ one
+          | inr rest ↦ elim rest [ inl five ↦ inr (inr (inr (inl five))) | inr six ↦ inr (inr (inr (inr (inl six)))) ]
+        ]

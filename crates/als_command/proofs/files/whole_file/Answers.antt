@@ -1,0 +1,23 @@
+use Rattle.std.proofs.Common.{◌+◌}
+use Rattle.alloy_base.specs.declared.library.Fetch.TheVariants.{Found, Absent}
+use Rattle.als_command.specs.Files.{IsFile}
+use Rattle.als_command.proofs.Fetched.{same_value, absent_rule, found_file}
+use Rattle.als_command.proofs.files.whole_file.Goals as goal
+
+pub returns-in-Ok-Absent-clause-file : goal.returns-in-Ok-Absent-clause-file
+returns-in-Ok-Absent-clause-file g c file is =
+    let allows = IsFile (g.L.Libraries.told c.args.libraries.now) c.args.name.now c.args.most (g.L.Libraries.counts c.args.libraries.now) (g.L.Libraries.counts c.fetch_first.new.self) in
+    same_value allows _ file is (
+      c.fetch_first.ensures.cause.other (λ e. cc (c.in-Ok-Absent.is, e)),
+      λ told tells. absent_rule told c.args.name.now c.args.most (c.args.most + 1) (c.fetch_first.ensures.answer told Absent tells (cc (c.in-Ok-Absent.is, c.in-Ok-Absent.field-0-is))),
+    )
+
+pub returns-in-Ok-Found-clause-file : goal.returns-in-Ok-Found-clause-file
+returns-in-Ok-Found-clause-file g c file is =
+    let allows = IsFile (g.L.Libraries.told c.args.libraries.now) c.args.name.now c.args.most (g.L.Libraries.counts c.args.libraries.now) (g.L.Libraries.counts c.fetch_first.new.self) in
+    same_value allows _ file is (
+    found_file (g.L.Libraries.told c.args.libraries.now) c.args.name.now c.args.most (g.L.Libraries.counts c.args.libraries.now) (g.L.Libraries.counts c.fetch_first.new.self)
+    c.in-Ok-Found.text (c.fetch_first.ensures.cause.other (λ e. cc (c.in-Ok-Found.is, e)))
+    (λ told tells. c.fetch_first.ensures.answer told (Found c.in-Ok-Found.text) tells (cc (c.in-Ok-Found.is, c.in-Ok-Found.field-0-is)))
+    c.within.result c.within.ensures
+    )

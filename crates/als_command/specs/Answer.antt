@@ -1,0 +1,34 @@
+-- The status and the text of an answer.
+use Rattle.std.specs.Prelude.{ℕ, ◌/◌, ◌%◌, List, [], ◌∷◌, ◌++◌, codes, decimal}
+use Rattle.alloy_base.specs.Place.{number_of}
+use Rattle.alloy_base.specs.declared.place.Place.{Place}
+use Rattle.alloy_base.specs.declared.place.Refusal.{Refusal}
+use Rattle.als_command.specs.declared.answer.Answer.{Answer}
+use Rattle.als_command.specs.declared.answer.Answer.TheVariants.{Usage, Refused, ReadFault, Trace, Absent}
+
+abbrev pub usage_line : List ℕ
+usage_line = codes "usage: alloyc MODE FILE [SECOND] [--command N] [--conflicts N] [--part PART] [--chooser N] [--expr E] [--at N]" ++ 10 ∷ []
+
+-- the line of a refusal, with the two digits of the rule's number
+abbrev pub numbered_line : ℕ → ℕ → List ℕ → Place → List ℕ
+numbered_line tens ones name place = codes "refused S" ++ (decimal tens ++ (decimal ones ++ (codes " " ++ (name ++ (codes ":" ++ (decimal place.line ++ (codes ":" ++ (decimal place.column ++ 10 ∷ []))))))))
+
+abbrev pub refused_line : Refusal → List ℕ → List ℕ
+refused_line refusal name = numbered_line (number_of refusal.rule / 10) (number_of refusal.rule % 10) name refusal.place
+
+abbrev pub fault_line : List ℕ → List ℕ
+fault_line name = codes "fault read " ++ name ++ 10 ∷ []
+
+abbrev pub text_of : Answer → List ℕ
+text_of Usage = usage_line
+text_of (Refused refusal name) = refused_line refusal name
+text_of (ReadFault name) = fault_line name
+text_of (Trace text) = text
+text_of (Absent text) = text
+
+abbrev pub status_of : Answer → ℕ
+status_of Usage = 2
+status_of (Refused refusal name) = 3
+status_of (ReadFault name) = 4
+status_of (Trace text) = 10
+status_of (Absent text) = 20

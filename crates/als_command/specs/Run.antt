@@ -1,0 +1,116 @@
+-- What a run may answer, and why.
+use Rattle.std.specs.Prelude.{◌≡◌, ℕ, ◌⊎◌, ◌≤◌, List, ◌++◌, take, map, Option, Some, None, option_map, Result, Ok}
+use Rattle.std.specs.declared.alloc.AllocError.{AllocError}
+use Rattle.alloy_base.specs.Causes.{Rose, SomeRose}
+use Rattle.alloy_base.specs.Texts.{Texts}
+use Rattle.alloy_base.specs.declared.place.Refusal.{Refusal}
+use Rattle.alloy_base.specs.declared.place.Rule.{Rule}
+use Rattle.alloy_base.specs.declared.place.Rule.TheVariants.{NotBuilt}
+use Rattle.command_words.specs.declared.named.Mode.TheVariants.{Exec}
+use Rattle.command_words.specs.declared.settings.Settings.{Settings}
+use Rattle.als_command.specs.Answer.{text_of, status_of, refused_line, fault_line}
+use Rattle.als_command.specs.Files.{Asked, IsAsked, asked, at_start, first_broken}
+use Rattle.als_command.specs.declared.answer.Answer.{Answer}
+use Rattle.als_command.specs.declared.answer.Answer.TheVariants.{Usage, Refused, ReadFault, Trace, Absent}
+
+-- why a run with these settings refuses a text: a file that it asks for breaks a rule as a whole, and it is the first of them;
+-- or all are whole, and what is asked for isn't built yet
+abbrev pub RefusedFor : Option (Rule × List ℕ) → Settings → Refusal → List ℕ → Type 0
+RefusedFor (Some broken) settings refusal name = (refusal ≡ at_start broken.0) × (name ≡ broken.1)
+RefusedFor None settings refusal name = (refusal ≡ at_start NotBuilt) × (name ≡ settings.file)
+
+-- a run that asks for these files refuses this text, where the libraries tell what they hold
+abbrev pub IsRefused : List (Option Texts) → List Asked → Settings → Refusal → List ℕ → Type 0
+IsRefused held files settings refusal name =
+    (told : List Texts) → held ≡ map (λ t. Some t) told → RefusedFor (first_broken told files) settings refusal name
+
+-- the run searches, and none of the files that it asks for breaks a rule as a whole
+pub record IsSearched (held : List (Option Texts)) (files : List Asked) (settings : Settings) : Type 0 where
+  pub mode : settings.mode ≡ Exec
+  pub whole : (told : List Texts) → held ≡ map (λ t. Some t) told → first_broken told files ≡ None
+
+-- an answer that the settings, these files, what the libraries hold, and their counts of faults allow
+abbrev pub AllowsFiles : List Asked → Settings → List (Option Texts) → List ℕ → List ℕ → Answer → Type 0
+AllowsFiles files settings held before now Usage = ⊥
+AllowsFiles files settings held before now (Refused refusal name) = (now ≡ before) × IsRefused held files settings refusal name
+AllowsFiles files settings held before now (ReadFault name) = IsAsked name files × SomeRose before now
+AllowsFiles files settings held before now (Trace text) = (now ≡ before) × IsSearched held files settings
+AllowsFiles files settings held before now (Absent text) = (now ≡ before) × IsSearched held files settings
+
+-- the same of the files that the settings ask for
+abbrev pub AllowsRun : Settings → List (Option Texts) → List ℕ → List ℕ → Answer → Type 0
+AllowsRun settings held before now answer = AllowsFiles (asked settings) settings held before now answer
+
+-- an answer on texts that break no rule as a whole
+abbrev pub IsOnTexts : Settings → Answer → Type 0
+IsOnTexts settings Usage = ⊥
+IsOnTexts settings (Refused refusal name) = (refusal ≡ at_start NotBuilt) × (name ≡ settings.file)
+IsOnTexts settings (ReadFault name) = ⊥
+IsOnTexts settings (Trace text) = settings.mode ≡ Exec
+IsOnTexts settings (Absent text) = settings.mode ≡ Exec
+
+-- the same where there may be no settings that fit
+abbrev pub Allows : Option Settings → List (Option Texts) → List ℕ → List ℕ → Answer → Type 0
+Allows None held before now Usage = now ≡ before
+Allows None held before now (Refused refusal name) = ⊥
+Allows None held before now (ReadFault name) = ⊥
+Allows None held before now (Trace text) = ⊥
+Allows None held before now (Absent text) = ⊥
+Allows (Some settings) held before now answer = AllowsRun settings held before now answer
+
+-- the whole text was written
+abbrev pub Written : Option (List ℕ) → Option (List ℕ) → List ℕ → Type 0
+Written old new text = new ≡ option_map (λ got. got ++ text) old
+
+-- a part of it from the front was
+abbrev pub Begun : Option (List ℕ) → Option (List ℕ) → List ℕ → Type 0
+Begun old new text = (n : ℕ) × (new ≡ option_map (λ got. got ++ take n text) old)
+
+-- an answer that was written, or couldn't be
+pub data Delivered (answer : Answer) (old new : Option (List ℕ)) (before now status : ℕ) : Type 0 where
+  written : status ≡ status_of answer → Written old new (text_of answer) → now ≡ before → Delivered answer old new before now status
+  no_memory : status ≡ 5 → new ≡ old → now ≡ before → Delivered answer old new before now status
+  write_fault : status ≡ 6 → Begun old new (text_of answer) → before ≤ now → Rose before now → Delivered answer old new before now status
+
+-- the answer was delivered, or there was no memory for one
+pub data Finished (r : Result Answer AllocError) (old new : Option (List ℕ)) (before now status : ℕ) : Type 0 where
+  delivered : (answer : Answer) → r ≡ Ok answer → Delivered answer old new before now status → Finished r old new before now status
+  gave_up : status ≡ 5 → new ≡ old → now ≡ before → Finished r old new before now status
+
+-- each answer that r is, is allowed
+pub record Justified (settings : Option Settings) (held : List (Option Texts)) (before now : List ℕ) (r : Result Answer AllocError) : Type 0 where
+  pub allowed : (answer : Answer) → r ≡ Ok answer → Allows settings held before now answer
+
+-- the line of a rule that a text breaks was written
+pub record Refuses (given : Option Settings) (held : List (Option Texts)) (old new : Option (List ℕ)) : Type 0 where
+  pub settings : Settings
+  pub refusal : Refusal
+  pub name : List ℕ
+  pub fit : given ≡ Some settings
+  pub cause : IsRefused held (asked settings) settings refusal name
+  pub line : Written old new (refused_line refusal name)
+
+-- some library failed in this call at a file that the run asks for, and the line that says so was written
+pub record FailsToRead (given : Option Settings) (before now : List ℕ) (old new : Option (List ℕ)) : Type 0 where
+  pub settings : Settings
+  pub name : List ℕ
+  pub fit : given ≡ Some settings
+  pub asked_for : IsAsked name (asked settings)
+  pub rose : SomeRose before now
+  pub line : Written old new (fault_line name)
+
+-- the run searched files that break no rule as a whole
+pub record Searches (given : Option Settings) (held : List (Option Texts)) : Type 0 where
+  pub settings : Settings
+  pub fit : given ≡ Some settings
+  pub searched : IsSearched held (asked settings) settings
+
+-- a part from the front of an answer was written that the words and the libraries allow
+pub record FailsToWrite (given : Option Settings) (held : List (Option Texts)) (before now : List ℕ) (old new : Option (List ℕ)) : Type 0 where
+  pub answer : Answer
+  pub allowed : Allows given held before now answer
+  pub front : Begun old new (text_of answer)
+
+-- the statuses of the table
+abbrev pub IsStatus : ℕ → Type 0
+IsStatus status = (status ≡ 2) ⊎ (status ≡ 3) ⊎ (status ≡ 4) ⊎ (status ≡ 5) ⊎ (status ≡ 6) ⊎ (status ≡ 10) ⊎ (status ≡ 20)

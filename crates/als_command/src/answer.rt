@@ -1,0 +1,84 @@
+// What the program has to say, with its status and its text.
+ghost use Rattle.std.specs.Prelude.{◌≡◌, IfOk, string_bytes};
+ghost use Rattle.als_command.specs.Answer.{text_of, status_of, fault_line, refused_line, numbered_line};
+
+use alloy_base::{Bytes, Name, Place, Refusal};
+use std::alloc::{AllocError, Global};
+
+/// What the program has to say.
+#[derive(Drop)]
+pub enum Answer {
+    /// The words give no settings that fit.
+    Usage,
+    /// The text of this name breaks a static rule.
+    Refused(Refusal, Name),
+    /// A library failed at this name.
+    ReadFault(Name),
+    /// There is a trace; the text shows it.
+    Trace(Bytes),
+    /// There is no trace; the text says so.
+    Absent(Bytes),
+}
+
+impl Answer {
+    /// The status that the program ends with once this is written.
+    pub fn status(&self) -> u8
+        ensures { result ≡ status_of self.now }
+    {
+        match self {
+            Answer::Usage => 2,
+            Answer::Refused(_, _) => 3,
+            Answer::ReadFault(_) => 4,
+            Answer::Trace(_) => 10,
+            Answer::Absent(_) => 20,
+        }
+    }
+
+    /// The text; each of its lines is ended by a line feed.
+    pub fn text(&self, alloc: Global) -> Result<Bytes, AllocError>
+        ensures { IfOk result (λ text. text ≡ text_of self.now) }
+    {
+        match self {
+            Answer::Usage => Bytes::copy(
+                alloc,
+                b"usage: alloyc MODE FILE [SECOND] [--command N] [--conflicts N] [--part PART] [--chooser N] [--expr E] [--at N]\n",
+            ),
+            Answer::Refused(refusal, name) => refused(alloc, refusal, name.text()),
+            Answer::ReadFault(name) => fault(alloc, name.text()),
+            Answer::Trace(text) => Bytes::copy(alloc, text.bytes()),
+            Answer::Absent(text) => Bytes::copy(alloc, text.bytes()),
+        }
+    }
+}
+
+/// The line of a library's fault.
+fn fault(alloc: Global, name: &str) -> Result<Bytes, AllocError>
+    ensures { IfOk result (λ text. text ≡ fault_line name.now) }
+{
+    let line = format!(in alloc; "fault read {name}\n")?;
+    Bytes::copy(alloc, line.as_bytes())
+}
+
+/// The line of a refusal.
+fn refused(alloc: Global, refusal: &Refusal, name: &str) -> Result<Bytes, AllocError>
+    ensures { IfOk result (λ text. text ≡ refused_line refusal.now name.now) }
+{
+    let number = refusal.rule.number();
+    let line = numbered(alloc, number / 10, number % 10, name, refusal.place)?;
+    Bytes::copy(alloc, line.as_bytes())
+}
+
+/// The same, with the two digits of the rule's number.
+fn numbered(
+    alloc: Global,
+    tens: u8,
+    ones: u8,
+    name: &str,
+    place: Place,
+) -> Result<String, AllocError>
+    ensures { IfOk result (λ text. string_bytes text ≡ numbered_line tens ones name.now place) }
+{
+    let line = place.line;
+    let column = place.column;
+    format!(in alloc; "refused S{tens}{ones} {name}:{line}:{column}\n")
+}

@@ -1,0 +1,83 @@
+// The top call.
+ghost use Rattle.std.specs.Prelude.{◌≡◌, ◌≢◌, ◌⊎◌, ℕ, List, map, string_bytes, vec_len, Some, None};
+ghost use Rattle.alloy_base.specs.Causes.{NoneFell, Rose};
+ghost use Rattle.alloy_base.specs.Texts.{Texts};
+ghost use Rattle.alloy_base.specs.declared.place.Rule.{Rule};
+ghost use Rattle.command_words.specs.Settings.{fitting};
+ghost use Rattle.command_words.specs.declared.settings.Settings.{Settings};
+ghost use Rattle.als_command.specs.Answer.{usage_line};
+ghost use Rattle.als_command.specs.Files.{asked, first_broken};
+ghost use Rattle.als_command.specs.Run.{Justified, Written, Refuses, FailsToRead, FailsToWrite, Searches, IsStatus};
+
+use crate::Answer;
+use crate::deliver::finish;
+use crate::shelves::Shelves;
+use crate::work::answer;
+use alloy_base::{Library, Sink};
+use chooser_box::Chooser;
+use std::alloc::{AllocError, Global};
+use std::mem;
+
+/// Does what the words ask for, writes the answer to the sink by one call, and gives the status.
+///
+/// The words are those of the command line, the program's name first. A name has the text that the first library of the list
+/// with that name has. A mode that searches is directed by the chooser of the number that the words name.
+pub fn run_words<S: Sink>(
+    alloc: Global,
+    words: &[String],
+    libraries: &mut Vec<Box<dyn Library>>,
+    choosers: Vec<Box<dyn Chooser>>,
+    out: &mut S,
+) -> u8
+    // The list keeps its libraries, and they hold what they held.
+    ensures keeps { map holds libraries.new.items ≡ map holds libraries.old.items }
+    ensures later { NoneFell (map faults libraries.old.items) (map faults libraries.new.items) }
+
+    // 2: the words give no settings that fit, and the usage line was written.
+    ensures usage { result ≡ 2 → (fitting (vec_len choosers) (map string_bytes words.now) ≡ None) × Written (S.got out.old) (S.got out.new) usage_line }
+    ensures usage_always { fitting (vec_len choosers) (map string_bytes words.now) ≡ None → (result ≡ 2) ⊎ (result ≡ 5) ⊎ (result ≡ 6) }
+
+    // 3: a text breaks a rule, and its line was written. Where a file is absent or too large, it is the line of the first.
+    ensures refused { result ≡ 3 → Refuses (fitting (vec_len choosers) (map string_bytes words.now)) (map holds libraries.old.items) (S.got out.old) (S.got out.new) }
+    ensures refused_always { (settings : Settings) (told : List Texts) (broken : Rule × List ℕ) → fitting (vec_len choosers) (map string_bytes words.now) ≡ Some settings → map holds libraries.old.items ≡ map Some told → first_broken told (asked settings) ≡ Some broken → (result ≡ 3) ⊎ (result ≡ 4) ⊎ (result ≡ 5) ⊎ (result ≡ 6) }
+
+    // 4: a library failed in this call, and the line says at which file.
+    ensures read_fault { result ≡ 4 → FailsToRead (fitting (vec_len choosers) (map string_bytes words.now)) (map faults libraries.old.items) (map faults libraries.new.items) (S.got out.old) (S.got out.new) }
+    ensures read_fault_always { map faults libraries.new.items ≢ map faults libraries.old.items → (result ≡ 4) ⊎ (result ≡ 5) ⊎ (result ≡ 6) }
+
+    // 10 and 20: the words ask for a search, and no file breaks a rule as a whole.
+    ensures trace { result ≡ 10 → Searches (fitting (vec_len choosers) (map string_bytes words.now)) (map holds libraries.old.items) }
+    ensures absent { result ≡ 20 → Searches (fitting (vec_len choosers) (map string_bytes words.now)) (map holds libraries.old.items) }
+
+    // 5: there was no memory, and nothing was written.
+    ensures memory { result ≡ 5 → S.got out.new ≡ S.got out.old }
+
+    // 6: the sink failed in this call, and has got a part from the front of an answer that the other clauses allow.
+    ensures write_fault { result ≡ 6 → Rose (S.write_faults out.old) (S.write_faults out.new) × FailsToWrite (fitting (vec_len choosers) (map string_bytes words.now)) (map holds libraries.old.items) (map faults libraries.old.items) (map faults libraries.new.items) (S.got out.old) (S.got out.new) }
+    ensures write_fault_always { S.write_faults out.new ≢ S.write_faults out.old → result ≡ 6 }
+
+    // There is no other status.
+    ensures status { IsStatus result }
+{
+    let answered = answer_from_boxes(alloc, words, choosers.len(), libraries);
+    finish(alloc, answered, out)
+}
+
+/// The answer to these words from boxed libraries.
+fn answer_from_boxes(
+    alloc: Global,
+    words: &[String],
+    choosers: usize,
+    libraries: &mut Vec<Box<dyn Library>>,
+) -> Result<Answer, AllocError>
+    ensures keeps { map holds libraries.new.items ≡ map holds libraries.old.items }
+    ensures later { NoneFell (map faults libraries.old.items) (map faults libraries.new.items) }
+    ensures allowed { Justified (fitting choosers (map string_bytes words.now)) (map holds libraries.old.items) (map faults libraries.old.items) (map faults libraries.new.items) result }
+{
+    let mut shelves = Shelves {
+        list: mem::replace(libraries, Vec::new(alloc)),
+    };
+    let answered = answer(alloc, words, choosers, &mut shelves);
+    *libraries = shelves.list;
+    answered
+}

@@ -1,0 +1,246 @@
+// Worked runs: words, files, and the status and bytes that a user sees. The expected texts are written out here.
+use super::*;
+use alloy_base::{Library, MemoryLibrary, MemorySink};
+use chooser_box::{Activity, Chooser, FirstFree};
+use std::alloc::{AllocError, Global};
+use std::test::Fail;
+use util_library::EmbeddedLibrary;
+
+const USAGE: &str =
+    "usage: alloyc MODE FILE [SECOND] [--command N] [--conflicts N] [--part PART] [--chooser N] [--expr E] [--at N]\n";
+
+const SOME: &str = "sig A {}\nrun { some A } for 1\n";
+
+const TRACE: &str = "trace states 1 loop 0\nstate 0\nA = A$0\nend\n";
+
+/// The files of a run, the calls of the library and of the sink that fail, and the sink's room.
+#[derive(Drop)]
+struct Setting<'a> {
+    files: &'a [(&'a str, &'a str)],
+    failing_reads: &'a [u64],
+    failing_writes: &'a [u64],
+    room: usize,
+}
+
+/// A run with nothing that fails.
+fn plain<'a>(files: &'a [(&'a str, &'a str)]) -> Setting<'a> {
+    Setting {
+        files,
+        failing_reads: &[],
+        failing_writes: &[],
+        room: 500,
+    }
+}
+
+fn words(alloc: Global, line: &str) -> Result<Vec<String>, AllocError> {
+    let mut words = Vec::new(alloc);
+    for word in line.split(' ') {
+        words.push(String::from_str(alloc, word)?)?;
+    }
+    Ok(words)
+}
+
+fn libraries(alloc: Global, setting: &Setting) -> Result<Vec<Box<dyn Library>>, AllocError> {
+    let mut files = Vec::new(alloc);
+    for (name, text) in setting.files {
+        files.push((
+            String::from_str(alloc, name)?,
+            text.as_bytes().to_vec(alloc)?,
+        ))?;
+    }
+    let memory = MemoryLibrary::new(files, setting.failing_reads.to_vec(alloc)?);
+    let mut libraries: Vec<Box<dyn Library>> = Vec::new(alloc);
+    libraries.push(Box::new(alloc, memory)?)?;
+    libraries.push(Box::new(alloc, EmbeddedLibrary::new())?)?;
+    Ok(libraries)
+}
+
+fn choosers(alloc: Global) -> Result<Vec<Box<dyn Chooser>>, AllocError> {
+    let mut choosers: Vec<Box<dyn Chooser>> = Vec::new(alloc);
+    choosers.push(Box::new(alloc, Activity::new(alloc))?)?;
+    choosers.push(Box::new(alloc, FirstFree::new())?)?;
+    Ok(choosers)
+}
+
+/// Runs the words, and tells the status and the sink.
+fn outcome(alloc: Global, line: &str, setting: &Setting) -> Result<(u8, MemorySink), AllocError> {
+    let mut libraries = libraries(alloc, setting)?;
+    let failing = setting.failing_writes.to_vec(alloc)?;
+    let mut out = MemorySink::new(alloc, setting.room, failing)?;
+    let words = words(alloc, line)?;
+    let status = run_words(alloc, &words, &mut libraries, choosers(alloc)?, &mut out);
+    Ok((status, out))
+}
+
+/// Whether the words give this status and these bytes.
+fn gives(
+    alloc: Global,
+    line: &str,
+    setting: &Setting,
+    status: u8,
+    bytes: &str,
+) -> Result<bool, AllocError> {
+    let (was, out) = outcome(alloc, line, setting)?;
+    Ok(was == status && out.got() == bytes.as_bytes())
+}
+
+#[test]
+fn small_models(rt: HostRuntime) -> Result<(), Fail> {
+    let alloc = rt.alloc();
+    let empty = "trace states 1 loop 0\nstate 0\nA =\nend\n";
+    let both = "trace states 1 loop 0\nstate 0\nA = A$0\nB =\nend\n";
+    let unbuilt = "refused S00 m.als:1:1\n";
+    let rows = [
+        (SOME, 10, TRACE),
+        ("sig A {}\nrun { no A } for 0\n", 10, empty),
+        ("sig A {}\nrun { some A } for 0\n", 20, "none states 1\n"),
+        (
+            "sig A {} sig B{}run{not no A and not some B some A}",
+            10,
+            both,
+        ),
+        (
+            "sig A {}\nrun { some A and not some A }\n",
+            20,
+            "none states 1\n",
+        ),
+        ("sig A {}\nrun { some A and }\n", 3, unbuilt),
+        ("sig A {}\nrun { some B }\n", 3, unbuilt),
+        ("sig A {}\nsig A {}\nrun {}\n", 3, unbuilt),
+        ("sig set {}\nrun {}\n", 3, unbuilt),
+        ("run {} for 9\n", 3, unbuilt),
+        ("sig A {}\n", 3, unbuilt),
+        ("", 3, unbuilt),
+    ];
+    for (text, status, bytes) in rows {
+        let files = [("m.als", text)];
+        let right = gives(alloc, "alloyc exec m.als", &plain(&files), status, bytes)?;
+        assert!(rt; right, "{text}");
+    }
+    Ok(())
+}
+
+#[test]
+fn words_that_do_not_fit(rt: HostRuntime) -> Result<(), Fail> {
+    let alloc = rt.alloc();
+    let files = [("m.als", SOME)];
+    for line in [
+        "alloyc exec",
+        "alloyc make 16",
+        "alloyc exec m.als --chooser 2",
+        "alloyc exec m.als --part all --part all",
+        "alloyc exec m.als --command -1",
+        "alloyc find m.als",
+    ] {
+        assert!(rt; gives(alloc, line, &plain(&files), 2, USAGE)?, "{line}");
+    }
+    Ok(())
+}
+
+#[test]
+fn files_that_are_refused(rt: HostRuntime) -> Result<(), Fail> {
+    let alloc = rt.alloc();
+    let files = [("m.als", SOME), ("f.cnf", "p cnf 0 0\n")];
+    for (line, bytes) in [
+        ("alloyc exec n.als", "refused S20 n.als:1:1\n"),
+        ("alloyc commands n.als", "refused S20 n.als:1:1\n"),
+        ("alloyc lrat n.cnf p.lrat", "refused S20 n.cnf:1:1\n"),
+        ("alloyc lrat f.cnf p.lrat", "refused S20 p.lrat:1:1\n"),
+        ("alloyc least m.als", "refused S00 m.als:1:1\n"),
+        ("alloyc make 3", "refused S00 3:1:1\n"),
+        (
+            "alloyc exec util/integer.als",
+            "refused S00 util/integer.als:1:1\n",
+        ),
+    ] {
+        assert!(rt; gives(alloc, line, &plain(&files), 3, bytes)?, "{line}");
+    }
+    Ok(())
+}
+
+#[test]
+fn a_text_that_is_too_large(rt: HostRuntime) -> Result<(), Fail> {
+    let alloc = rt.alloc();
+    let mut text = String::from_str(alloc, " ")?;
+    for _ in 0..20 {
+        let half = String::from_str(alloc, text.as_str())?;
+        text.push_str(half.as_str())?;
+    }
+    text.push_str(" ")?;
+    assert_eq!(rt; text.len(), 1_048_577);
+    let files = [("m.als", text.as_str())];
+    let large = "refused S04 m.als:1:1\n";
+    assert!(rt; gives(alloc, "alloyc exec m.als", &plain(&files), 3, large)?);
+    Ok(())
+}
+
+#[test]
+fn failing_reads(rt: HostRuntime) -> Result<(), Fail> {
+    let alloc = rt.alloc();
+    let files = [("m.als", SOME), ("f.cnf", "")];
+    let first = Setting {
+        failing_reads: &[1],
+        ..plain(&files)
+    };
+    let right = gives(alloc, "alloyc exec m.als", &first, 4, "fault read m.als\n")?;
+    assert!(rt; right);
+    let second = Setting {
+        failing_reads: &[2],
+        ..plain(&files)
+    };
+    let right = gives(
+        alloc,
+        "alloyc lrat f.cnf p.lrat",
+        &second,
+        4,
+        "fault read p.lrat\n",
+    )?;
+    assert!(rt; right);
+    Ok(())
+}
+
+#[test]
+fn failing_writes(rt: HostRuntime) -> Result<(), Fail> {
+    let alloc = rt.alloc();
+    let files = [("m.als", SOME)];
+    let first = Setting {
+        failing_writes: &[1],
+        ..plain(&files)
+    };
+    let half = "trace states 1 loop 0";
+    assert!(rt; gives(alloc, "alloyc exec m.als", &first, 6, half)?);
+    let narrow = Setting {
+        room: 10,
+        ..plain(&files)
+    };
+    assert!(rt; gives(alloc, "alloyc exec m.als", &narrow, 6, "trace stat")?);
+    let none = Setting {
+        room: 0,
+        ..plain(&files)
+    };
+    assert!(rt; gives(alloc, "alloyc exec m.als", &none, 6, "")?);
+    // There is one call, so that the second never fails.
+    let second = Setting {
+        failing_writes: &[2],
+        ..plain(&files)
+    };
+    assert!(rt; gives(alloc, "alloyc exec m.als", &second, 10, TRACE)?);
+    assert!(rt; gives(alloc, "alloyc exec", &second, 2, USAGE)?);
+    Ok(())
+}
+
+#[test]
+fn a_text_that_is_no_utf8(rt: HostRuntime) -> Result<(), Fail> {
+    let alloc = rt.alloc();
+    let mut files = Vec::new(alloc);
+    let text = vec![in alloc; 255]?;
+    files.push((String::from_str(alloc, "m.als")?, text))?;
+    let mut libraries: Vec<Box<dyn Library>> = Vec::new(alloc);
+    libraries.push(Box::new(alloc, MemoryLibrary::new(files, Vec::new(alloc)))?)?;
+    let mut out = MemorySink::new(alloc, 100, Vec::new(alloc))?;
+    let words = words(alloc, "alloyc exec m.als")?;
+    let status = run_words(alloc, &words, &mut libraries, choosers(alloc)?, &mut out);
+    assert_eq!(rt; status, 3);
+    assert_eq!(rt; out.got(), b"refused S00 m.als:1:1\n".as_slice());
+    Ok(())
+}

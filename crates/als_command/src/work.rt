@@ -1,0 +1,187 @@
+// The answer to the words: the work of each mode.
+ghost use Rattle.std.specs.Prelude.{◌≡◌, Ok, IfOk, map, string_bytes};
+ghost use Rattle.alloy_base.specs.Causes.{NoneFell};
+ghost use Rattle.command_words.specs.Settings.{fitting};
+ghost use Rattle.als_command.specs.Files.{asked, at_start, second_asked};
+ghost use Rattle.als_command.specs.Run.{Justified, AllowsFiles, AllowsRun, IsOnTexts};
+ghost use Rattle.std.specs.Prelude.{◌∷◌, []};
+ghost use Rattle.command_words.specs.declared.named.Mode.TheVariants.{Exec, Lrat};
+
+use crate::Answer;
+use crate::files::{File, at_start, whole_file};
+use crate::small::{Decision, decide};
+use alloy_base::limits::{FILE_BYTES, MODULE_BYTES};
+use alloy_base::{Libraries, Name, Rule};
+use command_words::{Mode, Settings, fits, settings_of_words};
+use std::alloc::{AllocError, Global};
+
+/// The answer to these words, where there are so many choosers.
+pub fn answer<L: Libraries>(
+    alloc: Global,
+    words: &[String],
+    choosers: usize,
+    libraries: &mut L,
+) -> Result<Answer, AllocError>
+    ensures keeps { L.told libraries.new ≡ L.told libraries.old }
+    ensures later { NoneFell (L.counts libraries.old) (L.counts libraries.new) }
+    ensures allowed { Justified (fitting choosers (map string_bytes words.now)) (L.told libraries.old) (L.counts libraries.old) (L.counts libraries.new) result }
+{
+    match fitting_settings(alloc, words, choosers)? {
+        None => Ok(Answer::Usage),
+        Some(settings) => work(alloc, &settings, libraries),
+    }
+}
+
+/// The settings that the words give, where they fit.
+fn fitting_settings(
+    alloc: Global,
+    words: &[String],
+    choosers: usize,
+) -> Result<Option<Settings>, AllocError>
+    ensures { (settings : _) → result ≡ Ok settings → settings ≡ fitting choosers (map string_bytes words.now) }
+{
+    match settings_of_words(alloc, words)? {
+        Some(settings) => {
+            if fits(&settings, choosers) {
+                Ok(Some(settings))
+            } else {
+                Ok(None)
+            }
+        }
+        None => Ok(None),
+    }
+}
+
+/// The answer of a run with these settings.
+fn work<L: Libraries>(
+    alloc: Global,
+    settings: &Settings,
+    libraries: &mut L,
+) -> Result<Answer, AllocError>
+    ensures keeps { L.told libraries.new ≡ L.told libraries.old }
+    ensures later { NoneFell (L.counts libraries.old) (L.counts libraries.new) }
+    ensures allowed { (answer : _) → result ≡ Ok answer → AllowsRun settings.now (L.told libraries.old) (L.counts libraries.old) (L.counts libraries.new) answer }
+{
+    match settings.mode {
+        Mode::Make => unbuilt(alloc, settings),
+        Mode::Lrat => refutation(alloc, settings, libraries),
+        _ => model(alloc, settings, libraries),
+    }
+}
+
+/// The answer of a run on one model.
+fn model<L: Libraries>(
+    alloc: Global,
+    settings: &Settings,
+    libraries: &mut L,
+) -> Result<Answer, AllocError>
+    requires { asked settings.now ≡ (settings.now.file, MODULE_BYTES) ∷ [] }
+    ensures keeps { L.told libraries.new ≡ L.told libraries.old }
+    ensures later { NoneFell (L.counts libraries.old) (L.counts libraries.new) }
+    ensures allowed { (answer : _) → result ≡ Ok answer → AllowsRun settings.now (L.told libraries.old) (L.counts libraries.old) (L.counts libraries.new) answer }
+{
+    let name = settings.file.text();
+    match whole_file(alloc, libraries, name, MODULE_BYTES)? {
+        File::Whole(text) => on_model(alloc, settings, &text),
+        File::Broken(rule) => refused(alloc, rule, name),
+        File::Failed => read_fault(alloc, name),
+    }
+}
+
+/// The answer of a run on the text of a model.
+fn on_model(alloc: Global, settings: &Settings, text: &[u8]) -> Result<Answer, AllocError>
+    ensures { IfOk result (λ answer. IsOnTexts settings.now answer) }
+{
+    match settings.mode {
+        Mode::Exec => search(alloc, settings, text),
+        _ => unbuilt(alloc, settings),
+    }
+}
+
+/// The answer of a search on the text of a model.
+fn search(alloc: Global, settings: &Settings, text: &[u8]) -> Result<Answer, AllocError>
+    requires { settings.now.mode ≡ Exec }
+    ensures { IfOk result (λ answer. IsOnTexts settings.now answer) }
+{
+    match decide(alloc, text)? {
+        Decision::Trace(text) => Ok(Answer::Trace(text)),
+        Decision::Absent(text) => Ok(Answer::Absent(text)),
+        Decision::NotSmall => unbuilt(alloc, settings),
+    }
+}
+
+/// The answer of a run on clauses and a proof.
+fn refutation<L: Libraries>(
+    alloc: Global,
+    settings: &Settings,
+    libraries: &mut L,
+) -> Result<Answer, AllocError>
+    requires { settings.now.mode ≡ Lrat }
+    ensures keeps { L.told libraries.new ≡ L.told libraries.old }
+    ensures later { NoneFell (L.counts libraries.old) (L.counts libraries.new) }
+    ensures allowed { (answer : _) → result ≡ Ok answer → AllowsRun settings.now (L.told libraries.old) (L.counts libraries.old) (L.counts libraries.new) answer }
+{
+    let name = settings.file.text();
+    match whole_file(alloc, libraries, name, FILE_BYTES)? {
+        File::Whole(clauses) => proof(alloc, settings, &clauses, libraries),
+        File::Broken(rule) => refused(alloc, rule, name),
+        File::Failed => read_fault(alloc, name),
+    }
+}
+
+/// The answer once the clauses are there.
+fn proof<L: Libraries>(
+    alloc: Global,
+    settings: &Settings,
+    clauses: &[u8],
+    libraries: &mut L,
+) -> Result<Answer, AllocError>
+    ensures keeps { L.told libraries.new ≡ L.told libraries.old }
+    ensures later { NoneFell (L.counts libraries.old) (L.counts libraries.new) }
+    ensures allowed { (answer : _) → result ≡ Ok answer → AllowsFiles (second_asked settings.now.second) settings.now (L.told libraries.old) (L.counts libraries.old) (L.counts libraries.new) answer }
+{
+    match &settings.second {
+        None => unbuilt(alloc, settings),
+        Some(second) => {
+            let name = second.text();
+            match whole_file(alloc, libraries, name, FILE_BYTES)? {
+                File::Whole(lines) => on_proof(alloc, settings, clauses, &lines),
+                File::Broken(rule) => refused(alloc, rule, name),
+                File::Failed => read_fault(alloc, name),
+            }
+        }
+    }
+}
+
+/// The answer on clauses and a proof.
+fn on_proof(
+    alloc: Global,
+    settings: &Settings,
+    _clauses: &[u8],
+    _lines: &[u8],
+) -> Result<Answer, AllocError>
+    ensures { IfOk result (λ answer. IsOnTexts settings.now answer) }
+{
+    unbuilt(alloc, settings)
+}
+
+/// What is asked for isn't built yet.
+fn unbuilt(alloc: Global, settings: &Settings) -> Result<Answer, AllocError>
+    ensures { IfOk result (λ answer. answer ≡ Answer.Refused (at_start Rule.NotBuilt) settings.now.file) }
+{
+    refused(alloc, Rule::NotBuilt, settings.file.text())
+}
+
+/// The text of this name breaks a rule as a whole.
+fn refused(alloc: Global, rule: Rule, name: &str) -> Result<Answer, AllocError>
+    ensures { IfOk result (λ answer. answer ≡ Answer.Refused (at_start rule) name.now) }
+{
+    Ok(Answer::Refused(at_start(rule), Name::copy(alloc, name)?))
+}
+
+/// A library failed at this name.
+fn read_fault(alloc: Global, name: &str) -> Result<Answer, AllocError>
+    ensures { IfOk result (λ answer. answer ≡ Answer.ReadFault name.now) }
+{
+    Ok(Answer::ReadFault(Name::copy(alloc, name)?))
+}

@@ -1,0 +1,5 @@
+pub mod Given
+pub mod Line
+pub mod Named
+pub mod Numbers
+pub mod Settings
