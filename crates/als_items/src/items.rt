@@ -1,4 +1,5 @@
-ghost use Rattle.std.specs.Prelude.{◌≡◌, [], ◌∷◌, ◌++◌, ◌<◌, length, slice_get, ◌↔◌, IsTrue, OnOk, OnErr, Some};
+ghost use Rattle.std.specs.Prelude.{◌≡◌, [], ◌∷◌, ◌++◌, ◌<◌, length, slice_get, ◌↔◌, IsTrue, IfOk, OnOk, OnErr, Some};
+ghost use Rattle.std.specs.List.{cons_option};
 
 use std::alloc::{AllocError, Global};
 use std::marker::Model;
@@ -61,7 +62,45 @@ impl<T> Items<T> {
     }
 }
 
+impl<T> Items<T> {
+    /// The values of a vector.
+    pub fn from_vec(items: Vec<T>) -> Items<T>
+        ensures { result ≡ items.items }
+    {
+        Items { items }
+    }
+}
+
+impl<T: Copy> Items<T> {
+    /// A copy of the values of a slice.
+    pub fn from_slice(alloc: Global, items: &[T]) -> Result<Items<T>, AllocError>
+        ensures { IfOk result (λ it. it ≡ items.now) }
+    {
+        let items = Vec::from_slice(alloc, items)?;
+        Ok(Items { items })
+    }
+}
+
 impl<T: Drop> Items<T> {
+    /// Moves the values of another list behind those of this one. Where there is no memory for
+    /// them, the other list is gone.
+    pub fn append(&mut self, more: Items<T>) -> Result<(), AllocError>
+        ensures { OnOk result (self.new ≡ self.old ++ more) }
+    {
+        let Items { mut items } = more;
+        self.items.append(&mut items)
+    }
+
+    /// Puts a value at the end, where there is one.
+    pub fn push_some(&mut self, item: Option<T>) -> Result<(), AllocError>
+        ensures { OnOk result (self.new ≡ self.old ++ cons_option item []) }
+    {
+        match item {
+            Some(item) => self.push(item),
+            None => Ok(()),
+        }
+    }
+
     /// Puts a value at the end. Where there is no memory for it, the list stays as it was.
     pub fn push(&mut self, item: T) -> Result<(), AllocError>
         ensures ok { OnOk result (self.new ≡ self.old ++ item ∷ []) }
