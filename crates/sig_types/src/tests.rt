@@ -1,5 +1,7 @@
 // Two top-level sigs, 0 and 2, and a child 1 of the first.
 
+ghost use Rattle.std.specs.Prelude.{◌≡◌, IfOk};
+
 use crate::{Columns, Member};
 use als_items::Items;
 use std::alloc::{AllocError, Global};
@@ -17,7 +19,9 @@ fn lines(alloc: Global) -> Result<Items<Items<u32>>, AllocError> {
     Ok(all)
 }
 
-fn type_of(alloc: Global, count: u32, rows: &[&[u32]]) -> Result<Columns, AllocError> {
+fn type_of(alloc: Global, count: u32, rows: &[&[u32]]) -> Result<Columns, AllocError>
+    ensures { IfOk result (λ c. c.count ≡ count) }
+{
     let mut all = Items::new(alloc);
     for sigs in rows {
         let mut row = Items::new(alloc);
@@ -51,48 +55,72 @@ fn is(found: &Columns, count: u32, rows: &[&[u32]]) -> bool {
     true
 }
 
+fn field(alloc: Global) -> Result<Columns, AllocError>
+    ensures { IfOk result (λ c. c.count ≡ 2) }
+{
+    type_of(alloc, 2, &[&[0, 2], &[2, 1]])
+}
+
+fn both(alloc: Global) -> Result<Columns, AllocError>
+    ensures { IfOk result (λ c. c.count ≡ 1) }
+{
+    type_of(alloc, 1, &[&[1], &[2]])
+}
+
 #[test]
-fn operators_between_types(rt: HostRuntime) -> Result<(), Fail> {
+fn union_and_copy(rt: HostRuntime) -> Result<(), Fail> {
     let alloc = rt.alloc();
-    let lines = lines(alloc)?;
-    let a = type_of(alloc, 1, &[&[0]])?;
-    let both = type_of(alloc, 1, &[&[1], &[2]])?;
-    let field = type_of(alloc, 2, &[&[0, 2], &[2, 0]])?;
-    assert!(rt; is(&a.union(alloc, &both)?, 1, &[&[0], &[1], &[2]]));
-    assert!(rt; is(&a.product(alloc, &lines, &both)?, 2, &[&[0, 1], &[0, 2]]));
-    assert!(rt; is(&both.join(alloc, &lines, &field)?, 1, &[&[2], &[0]]));
-    assert!(rt; is(&a.meets(alloc, &lines, &both)?, 1, &[&[1]]));
-    assert!(rt;
-        is(
-            &both.restrict_left(alloc, &lines, &field)?,
-            2,
-            &[&[1, 2], &[2, 0]]
-        )
-    );
-    assert!(rt;
-        is(
-            &field.restrict_right(alloc, &lines, &both)?,
-            2,
-            &[&[0, 2], &[2, 1]]
-        )
-    );
+    let all = type_of(alloc, 1, &[&[0]])?.union(alloc, &both(alloc)?)?;
+    assert!(rt; is(&all.copy(alloc)?, 1, &[&[0], &[1], &[2]]));
     Ok(())
 }
 
 #[test]
-fn operators_on_one_type(rt: HostRuntime) -> Result<(), Fail> {
+fn product(rt: HostRuntime) -> Result<(), Fail> {
     let alloc = rt.alloc();
-    let lines = lines(alloc)?;
-    let field = type_of(alloc, 2, &[&[0, 2], &[2, 1], &[0, 2]])?;
-    assert!(rt; is(&field.copy(alloc)?, 2, &[&[0, 2], &[2, 1], &[0, 2]]));
-    assert!(rt; is(&field.distinct(alloc)?, 2, &[&[0, 2], &[2, 1]]));
-    assert!(rt; is(&field.transpose(alloc)?, 2, &[&[2, 0], &[1, 2], &[2, 0]]));
-    assert!(rt;
-        is(
-            &field.closure(alloc, &lines)?,
-            2,
-            &[&[0, 2], &[2, 1], &[0, 1], &[2, 2]]
-        )
-    );
+    let pairs = type_of(alloc, 1, &[&[0]])?.product(alloc, &lines(alloc)?, &both(alloc)?)?;
+    assert!(rt; is(&pairs, 2, &[&[0, 1], &[0, 2]]));
+    Ok(())
+}
+
+#[test]
+fn join(rt: HostRuntime) -> Result<(), Fail> {
+    let alloc = rt.alloc();
+    let all = both(alloc)?.join(alloc, &lines(alloc)?, &field(alloc)?)?;
+    assert!(rt; is(&all, 1, &[&[2], &[1]]));
+    Ok(())
+}
+
+#[test]
+fn meets(rt: HostRuntime) -> Result<(), Fail> {
+    let alloc = rt.alloc();
+    let all = type_of(alloc, 1, &[&[0]])?.meets(alloc, &lines(alloc)?, &both(alloc)?)?;
+    assert!(rt; is(&all, 1, &[&[1]]));
+    Ok(())
+}
+
+#[test]
+fn restrictions(rt: HostRuntime) -> Result<(), Fail> {
+    let alloc = rt.alloc();
+    let left = both(alloc)?.restrict_left(alloc, &lines(alloc)?, &field(alloc)?)?;
+    assert!(rt; is(&left, 2, &[&[1, 2], &[2, 1]]));
+    let right = field(alloc)?.restrict_right(alloc, &lines(alloc)?, &both(alloc)?)?;
+    assert!(rt; is(&right, 2, &[&[0, 2], &[2, 1]]));
+    Ok(())
+}
+
+#[test]
+fn transpose_and_repeats(rt: HostRuntime) -> Result<(), Fail> {
+    let alloc = rt.alloc();
+    let twice = field(alloc)?.union(alloc, &field(alloc)?)?.distinct(alloc)?;
+    assert!(rt; is(&twice.transpose(alloc)?, 2, &[&[2, 0], &[1, 2]]));
+    Ok(())
+}
+
+#[test]
+fn closure(rt: HostRuntime) -> Result<(), Fail> {
+    let alloc = rt.alloc();
+    let all = field(alloc)?.closure(alloc, &lines(alloc)?)?;
+    assert!(rt; is(&all, 2, &[&[0, 2], &[2, 1], &[0, 1], &[2, 2]]));
     Ok(())
 }
