@@ -1,0 +1,8 @@
+pub mod Order
+pub mod IndexLaw
+pub mod Same
+pub mod MergeLaw
+pub mod RangeLaw
+pub mod DistinctLaw
+pub mod JustLaw
+pub mod JoinLaw
