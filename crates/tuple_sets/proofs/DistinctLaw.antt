@@ -10,18 +10,11 @@ use Rattle.std.proofs.lemmas.List.Folds.{list_any-append}
 use Rattle.tuple_sets.specs.Index.{IsNumber, index_of}
 use Rattle.tuple_sets.specs.Sets.{tuple_cmp, is_same, IsTupleSet}
 use Rattle.tuple_sets.specs.Merged.{has}
-use Rattle.tuple_sets.proofs.Order.{same_tuple}
-use Rattle.tuple_sets.proofs.Same.{or_false}
-use Rattle.tuple_sets.proofs.IndexLaw.{index_order}
-use Rattle.tuple_sets.proofs.MergeLaw.{set_with, open_at, chosen, read}
-
-one_sorted : (r : List ℕ) → IsStrictlySortedBy tuple_cmp (r ∷ [])
-unfolding IsStrictlySortedBy
-one_sorted r = (tt, tt)
-
-pub none_sorted : IsStrictlySortedBy tuple_cmp []
-unfolding IsStrictlySortedBy
-none_sorted = tt
+use Rattle.tuple_sets.specs.Order.{same_tuple}
+use Rattle.tuple_sets.specs.Ordered.{or_false}
+use Rattle.tuple_sets.specs.IndexLaw.{index_order}
+use Rattle.tuple_sets.specs.Ordered.{set_with, open_at, read, one_sorted, none_sorted}
+use Rattle.tuple_sets.proofs.MergeLaw.{chosen}
 
 or_twice : (a b : Bool) → a || (a || b) ≡ a || b
 or_twice true b = refl

@@ -1,5 +1,3 @@
-pub mod Order
-pub mod IndexLaw
 pub mod Same
 pub mod MergeLaw
 pub mod RangeLaw

@@ -2,7 +2,7 @@
 use Rattle.std.proofs.Common.{◌≡◌, ℕ, ◌+◌, ◌<◌, ◌≤◌, List, [], ◌∷◌, ◌++◌, length, All, refl, sym, ap, ◌∙◌, arith, subst, append_assoc, inl, inr, Bool, true, false, ◌&&◌, ◌||◌, if◌then◌else◌, ◌⊎◌, drop, get_or, drop-cons, add-one}
 use Rattle.std.proofs.lemmas.List.{append-nil, get_or_default, drop_all}
 use Rattle.std.proofs.lemmas.Bool.{cases_lt}
-use Rattle.tuple_sets.proofs.Order.{above, same_tuple}
+use Rattle.tuple_sets.specs.Order.{above, same_tuple}
 use Rattle.std.specs.declared.cmp.Ordering.TheVariants.{Less, Equal, Greater}
 use Rattle.std.specs.List.{AllByRecursion}
 use Rattle.std.specs.List.Sorted.{IsStrictlySortedBy}
@@ -14,72 +14,7 @@ use Rattle.tuple_sets.specs.Index.{IsNumber}
 use Rattle.tuple_sets.specs.Sets.{tuple_cmp, is_same, IsTupleSet}
 use Rattle.tuple_sets.specs.Merged.{has, keeps, heads}
 use Rattle.tuple_sets.specs.declared.merge.Kept.{Kept}
-use Rattle.tuple_sets.proofs.Same.{same_exact, or_false, no_more}
-
--- the parts of a list of which something holds
-rec_without : (P : List ℕ → Type 0) (all : List (List ℕ)) (x : List ℕ) (xs : List (List ℕ)) → AllByRecursion P (all ++ x ∷ xs) → AllByRecursion P (all ++ xs)
-rec_without P [] x xs h = h.1
-rec_without P (y ∷ all) x xs h = (h.0, rec_without P all x xs h.1)
-
-rec_with : (P : List ℕ → Type 0) (all : List (List ℕ)) (x : List ℕ) (xs ys : List (List ℕ)) → AllByRecursion P (all ++ x ∷ xs) → AllByRecursion P (all ++ ys) → AllByRecursion P (all ++ x ∷ ys)
-rec_with P [] x xs ys h k = (h.0, k)
-rec_with P (y ∷ all) x xs ys h k = (h.0, rec_with P all x xs ys h.1 k.1)
-
-rec_back : (P : List ℕ → Type 0) (all xs : List (List ℕ)) → AllByRecursion P (all ++ xs) → AllByRecursion P xs
-rec_back P [] xs h = h
-rec_back P (y ∷ all) xs h = rec_back P all xs h.1
-
-rec_more : (P Q : List ℕ → Type 0) (xs : List (List ℕ)) → ((x : List ℕ) → P x → Q x) → AllByRecursion P xs → AllByRecursion Q xs
-rec_more P Q [] f h = tt
-rec_more P Q (x ∷ xs) f h = (f x h.0, rec_more P Q xs f h.1)
-
-sorted_without : (all : List (List ℕ)) (x : List ℕ) (xs : List (List ℕ)) → IsStrictlySortedBy tuple_cmp (all ++ x ∷ xs) → IsStrictlySortedBy tuple_cmp (all ++ xs)
-unfolding IsStrictlySortedBy
-sorted_without [] x xs s = s.1
-sorted_without (y ∷ all) x xs s = (rec_without (λ z. tuple_cmp y z ≡ Less) all x xs s.0, sorted_without all x xs s.1)
-
-sorted_with : (all : List (List ℕ)) (x : List ℕ) (xs ys : List (List ℕ)) → IsStrictlySortedBy tuple_cmp (all ++ x ∷ xs) → IsStrictlySortedBy tuple_cmp (all ++ ys) → AllByRecursion (λ z. tuple_cmp x z ≡ Less) ys → IsStrictlySortedBy tuple_cmp (all ++ x ∷ ys)
-unfolding IsStrictlySortedBy
-sorted_with [] x xs ys s r below = (below, r)
-sorted_with (y ∷ all) x xs ys s r below = (rec_with (λ z. tuple_cmp y z ≡ Less) all x xs ys s.0 r.0, sorted_with all x xs ys s.1 r.1 below)
-
-sorted_back : (all xs : List (List ℕ)) → IsStrictlySortedBy tuple_cmp (all ++ xs) → IsStrictlySortedBy tuple_cmp xs
-unfolding IsStrictlySortedBy
-sorted_back [] xs s = s
-sorted_back (y ∷ all) xs s = sorted_back all xs s.1
-
-head_below : (x : List ℕ) (xs : List (List ℕ)) → IsStrictlySortedBy tuple_cmp (x ∷ xs) → AllByRecursion (λ z. tuple_cmp x z ≡ Less) xs
-unfolding IsStrictlySortedBy
-head_below x xs s = s.0
-
-below_all : (x y : List ℕ) (ys : List (List ℕ)) → tuple_cmp x y ≡ Less → IsStrictlySortedBy tuple_cmp (y ∷ ys) → AllByRecursion (λ z. tuple_cmp x z ≡ Less) (y ∷ ys)
-unfolding IsStrictlySortedBy
-below_all x y ys h s = (h, rec_more (λ z. tuple_cmp y z ≡ Less) (λ z. tuple_cmp x z ≡ Less) ys (λ z e. nat_list_cmp_total.trans x y z h e) s.0)
-
-module _ (P : List ℕ → Type 0) (all : List (List ℕ)) (x : List ℕ) (xs ys : List (List ℕ)) where
-  all_without : All P (all ++ x ∷ xs) → All P (all ++ xs)
-  all_without h = All-from_recursion P (all ++ xs) (rec_without P all x xs (recursion_from_All P (all ++ x ∷ xs) h))
-
-  all_with : All P (all ++ x ∷ xs) → All P (all ++ ys) → All P (all ++ x ∷ ys)
-  all_with h k = All-from_recursion P (all ++ x ∷ ys) (rec_with P all x xs ys (recursion_from_All P (all ++ x ∷ xs) h) (recursion_from_All P (all ++ ys) k))
-
-set_without : (arity : ℕ) (all : List (List ℕ)) (x : List ℕ) (xs : List (List ℕ)) → IsTupleSet (record { arity = arity; tuples = all ++ x ∷ xs }) → IsTupleSet (record { arity = arity; tuples = all ++ xs })
-set_without arity all x xs s = record {
-  least = s.least;
-  most = s.most;
-  columns = all_without (λ t. length t ≡ arity) all x xs [] s.columns;
-  numbers = all_without (λ t. All IsNumber t) all x xs [] s.numbers;
-  sorted = sorted_without all x xs s.sorted;
-}
-
-pub set_with : (arity : ℕ) (all : List (List ℕ)) (x : List ℕ) (xs ys : List (List ℕ)) → IsTupleSet (record { arity = arity; tuples = all ++ x ∷ xs }) → IsTupleSet (record { arity = arity; tuples = all ++ ys }) → AllByRecursion (λ z. tuple_cmp x z ≡ Less) ys → IsTupleSet (record { arity = arity; tuples = all ++ x ∷ ys })
-set_with arity all x xs ys s r below = record {
-  least = s.least;
-  most = s.most;
-  columns = all_with (λ t. length t ≡ arity) all x xs ys s.columns r.columns;
-  numbers = all_with (λ t. All IsNumber t) all x xs ys s.numbers r.numbers;
-  sorted = sorted_with all x xs ys s.sorted r.sorted below;
-}
+use Rattle.tuple_sets.specs.Ordered.{same_exact, or_false, no_more, sorted_back, head_below, below_all, set_without, set_with, open_at, read}
 
 -- the tuples so far, and those of both sets that are left
 pub record Merging (arity : ℕ) (kept : Kept) (whole : List ℕ → Bool) (all xs ys : List (List ℕ)) : Type 0 where
@@ -178,12 +113,6 @@ module _ (arity : ℕ) (kept : Kept) (whole : List ℕ → Bool) (all : List (Li
             ∙ ap (λ (z : List ℕ). has all t || keeps kept (has (x ∷ xs) t) (has (z ∷ ys) t)) same
             ∙ m.truth t;
       }
-
-pub open_at : (zs : List (List ℕ)) (k : ℕ) → k < length zs → drop k zs ≡ get_or zs k [] ∷ drop (k + 1) zs
-open_at zs k lt = drop-cons zs k [] lt ∙ ap (λ n. get_or zs k [] ∷ drop n zs) (sym (add-one k))
-
-pub read : (zs : List (List ℕ)) (k : ℕ) (x : List ℕ) → k < length zs → x ≡ get_or zs k x → x ≡ get_or zs k []
-read zs k x lt is = is ∙ get_or_default zs k x [] lt
 
 -- the places of the lists
 module _ (xs ys : List (List ℕ)) (i j : ℕ) where

@@ -83,7 +83,7 @@ impl Keyed {
     }
 
     /// How the tuple compares with one that has this index.
-    pub(crate) fn against(&self, _other: &Tuple, index: u128) -> Ordering
+    pub fn against(&self, _other: &Tuple, index: u128) -> Ordering
         requires columns { length self.now ≡ length _other.now }
         requires fits { FitsIndex _other.now }
         requires index { index ≡ index_of _other.now }
@@ -94,7 +94,7 @@ impl Keyed {
 }
 
 /// The index of a tuple of these numbers.
-pub(crate) fn index_of_numbers(numbers: &[u32]) -> u128
+pub fn index_of_numbers(numbers: &[u32]) -> u128
     requires { FitsIndex numbers.now }
     ensures { result ≡ index_of numbers.now }
 {

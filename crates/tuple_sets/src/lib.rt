@@ -13,7 +13,7 @@ pub mod tuple;
 pub mod universe;
 
 pub use joins::{join, product, transpose};
-pub use keyed::Keyed;
+pub use keyed::{Keyed, index_of_numbers};
 pub use merge::{difference, intersection, union};
 pub use ops::inside;
 pub use set::TupleSet;

@@ -1,6 +1,6 @@
 use Rattle.std.proofs.Common.{◌≡◌, ◌<◌, ◌+◌, ◌*◌, arith, ap, sym, ◌∙◌, take, get_or}
 use Rattle.tuple_sets.specs.Index.{index_of}
-use Rattle.tuple_sets.proofs.IndexLaw.{prefix_small, prefix_more}
+use Rattle.tuple_sets.specs.IndexLaw.{prefix_small, prefix_more}
 use Rattle.tuple_sets.proofs.keyed.index_of_numbers.Goals as goal
 
 pub overflow_mul-index : goal.overflow_mul-index

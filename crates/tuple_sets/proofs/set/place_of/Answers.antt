@@ -4,7 +4,7 @@ use Rattle.std.proofs.lemmas.List.Elements.{at_read}
 use Rattle.tuple_sets.specs.Sets.{tuple_cmp}
 use Rattle.tuple_sets.specs.Index.{index_of}
 use Rattle.tuple_sets.proofs.JoinLaw.{all_here}
-use Rattle.tuple_sets.proofs.Order.{all_below, all_above, same_tuple}
+use Rattle.tuple_sets.specs.Order.{all_below, all_above, same_tuple}
 use Rattle.tuple_sets.proofs.set.place_of.Goals as goal
 
 pub against-requires : goal.against-requires

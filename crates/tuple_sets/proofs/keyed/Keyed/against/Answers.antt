@@ -1,7 +1,7 @@
 use Rattle.std.proofs.Common.{◌≡◌, ℕ, List, All, ap, ◌∙◌, subst}
 use Rattle.std.specs.Ordering.{nat_cmp}
 use Rattle.tuple_sets.specs.Index.{IsNumber, index_of}
-use Rattle.tuple_sets.proofs.IndexLaw.{index_order}
+use Rattle.tuple_sets.specs.IndexLaw.{index_order}
 use Rattle.tuple_sets.proofs.keyed.Keyed.against.Goals as goal
 
 pub returns : goal.returns

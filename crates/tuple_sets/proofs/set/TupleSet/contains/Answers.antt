@@ -1,6 +1,6 @@
 use Rattle.std.proofs.Common.{◌≡◌, subst, sym, ap, ◌∙◌, Contains, List, ℕ}
 use Rattle.tuple_sets.specs.Sets.{TupleList}
-use Rattle.tuple_sets.proofs.Order.{found_means}
+use Rattle.tuple_sets.specs.Order.{found_means}
 use Rattle.tuple_sets.proofs.set.TupleSet.contains.Goals as goal
 
 pub returns-then-is_row : goal.returns-then-is_row

@@ -1,5 +1,5 @@
 use Rattle.std.proofs.lemmas.List.Elements.{All-nil}
-use Rattle.tuple_sets.proofs.DistinctLaw.{none_sorted}
+use Rattle.tuple_sets.specs.Ordered.{none_sorted}
 use Rattle.tuple_sets.proofs.set.TupleSet.empty.Goals as goal
 
 pub invariant_of-result : goal.invariant_of-result

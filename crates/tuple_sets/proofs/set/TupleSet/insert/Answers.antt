@@ -1,6 +1,6 @@
 use Rattle.std.proofs.Common.{◌≡◌, ◌⊎◌, subst, sym, ap, ◌∙◌}
 use Rattle.tuple_sets.specs.Sets.{TupleList, HasJust, In, IsGap}
-use Rattle.tuple_sets.proofs.Order.{set_insert, just_insert}
+use Rattle.tuple_sets.specs.Order.{set_insert, just_insert}
 use Rattle.tuple_sets.proofs.set.TupleSet.insert.Goals as goal
 
 pub invariant_of-self : goal.invariant_of-self

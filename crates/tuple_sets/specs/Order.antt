@@ -52,14 +52,14 @@ chosen false x y z e = inr (refl, e)
 pub same_tuple : (s t : List ℕ) → tuple_cmp s t ≡ Equal → s ≡ t
 same_tuple s t e = slice_cmp-IsAntisymmetric nat_cmp-IsAntisymmetric s t e
 
-not_below_itself : (t : List ℕ) → tuple_cmp t t ≡ Less → ⊥
+pub not_below_itself : (t : List ℕ) → tuple_cmp t t ≡ Less → ⊥
 not_below_itself t e = let own = tied_itself nat_list_cmp_total t in cc
 
-not_above_itself : (t : List ℕ) → tuple_cmp t t ≡ Greater → ⊥
+pub not_above_itself : (t : List ℕ) → tuple_cmp t t ≡ Greater → ⊥
 not_above_itself t e = let own = tied_itself nat_list_cmp_total t in cc
 
 -- the order read the other way round
-below : (s t : List ℕ) → tuple_cmp t s ≡ Less → tuple_cmp s t ≡ Greater
+pub below : (s t : List ℕ) → tuple_cmp t s ≡ Less → tuple_cmp s t ≡ Greater
 below s t e = nat_list_cmp_total.antisymm s t ∙ ap ordering_reverse e
 
 pub above : (s t : List ℕ) → tuple_cmp s t ≡ Greater → tuple_cmp t s ≡ Less
@@ -88,21 +88,21 @@ not_in_gap ts t i g (k, lt, e) =
       | inr above ↦ not_above_itself t (subst (λ s. tuple_cmp s t ≡ Greater) e (g.after k t above lt))
     ]
 
-all_joined : (P : List ℕ → Type 0) (b a : List (List ℕ)) (t : List ℕ) → AllByRecursion P (b ++ a) → P t → AllByRecursion P (b ++ t ∷ a)
+pub all_joined : (P : List ℕ → Type 0) (b a : List (List ℕ)) (t : List ℕ) → AllByRecursion P (b ++ a) → P t → AllByRecursion P (b ++ t ∷ a)
 all_joined P [] a t all here = (here, all)
 all_joined P (x ∷ b) a t all here = (all.0, all_joined P b a t all.1 here)
 
-joined : (b a : List (List ℕ)) (t : List ℕ) → IsStrictlySortedBy tuple_cmp (b ++ a) → AllByRecursion (λ y. tuple_cmp y t ≡ Less) b → AllByRecursion (λ y. tuple_cmp t y ≡ Less) a → IsStrictlySortedBy tuple_cmp (b ++ t ∷ a)
+pub joined : (b a : List (List ℕ)) (t : List ℕ) → IsStrictlySortedBy tuple_cmp (b ++ a) → AllByRecursion (λ y. tuple_cmp y t ≡ Less) b → AllByRecursion (λ y. tuple_cmp t y ≡ Less) a → IsStrictlySortedBy tuple_cmp (b ++ t ∷ a)
 unfolding IsStrictlySortedBy
 joined [] a t s before after = (after, s)
 joined (x ∷ b) a t s before after = (all_joined (λ y. tuple_cmp x y ≡ Less) b a t s.0 before.0, joined b a t s.1 before.1 after)
 
-front_below : (ts : List (List ℕ)) (t : List ℕ) (i : ℕ) → IsGap ts t i → All (λ y. tuple_cmp y t ≡ Less) (take i ts)
+pub front_below : (ts : List (List ℕ)) (t : List ℕ) (i : ℕ) → IsGap ts t i → All (λ y. tuple_cmp y t ≡ Less) (take i ts)
 front_below ts t i g k d h =
     let below : k < i = omega (arith, length-take i ts, h) in
     rw get_or-take (g.before k d (omega arith) below)
 
-back_above : (ts : List (List ℕ)) (t : List ℕ) (i : ℕ) → IsGap ts t i → All (λ y. tuple_cmp t y ≡ Less) (drop i ts)
+pub back_above : (ts : List (List ℕ)) (t : List ℕ) (i : ℕ) → IsGap ts t i → All (λ y. tuple_cmp t y ≡ Less) (drop i ts)
 back_above ts t i g k d h =
     rw get_or-drop (above (get_or ts (i + k) d) t (g.after (i + k) d (omega arith) (omega (arith, length-drop i ts, h))))
 
