@@ -1,0 +1,9 @@
+pub mod Integers
+pub mod Sequence
+pub mod World
+pub mod Operators
+pub mod Meaning
+pub mod Called
+pub mod Declarations
+pub mod Kept
+pub mod Satisfied
