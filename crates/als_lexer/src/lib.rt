@@ -1,0 +1,11 @@
+//! Cuts a text into tokens.
+#![tactic(auto)]
+
+mod piece;
+mod scan;
+mod table;
+
+pub use scan::{LexFault, lex};
+
+#[cfg(test)]
+mod tests;

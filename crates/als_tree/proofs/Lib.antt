@@ -1,0 +1,4 @@
+pub mod Spells
+pub mod Depths
+pub mod Shapes
+pub mod Lists

@@ -1,0 +1,7 @@
+pub mod Words
+pub mod Spelling
+pub mod Levels
+pub mod Depth
+pub mod ModuleWords
+pub mod ModuleRules
+pub mod Instances
