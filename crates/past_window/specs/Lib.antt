@@ -1,0 +1,5 @@
+pub mod Same
+pub mod Shifts
+pub mod Window
+pub mod Fold
+pub mod Windows
