@@ -1,0 +1,3 @@
+pub mod GateEq
+pub mod Indexed
+pub mod Laws

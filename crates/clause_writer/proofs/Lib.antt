@@ -1,0 +1,4 @@
+pub mod Definitions
+pub mod Naming
+pub mod Ranges
+pub mod WrittenLaw

@@ -1,0 +1,12 @@
+//! Circuits as clauses.
+#![tactic(auto)]
+
+mod define;
+mod names;
+mod write;
+
+pub use names::{are_numbered, count_inputs};
+pub use write::write_clauses;
+
+#[cfg(test)]
+mod tests;

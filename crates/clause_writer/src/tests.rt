@@ -1,0 +1,58 @@
+use crate::{are_numbered, count_inputs, write_clauses};
+use circuit_store::CircuitStore;
+use cnf_form::{Clause, Cnf};
+use gate_trait::{Gates, NodeList};
+use std::test::Fail;
+
+/// The value of a variable, where bit v - 1 is that of v.
+fn is_set(bits: u64, variable: u64) -> bool {
+    variable > 0 && variable <= 64 && (bits >> (variable - 1)) & 1 == 1
+}
+
+fn is_true(clause: &Clause, bits: u64) -> bool {
+    for literal in clause.literals() {
+        if is_set(bits, literal.unsigned_abs()) == (*literal > 0) {
+            return true;
+        }
+    }
+    false
+}
+
+fn are_true(cnf: &Cnf, bits: u64) -> bool {
+    for clause in cnf.clauses.clauses() {
+        if !is_true(clause, bits) {
+            return false;
+        }
+    }
+    true
+}
+
+/// How many assignments of four variables have these first two and satisfy the clauses.
+fn count_extensions(cnf: &Cnf, inputs: u64) -> u64 {
+    let mut found = 0u64;
+    for others in 0..4u64 {
+        if are_true(cnf, inputs | (others << 2)) {
+            found = found.wrapping_add(1);
+        }
+    }
+    found
+}
+
+#[test]
+fn each_input_has_one_assignment(rt: HostRuntime) -> Result<(), Fail> {
+    let mut store = CircuitStore::new(rt.alloc());
+    let a = store.input(1)?;
+    let b = store.input(2)?;
+    let sure = store.or(a, b)?;
+    assert!(rt; are_numbered(&store));
+    assert_eq!(rt; count_inputs(&store), 2);
+    let roots = NodeList::new(rt.alloc());
+    let cnf = write_clauses(rt.alloc(), &store, sure, &roots)?;
+    assert_eq!(rt; cnf.variables, 4);
+    assert_eq!(rt; cnf.clauses.len(), 5);
+    assert_eq!(rt; count_extensions(&cnf, 0), 0);
+    assert_eq!(rt; count_extensions(&cnf, 1), 1);
+    assert_eq!(rt; count_extensions(&cnf, 2), 1);
+    assert_eq!(rt; count_extensions(&cnf, 3), 1);
+    Ok(())
+}
