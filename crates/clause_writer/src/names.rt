@@ -38,8 +38,9 @@ pub fn are_numbered(store: &CircuitStore) -> bool
 {
     let count = count_inputs(store);
     for variable in 0..count {
-        if store.input_number(variable + 1).is_none() {
-            return false;
+        match store.input_number(variable + 1) {
+            Some(_) => {}
+            None => return false,
         }
     }
     for number in 0..store.gates() {

@@ -1,26 +1,25 @@
-use Rattle.std.proofs.Common.{◌≡◌, ◌∙◌, ◌<◌, ◌≤◌, ◌+◌, sym, ap, ℕ, subst, arith, inl, inr, Some}
+use Rattle.std.proofs.Common.{◌≡◌, ◌<◌, ◌≤◌, ◌+◌, ℕ, subst, arith, refl, inl, inr, Some}
+use Rattle.std.proofs.lemmas.Bool.{false≢true}
 use Rattle.std.specs.List.{slice_get}
 use Rattle.std.proofs.lemmas.Bool.{cases_lt}
 use Rattle.std.proofs.lemmas.Option.{slice_get_within}
 use Rattle.gate_trait.specs.declared.gate.Gate.TheVariants.{Input}
 use Rattle.clause_writer.specs.Named.{input_count}
-use Rattle.clause_writer.proofs.Naming.{none_case, some_case}
 use Rattle.clause_writer.proofs.names.are_numbered.Goals as goal
 
-pub returns-then-is_none : goal.returns-then-is_none
-returns-then-is_none c = (
-  (λ h. absurd h),
-  (λ n. let few : c.loop-variable.variable + 1 ≤ input_count c.args.store.now = omega (arith, c.count_inputs-count.ensures.count) in
+pub returns-in-None : goal.returns-in-None
+returns-in-None c = (
+  (λ h. absurd (false≢true h)),
+  (λ n. let few : c.loop-variable.variable + 1 ≤ input_count c.args.store.now = omega (arith, c.count_inputs-count.ensures.count, c.loop-variable-test.true) in
       let e = n.each (c.loop-variable.variable + 1) (omega arith) few in
-      none_case c.input_number.result (sym c.is_none.ensures ∙ c.if-is_none.true) c.input_number.ensures.absent e.0 e.1),
+      absurd (c.in-None.ensures.absent e.0 e.1)),
 )
 
 pub loop-variable-preserved : goal.loop-variable-preserved
 loop-variable-preserved c = λ w above most.
     elim (cases_lt c.loop-variable.variable w) [
       | inl last ↦ (let e : c.loop-variable.variable + 1 ≡ w = omega arith in
-          let f = some_case c.input_number.result _ (sym c.is_none.ensures ∙ c.if-is_none.false) c.input_number.ensures.found in
-          (f.0, subst (λ (v : ℕ). slice_get c.args.store.now f.0 ≡ Some (Input v)) e f.1))
+          (c.in-Some.field-0, subst (λ (v : ℕ). slice_get c.args.store.now c.in-Some.field-0 ≡ Some (Input v)) e c.in-Some.ensures.found))
       | inr before ↦ c.loop-variable.invariant w above before
     ]
 
@@ -33,5 +32,5 @@ returns c = (
         (b.0, omega (arith, b.1, c.count_inputs-count.ensures.count));
     each = λ w above most. c.loop-variable.invariant w above (omega (arith, most, c.count_inputs-count.ensures.count));
   }),
-  (λ n. tt),
+  (λ n. refl),
 )
