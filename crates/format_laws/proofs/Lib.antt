@@ -1,0 +1,4 @@
+pub mod Again
+pub mod Lines
+pub mod Places
+pub mod Rightness
