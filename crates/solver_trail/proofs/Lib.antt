@@ -1,0 +1,5 @@
+pub mod Assigning
+pub mod Weaving
+pub mod Sounding
+pub mod Adding
+pub mod Copying
