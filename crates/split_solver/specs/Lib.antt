@@ -1,0 +1,5 @@
+pub mod Path
+pub mod Progress
+pub mod Scan
+pub mod Search
+pub mod Steps
