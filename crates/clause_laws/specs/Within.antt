@@ -1,0 +1,6 @@
+-- Clauses that a text may have.
+use Rattle.std.specs.Prelude.{◌<◌, ◌≤◌, ℕ, ℤ, nat_abs}
+
+-- a literal of one of the variables from 1 to a number
+abbrev pub IsOf : ℕ → ℤ → Type 0
+IsOf most literal = (0 < nat_abs literal) × (nat_abs literal ≤ most)
