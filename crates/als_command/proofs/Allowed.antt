@@ -1,27 +1,31 @@
 -- Which answers the settings allow, from what came of the files.
-use Rattle.std.proofs.Common.{◌≡◌, ◌≢◌, ℕ, List, [], ◌∷◌, map, Option, Some, None, Vec, Global, IfOk, Result, Ok, Err, refl, sym, ap, ◌∙◌, subst, inl, inr}
+use Rattle.std.proofs.Common.{◌≡◌, ◌≢◌, ℕ, List, [], ◌∷◌, map, Option, Some, None, Vec, Global, IfOk, Result, Ok, Err, cond, not, true, is_some, refl, sym, ap, ◌∙◌, subst, inl, inr}
 use Rattle.std.specs.declared.alloc.AllocError.{AllocError}
 use Rattle.alloy_base.specs.Causes.{SomeRose, NoneFell}
+use Rattle.alloy_base.specs.Texts as texts
 use Rattle.alloy_base.specs.Texts.{Texts}
 use Rattle.alloy_base.specs.declared.limits.TheConstants.{MODULE_BYTES, FILE_BYTES}
 use Rattle.alloy_base.specs.declared.place.Rule.{Rule}
 use Rattle.command_words.specs.declared.named.Mode.{Mode}
 use Rattle.command_words.specs.declared.named.Mode.TheVariants.{Exec, Commands, Lrat, Make, Replay, Eval, Least, Core}
+use Rattle.command_words.specs.Named.{takes_second}
+use Rattle.command_words.specs.Settings.{has_second}
 use Rattle.command_words.specs.declared.settings.Settings.{Settings}
 use Rattle.als_command.specs.Files.{Asked, IsFile, asked, asked_in, second_asked, at_start, file_rule, first_broken, first_of}
-use Rattle.als_command.specs.Run.{AllowsFiles, IsOnTexts, RefusedFor}
+use Rattle.als_command.specs.Run.{AllowsFiles, IsOnModel, IsOnProof, IsCheckedIn, RefusedFor}
 use Rattle.als_command.specs.declared.answer.Answer.{Answer}
-use Rattle.als_command.specs.declared.answer.Answer.TheVariants.{Usage, Refused, ReadFault, Trace, Absent}
+use Rattle.als_command.specs.declared.answer.Answer.TheVariants.{Usage, Refused, ReadFault, Trace, Absent, Checked}
 use Rattle.als_command.specs.declared.files.File.TheVariants.{Whole, Broken}
 
 module _ (settings : Settings) (held : List (Option Texts)) (before now : List ℕ) where
   -- an answer on texts that are all whole
-  pub on_texts : (a : Answer) → now ≡ before → IsOnTexts settings a → AllowsFiles [] settings held before now a
-  on_texts Usage same h = absurd h
-  on_texts (Refused refusal name) same h = (same, λ told tells. h)
-  on_texts (ReadFault name) same h = absurd h
-  on_texts (Trace text) same h = (same, record { mode = h; whole = λ told tells. refl })
-  on_texts (Absent text) same h = (same, record { mode = h; whole = λ told tells. refl })
+  pub on_model : (a : Answer) → now ≡ before → IsOnModel settings a → AllowsFiles [] settings held before now a
+  on_model Usage same h = absurd h
+  on_model (Refused refusal name) same h = (same, λ told tells. h)
+  on_model (ReadFault name) same h = absurd h
+  on_model (Trace text) same h = (same, record { mode = h; whole = λ told tells. refl })
+  on_model (Absent text) same h = (same, record { mode = h; whole = λ told tells. refl })
+  on_model (Checked verdict clauses lines) same h = absurd h
 
   -- a file that breaks a rule as a whole is refused
   pub on_broken : (name : List ℕ) (most : ℕ) (files : List Asked) (rule : Rule) → IsFile held name most before now (Broken rule) →
@@ -50,6 +54,16 @@ module _ (settings : Settings) (held : List (Option Texts)) (before now : List �
   on_whole name most files (Absent text) whole h = (
     h.0,
     record { mode = h.1.mode; whole = λ told tells. ap (λ o. first_of o name (first_broken told files)) (whole told tells) ∙ h.1.whole told tells },
+  )
+  on_whole name most files (Checked verdict clauses lines) whole h = (
+    h.0,
+    record {
+      mode = h.1.mode;
+      first = h.1.first;
+      second = h.1.second;
+      whole = λ told tells. ap (λ o. first_of o name (first_broken told files)) (whole told tells) ∙ h.1.whole told tells;
+      checked = h.1.checked;
+    },
   )
 
 -- a mode on one model asks for that model
@@ -90,11 +104,11 @@ module _ (settings : Settings) (held : List (Option Texts)) (before now : List �
 
 -- the last file is whole, and the answer is one on the texts
 pub whole_allows : (settings : Settings) (held : List (Option Texts)) (before now : List ℕ) (name : List ℕ) (most : ℕ) (files : List Asked) → files ≡ (name, most) ∷ [] →
-    (r : Result Answer AllocError) (answer : Answer) → r ≡ Ok answer → (text : Vec ℕ Global) → IsFile held name most before now (Whole text) → IfOk r (IsOnTexts settings) →
+    (r : Result Answer AllocError) (answer : Answer) → r ≡ Ok answer → (text : Vec ℕ Global) → IsFile held name most before now (Whole text) → IfOk r (IsOnModel settings) →
     AllowsFiles files settings held before now answer
 whole_allows settings held before now name most files asks r answer is text file on =
     subst (λ fs. AllowsFiles fs settings held before now answer) (sym asks)
-    (on_whole settings held before now name most [] answer (λ told tells. (file.1 told tells).1) (on_texts settings held before now answer file.0 (if_ok (IsOnTexts settings) r answer on is)))
+    (on_whole settings held before now name most [] answer (λ told tells. (file.1 told tells).1) (on_model settings held before now answer file.0 (if_ok (IsOnModel settings) r answer on is)))
 
 -- a file is whole, and the answer is one that the others allow
 pub then_allows : (settings : Settings) (held later : List (Option Texts)) (before mid now : List ℕ) (name : List ℕ) (most : ℕ) (files rest : List Asked) → files ≡ (name, most) ∷ rest →
@@ -107,3 +121,24 @@ then_allows settings held later before mid now name most files rest asks answer 
 
 pub then_later : (before mid now : List ℕ) → mid ≡ before → NoneFell mid now → NoneFell before now
 then_later before mid now same later = subst (λ ns. NoneFell ns now) same later
+
+-- both files are whole, and the answer is the verdict on them
+pub proof_allows : (settings : Settings) (held : List (Option Texts)) (before now : List ℕ) (name : List ℕ) (most : ℕ) → settings.mode ≡ Lrat → settings.second ≡ Some name →
+    (clauses : List ℕ) → ((told : List Texts) → held ≡ map (λ t. Some t) told → texts.text_of told settings.file ≡ Some clauses) → (text : Vec ℕ Global) → IsFile held name most before now (Whole text) →
+    (answer : Answer) → IsOnProof settings name clauses text.items answer → AllowsFiles ((name, most) ∷ []) settings held before now answer
+proof_allows settings held before now name most mode second clauses tells text file answer on =
+    subst (λ a. AllowsFiles ((name, most) ∷ []) settings held before now a) (sym on.says_so) (
+      file.0,
+      record {
+        mode = mode;
+        first = refl;
+        second = second;
+        whole = λ told tell. ap (λ o. first_of o name None) (file.1 told tell).1;
+        checked = λ told tell. subst (λ o. IsCheckedIn o (texts.text_of told name) on.verdict) (sym (tells told tell))
+            (subst (λ o. IsCheckedIn (Some clauses) o on.verdict) (sym (file.1 told tell).0) on.checked);
+      },
+    )
+
+-- a mode that takes a second file has one
+pub has_one : (settings : Settings) → settings.mode ≡ Lrat → has_second settings ≡ true → is_some settings.second ≡ true
+has_one settings mode has = subst (λ m. cond (takes_second m) (is_some settings.second) (not (is_some settings.second)) ≡ true) mode has

@@ -2,19 +2,38 @@
 use Rattle.std.proofs.Common.{◌≡◌, ◌≢◌, ◌⊎◌, ℕ, List, [], Option, Some, None, Result, refl, sym, ap, ◌∙◌, subst, inl, inr, arith, map, append-nil}
 use Rattle.std.specs.declared.alloc.AllocError.{AllocError}
 use Rattle.alloy_base.specs.Causes.{Rose}
+use Rattle.alloy_base.specs.Texts as texts
 use Rattle.alloy_base.specs.Texts.{Texts}
 use Rattle.alloy_base.specs.declared.place.Rule.{Rule}
 use Rattle.command_words.specs.declared.settings.Settings.{Settings}
+use Rattle.lrat_mode.specs.Mode as lrat
+use Rattle.lrat_mode.specs.declared.mode.Verdict.{Verdict}
+use Rattle.lrat_mode.specs.declared.mode.Verdict.TheVariants as says
 use Rattle.als_command.specs.Answer.{text_of, status_of, usage_line}
 use Rattle.als_command.specs.Files.{asked, first_broken}
-use Rattle.als_command.specs.Run.{Allows, Written, written, no_memory, write_fault, Finished, delivered, gave_up, Justified, Refuses, FailsToRead, FailsToWrite, Searches, IsStatus}
+use Rattle.als_command.specs.Run.{Allows, Written, written, no_memory, write_fault, Finished, delivered, gave_up, Justified, Refuses, Checks, FailsToRead, FailsToWrite, Searches, IsStatus, IsProofOf, IsCheckedIn, RefusedFor}
+use Rattle.verdict_laws.proofs.Verdicts.{one_verdict}
 use Rattle.als_command.specs.declared.answer.Answer.{Answer}
-use Rattle.als_command.specs.declared.answer.Answer.TheVariants.{Usage, Refused, ReadFault, Trace, Absent}
+use Rattle.als_command.specs.declared.answer.Answer.TheVariants.{Usage, Refused, ReadFault, Trace, Absent, Checked}
 
 -- an empty text is written by no call
 pub nothing_written : (old : Option (List ℕ)) → Written old old []
 nothing_written None = refl
 nothing_written (Some got) = ap (λ l. Some l) (sym (append-nil got))
+
+verdict_status : (v : Verdict) → (lrat.status_of v ≡ 0) ⊎ (lrat.status_of v ≡ 1) ⊎ (lrat.status_of v ≡ 3)
+verdict_status says.Refuted = inl refl
+verdict_status (says.Rejected rule line) = inr (inl refl)
+verdict_status (says.Unfinished lemmas) = inr (inl refl)
+verdict_status (says.BadCnf rule line) = inr (inr refl)
+verdict_status (says.BadProof rule line) = inr (inr refl)
+
+-- a verdict has no other status
+other_status : (v : Verdict) (n : ℕ) → n ≢ 0 → n ≢ 1 → n ≢ 3 → lrat.status_of v ≡ n → ⊥
+other_status v n zero one three is = elim (verdict_status v) [
+  | inl e ↦ zero (sym is ∙ e)
+  | inr rest ↦ elim rest [ inl e ↦ one (sym is ∙ e) | inr e ↦ three (sym is ∙ e) ]
+]
 
 -- an answer's own status is neither of the two that say that it couldn't be delivered
 not_five : (a : Answer) → status_of a ≡ 5 → ⊥
@@ -23,6 +42,7 @@ not_five (Refused refusal name) is = omega arith
 not_five (ReadFault name) is = omega arith
 not_five (Trace text) is = omega arith
 not_five (Absent text) is = omega arith
+not_five (Checked v clauses lines) is = other_status v 5 (λ e. omega arith) (λ e. omega arith) (λ e. omega arith) is
 
 not_six : (a : Answer) → status_of a ≡ 6 → ⊥
 not_six Usage is = omega arith
@@ -30,13 +50,18 @@ not_six (Refused refusal name) is = omega arith
 not_six (ReadFault name) is = omega arith
 not_six (Trace text) is = omega arith
 not_six (Absent text) is = omega arith
+not_six (Checked v clauses lines) is = other_status v 6 (λ e. omega arith) (λ e. omega arith) (λ e. omega arith) is
 
 answer_status : (a : Answer) → IsStatus (status_of a)
-answer_status Usage = inl refl
-answer_status (Refused refusal name) = inr (inl refl)
-answer_status (ReadFault name) = inr (inr (inl refl))
-answer_status (Trace text) = inr (inr (inr (inr (inr (inl refl)))))
-answer_status (Absent text) = inr (inr (inr (inr (inr (inr refl)))))
+answer_status Usage = inr (inr (inl refl))
+answer_status (Refused refusal name) = inr (inr (inr (inl refl)))
+answer_status (ReadFault name) = inr (inr (inr (inr (inl refl))))
+answer_status (Trace text) = inr (inr (inr (inr (inr (inr (inr (inl refl)))))))
+answer_status (Absent text) = inr (inr (inr (inr (inr (inr (inr (inr (refl))))))))
+answer_status (Checked v clauses lines) = elim (verdict_status v) [
+  | inl e ↦ inl e
+  | inr rest ↦ elim rest [ inl e ↦ inr (inl e) | inr e ↦ inr (inr (inr (inl e))) ]
+]
 
 module _ (old new : Option (List ℕ)) (f g s : ℕ) where
   pub memory : (r : Result Answer AllocError) → Finished r old new f g s → s ≡ 5 → new ≡ old
@@ -58,11 +83,13 @@ module _ (given : Option Settings) (held : List (Option Texts)) (before now : Li
   usage_given None (ReadFault name) allows is = absurd allows
   usage_given None (Trace text) allows is = absurd allows
   usage_given None (Absent text) allows is = absurd allows
+  usage_given None (Checked v clauses lines) allows is = absurd allows
   usage_given (Some settings) Usage allows is = absurd allows
   usage_given (Some settings) (Refused refusal name) allows is = absurd (omega arith)
   usage_given (Some settings) (ReadFault name) allows is = absurd (omega arith)
   usage_given (Some settings) (Trace text) allows is = absurd (omega arith)
   usage_given (Some settings) (Absent text) allows is = absurd (omega arith)
+  usage_given (Some settings) (Checked v clauses lines) allows is = absurd (other_status v 2 (λ e. omega arith) (λ e. omega arith) (λ e. omega arith) is)
 
   usage_where_none : (a : Answer) → Allows None held before now a → status_of a ≡ 2
   usage_where_none Usage allows = refl
@@ -70,19 +97,55 @@ module _ (given : Option Settings) (held : List (Option Texts)) (before now : Li
   usage_where_none (ReadFault name) allows = absurd allows
   usage_where_none (Trace text) allows = absurd allows
   usage_where_none (Absent text) allows = absurd allows
+  usage_where_none (Checked v clauses lines) allows = absurd allows
 
-  refused_given : (o : Option Settings) (a : Answer) (old new : Option (List ℕ)) → Allows o held before now a → status_of a ≡ 3 → Written old new (text_of a) → Refuses o held old new
+  refused_given : (o : Option Settings) (a : Answer) (old new : Option (List ℕ)) → Allows o held before now a → status_of a ≡ 3 → Written old new (text_of a) → Refuses o held old new ⊎ Checks o held old new 3
   refused_given None Usage old new allows is line = absurd (omega arith)
   refused_given None (Refused refusal name) old new allows is line = absurd allows
   refused_given None (ReadFault name) old new allows is line = absurd allows
   refused_given None (Trace text) old new allows is line = absurd allows
   refused_given None (Absent text) old new allows is line = absurd allows
+  refused_given None (Checked v clauses lines) old new allows is line = absurd allows
   refused_given (Some settings) Usage old new allows is line = absurd allows
   refused_given (Some settings) (Refused refusal name) old new allows is line =
-      record { settings = settings; refusal = refusal; name = name; fit = refl; cause = allows.1; line = line }
+      inl (record { settings = settings; refusal = refusal; name = name; fit = refl; cause = allows.1; line = line })
   refused_given (Some settings) (ReadFault name) old new allows is line = absurd (omega arith)
   refused_given (Some settings) (Trace text) old new allows is line = absurd (omega arith)
   refused_given (Some settings) (Absent text) old new allows is line = absurd (omega arith)
+  refused_given (Some settings) (Checked v clauses lines) old new allows is line =
+      inr (record { settings = settings; verdict = v; clauses = clauses; lines = lines; fit = refl; cause = allows.1; line = line; has = sym is })
+
+  checked_given : (o : Option Settings) (a : Answer) (old new : Option (List ℕ)) (n : ℕ) → Allows o held before now a → status_of a ≡ n → (n ≡ 0) ⊎ (n ≡ 1) → Written old new (text_of a) → Checks o held old new n
+  checked_given None Usage old new n allows is low line = elim low [ inl e ↦ absurd (omega arith) | inr e ↦ absurd (omega arith) ]
+  checked_given None (Refused refusal name) old new n allows is low line = absurd allows
+  checked_given None (ReadFault name) old new n allows is low line = absurd allows
+  checked_given None (Trace text) old new n allows is low line = absurd allows
+  checked_given None (Absent text) old new n allows is low line = absurd allows
+  checked_given None (Checked v clauses lines) old new n allows is low line = absurd allows
+  checked_given (Some settings) Usage old new n allows is low line = absurd allows
+  checked_given (Some settings) (Refused refusal name) old new n allows is low line = elim low [ inl e ↦ absurd (omega arith) | inr e ↦ absurd (omega arith) ]
+  checked_given (Some settings) (ReadFault name) old new n allows is low line = elim low [ inl e ↦ absurd (omega arith) | inr e ↦ absurd (omega arith) ]
+  checked_given (Some settings) (Trace text) old new n allows is low line = elim low [ inl e ↦ absurd (omega arith) | inr e ↦ absurd (omega arith) ]
+  checked_given (Some settings) (Absent text) old new n allows is low line = elim low [ inl e ↦ absurd (omega arith) | inr e ↦ absurd (omega arith) ]
+  checked_given (Some settings) (Checked v clauses lines) old new n allows is low line =
+      record { settings = settings; verdict = v; clauses = clauses; lines = lines; fit = refl; cause = allows.1; line = line; has = sym is }
+
+  -- where the files of a proof are whole, the answer is the verdict on their texts, unless a library failed
+  proof_given : (settings : Settings) (a : Answer) (told : List Texts) (name clauses lines : List ℕ) (verdict : Verdict) → Allows (Some settings) held before now a → held ≡ map (λ t. Some t) told →
+      IsProofOf told settings name clauses lines verdict → (status_of a ≡ lrat.status_of verdict) ⊎ (status_of a ≡ 4)
+  proof_given settings Usage told name clauses lines verdict allows tells is = absurd allows
+  proof_given settings (Refused refusal n) told name clauses lines verdict allows tells is =
+      let why : RefusedFor None settings refusal n = subst (λ o. RefusedFor o settings refusal n) is.whole (allows.1 told tells) in
+      absurd (why.2 is.mode)
+  proof_given settings (ReadFault n) told name clauses lines verdict allows tells is = inr refl
+  proof_given settings (Trace text) told name clauses lines verdict allows tells is = cc (allows.1.mode, is.mode)
+  proof_given settings (Absent text) told name clauses lines verdict allows tells is = cc (allows.1.mode, is.mode)
+  proof_given settings (Checked v first second) told name clauses lines verdict allows tells is =
+      let named : second ≡ name = cc (allows.1.second, is.second) in
+      let one : texts.text_of told first ≡ Some clauses = ap (texts.text_of told) allows.1.first ∙ is.clauses_are in
+      let two : texts.text_of told second ≡ Some lines = ap (texts.text_of told) named ∙ is.lines_are in
+      let on : IsCheckedIn (Some clauses) (Some lines) v = subst (λ o. IsCheckedIn (Some clauses) o v) two (subst (λ o. IsCheckedIn o (texts.text_of told second) v) one (allows.1.checked told tells)) in
+      inl (ap lrat.status_of (one_verdict clauses lines v verdict on.verdict_on is.verdict_on))
 
   read_fault_given : (o : Option Settings) (a : Answer) (old new : Option (List ℕ)) → Allows o held before now a → status_of a ≡ 4 → Written old new (text_of a) → FailsToRead o before now old new
   read_fault_given None Usage old new allows is line = absurd (omega arith)
@@ -90,12 +153,14 @@ module _ (given : Option Settings) (held : List (Option Texts)) (before now : Li
   read_fault_given None (ReadFault name) old new allows is line = absurd allows
   read_fault_given None (Trace text) old new allows is line = absurd allows
   read_fault_given None (Absent text) old new allows is line = absurd allows
+  read_fault_given None (Checked v clauses lines) old new allows is line = absurd allows
   read_fault_given (Some settings) Usage old new allows is line = absurd allows
   read_fault_given (Some settings) (Refused refusal name) old new allows is line = absurd (omega arith)
   read_fault_given (Some settings) (ReadFault name) old new allows is line =
       record { settings = settings; name = name; fit = refl; asked_for = allows.0; rose = allows.1; line = line }
   read_fault_given (Some settings) (Trace text) old new allows is line = absurd (omega arith)
   read_fault_given (Some settings) (Absent text) old new allows is line = absurd (omega arith)
+  read_fault_given (Some settings) (Checked v clauses lines) old new allows is line = absurd (other_status v 4 (λ e. omega arith) (λ e. omega arith) (λ e. omega arith) is)
 
   searched_given : (o : Option Settings) (a : Answer) → Allows o held before now a → (status_of a ≡ 10) ⊎ (status_of a ≡ 20) → Searches o held
   searched_given None Usage allows is = elim is [ inl e ↦ absurd (omega arith) | inr e ↦ absurd (omega arith) ]
@@ -103,11 +168,16 @@ module _ (given : Option Settings) (held : List (Option Texts)) (before now : Li
   searched_given None (ReadFault name) allows is = absurd allows
   searched_given None (Trace text) allows is = absurd allows
   searched_given None (Absent text) allows is = absurd allows
+  searched_given None (Checked v clauses lines) allows is = absurd allows
   searched_given (Some settings) Usage allows is = absurd allows
   searched_given (Some settings) (Refused refusal name) allows is = elim is [ inl e ↦ absurd (omega arith) | inr e ↦ absurd (omega arith) ]
   searched_given (Some settings) (ReadFault name) allows is = elim is [ inl e ↦ absurd (omega arith) | inr e ↦ absurd (omega arith) ]
   searched_given (Some settings) (Trace text) allows is = record { settings = settings; fit = refl; searched = allows.1 }
   searched_given (Some settings) (Absent text) allows is = record { settings = settings; fit = refl; searched = allows.1 }
+  searched_given (Some settings) (Checked v clauses lines) allows is = elim is [
+    | inl e ↦ absurd (other_status v 10 (λ z. omega arith) (λ z. omega arith) (λ z. omega arith) e)
+    | inr e ↦ absurd (other_status v 20 (λ z. omega arith) (λ z. omega arith) (λ z. omega arith) e)
+  ]
 
   -- where a file breaks a rule as a whole, the answer is a refusal or a library's fault
   broken_given : (settings : Settings) (a : Answer) (told : List Texts) (broken : Rule × List ℕ) → Allows (Some settings) held before now a → held ≡ map (λ t. Some t) told →
@@ -117,6 +187,7 @@ module _ (given : Option Settings) (held : List (Option Texts)) (before now : Li
   broken_given settings (ReadFault name) told broken allows tells breaks = inr refl
   broken_given settings (Trace text) told broken allows tells breaks = cc (allows.1.whole told tells, breaks)
   broken_given settings (Absent text) told broken allows tells breaks = cc (allows.1.whole told tells, breaks)
+  broken_given settings (Checked v clauses lines) told broken allows tells breaks = cc (allows.1.whole told tells, breaks)
 
   -- where a count has changed, the answer is a library's fault
   risen_given : (o : Option Settings) (a : Answer) → Allows o held before now a → now ≢ before → status_of a ≡ 4
@@ -125,11 +196,13 @@ module _ (given : Option Settings) (held : List (Option Texts)) (before now : Li
   risen_given None (ReadFault name) allows other = absurd allows
   risen_given None (Trace text) allows other = absurd allows
   risen_given None (Absent text) allows other = absurd allows
+  risen_given None (Checked v clauses lines) allows other = absurd allows
   risen_given (Some settings) Usage allows other = absurd allows
   risen_given (Some settings) (Refused refusal name) allows other = absurd (other allows.0)
   risen_given (Some settings) (ReadFault name) allows other = refl
   risen_given (Some settings) (Trace text) allows other = absurd (other allows.0)
   risen_given (Some settings) (Absent text) allows other = absurd (other allows.0)
+  risen_given (Some settings) (Checked v clauses lines) allows other = absurd (other allows.0)
 
   module _ (old new : Option (List ℕ)) (f g s : ℕ) where
     -- an answer with this status was written
@@ -166,10 +239,23 @@ module _ (given : Option Settings) (held : List (Option Texts)) (before now : Li
           | inr rest ↦ elim rest [ inl five ↦ inr (inl five) | inr six ↦ inr (inr six) ]
         ]
 
-    pub refused : (r : Result Answer AllocError) → Justified given held before now r → Finished r old new f g s → s ≡ 3 → Refuses given held old new
+    pub refused : (r : Result Answer AllocError) → Justified given held before now r → Finished r old new f g s → s ≡ 3 → Refuses given held old new ⊎ Checks given held old new 3
     refused r justified finished is =
         let told = said 3 r justified finished is (λ e. omega arith) (λ e. omega arith) in
         refused_given given told.answer old new told.allowed told.has told.line
+
+    pub checked : (r : Result Answer AllocError) → Justified given held before now r → Finished r old new f g s → (s ≡ 0) ⊎ (s ≡ 1) → Checks given held old new s
+    checked r justified finished low =
+        let told = said s r justified finished refl (λ e. elim low [ inl z ↦ omega arith | inr o ↦ omega arith ]) (λ e. elim low [ inl z ↦ omega arith | inr o ↦ omega arith ]) in
+        checked_given given told.answer old new s told.allowed told.has low told.line
+
+    pub checked_always : (r : Result Answer AllocError) → Justified given held before now r → Finished r old new f g s → (settings : Settings) (told : List Texts) (name clauses lines : List ℕ) (verdict : Verdict) →
+        given ≡ Some settings → held ≡ map (λ t. Some t) told → IsProofOf told settings name clauses lines verdict → (s ≡ lrat.status_of verdict) ⊎ (s ≡ 4) ⊎ (s ≡ 5) ⊎ (s ≡ 6)
+    checked_always r justified finished settings told name clauses lines verdict fit tells is =
+        elim (ends (λ n. (n ≡ lrat.status_of verdict) ⊎ (n ≡ 4)) r justified finished (λ a allows. proof_given settings a told name clauses lines verdict (subst (λ o. Allows o held before now a) fit allows) tells is)) [
+          | inl either ↦ elim either [ inl same ↦ inl same | inr four ↦ inr (inl four) ]
+          | inr rest ↦ elim rest [ inl five ↦ inr (inr (inl five)) | inr six ↦ inr (inr (inr six)) ]
+        ]
 
     pub refused_always : (r : Result Answer AllocError) → Justified given held before now r → Finished r old new f g s → (settings : Settings) (told : List Texts) (broken : Rule × List ℕ) →
         given ≡ Some settings → held ≡ map (λ t. Some t) told → first_broken told (asked settings) ≡ Some broken → (s ≡ 3) ⊎ (s ≡ 4) ⊎ (s ≡ 5) ⊎ (s ≡ 6)
@@ -211,5 +297,5 @@ module _ (given : Option Settings) (held : List (Option Texts)) (before now : Li
     status r justified finished =
         elim (ends IsStatus r justified finished (λ a allows. answer_status a)) [
           | inl one ↦ one
-          | inr rest ↦ elim rest [ inl five ↦ inr (inr (inr (inl five))) | inr six ↦ inr (inr (inr (inr (inl six)))) ]
+          | inr rest ↦ elim rest [ inl five ↦ inr (inr (inr (inr (inr (inl five))))) | inr six ↦ inr (inr (inr (inr (inr (inr (inl six)))))) ]
         ]

@@ -50,3 +50,16 @@ module _ (held : List (Option Texts)) (name : List ℕ) (most : ℕ) (before now
 
   pub found_file : (file : File) → file ≡ cond (nat_le (length text.items) most) (Whole text) (Broken LargeFile) → IsFile held name most before now file
   found_file file is = subst (λ f. IsFile held name most before now f) (sym is) (by_length (nat_le (length text.items) most) refl)
+
+-- a file that is whole is within the limit
+pub whole_length : (text got : Vec ℕ Global) (most : ℕ) → ◌≡◌ {A = File} (Whole got) (cond (nat_le (length text.items) most) (Whole text) (Broken LargeFile)) → length got.items ≤ most
+whole_length text got most is = go (nat_le (length text.items) most) refl
+  where
+    go : (b : Bool) → nat_le (length text.items) most ≡ b → length got.items ≤ most
+    go true le =
+        let same : ◌≡◌ {A = File} (Whole got) (Whole text) = rw le at is in
+        let equal : got ≡ text = cc in
+        subst (λ (v : Vec ℕ Global). length v.items ≤ most) (sym equal) (leb-true _ _ le)
+    go false le =
+        let other : ◌≡◌ {A = File} (Whole got) (Broken LargeFile) = rw le at is in
+        cc

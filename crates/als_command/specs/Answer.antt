@@ -3,8 +3,10 @@ use Rattle.std.specs.Prelude.{ℕ, ◌/◌, ◌%◌, List, [], ◌∷◌, ◌++�
 use Rattle.alloy_base.specs.Place.{number_of}
 use Rattle.alloy_base.specs.declared.place.Place.{Place}
 use Rattle.alloy_base.specs.declared.place.Refusal.{Refusal}
+use Rattle.lrat_mode.specs.Mode as lrat
+use Rattle.lrat_mode.specs.declared.mode.Verdict.{Verdict}
 use Rattle.als_command.specs.declared.answer.Answer.{Answer}
-use Rattle.als_command.specs.declared.answer.Answer.TheVariants.{Usage, Refused, ReadFault, Trace, Absent}
+use Rattle.als_command.specs.declared.answer.Answer.TheVariants.{Usage, Refused, ReadFault, Trace, Absent, Checked}
 
 abbrev pub usage_line : List ℕ
 usage_line = codes "usage: alloyc MODE FILE [SECOND] [--command N] [--conflicts N] [--part PART] [--chooser N] [--expr E] [--at N]" ++ 10 ∷ []
@@ -19,12 +21,17 @@ refused_line refusal name = numbered_line (number_of refusal.rule / 10) (number_
 abbrev pub fault_line : List ℕ → List ℕ
 fault_line name = codes "fault read " ++ name ++ 10 ∷ []
 
+-- the line of a checked proof
+abbrev pub checked_line : Verdict → List ℕ → List ℕ → List ℕ
+checked_line verdict clauses lines = lrat.message_of verdict clauses lines ++ 10 ∷ []
+
 abbrev pub text_of : Answer → List ℕ
 text_of Usage = usage_line
 text_of (Refused refusal name) = refused_line refusal name
 text_of (ReadFault name) = fault_line name
 text_of (Trace text) = text
 text_of (Absent text) = text
+text_of (Checked verdict clauses lines) = checked_line verdict clauses lines
 
 abbrev pub status_of : Answer → ℕ
 status_of Usage = 2
@@ -32,3 +39,4 @@ status_of (Refused refusal name) = 3
 status_of (ReadFault name) = 4
 status_of (Trace text) = 10
 status_of (Absent text) = 20
+status_of (Checked verdict clauses lines) = lrat.status_of verdict

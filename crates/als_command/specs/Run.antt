@@ -1,23 +1,28 @@
 -- What a run may answer, and why.
-use Rattle.std.specs.Prelude.{◌≡◌, ℕ, ◌⊎◌, ◌≤◌, List, ◌++◌, take, map, Option, Some, None, option_map, Result, Ok}
+use Rattle.std.specs.Prelude.{◌≡◌, ◌≢◌, ℕ, ◌⊎◌, ◌≤◌, List, ◌++◌, take, map, Option, Some, None, option_map, Result, Ok}
 use Rattle.std.specs.declared.alloc.AllocError.{AllocError}
 use Rattle.alloy_base.specs.Causes.{Rose, SomeRose}
+use Rattle.alloy_base.specs.Texts as texts
 use Rattle.alloy_base.specs.Texts.{Texts}
 use Rattle.alloy_base.specs.declared.place.Refusal.{Refusal}
 use Rattle.alloy_base.specs.declared.place.Rule.{Rule}
 use Rattle.alloy_base.specs.declared.place.Rule.TheVariants.{NotBuilt}
-use Rattle.command_words.specs.declared.named.Mode.TheVariants.{Exec}
+use Rattle.command_words.specs.declared.named.Mode.TheVariants.{Exec, Lrat}
 use Rattle.command_words.specs.declared.settings.Settings.{Settings}
-use Rattle.als_command.specs.Answer.{text_of, status_of, refused_line, fault_line}
+use Rattle.cnf_form.specs.Text.{formula_of}
+use Rattle.lrat_mode.specs.Mode as lrat
+use Rattle.lrat_mode.specs.declared.mode.Verdict.{Verdict}
+use Rattle.lrat_mode.specs.declared.mode.Verdict.TheVariants as says
+use Rattle.als_command.specs.Answer.{text_of, status_of, refused_line, fault_line, checked_line}
 use Rattle.als_command.specs.Files.{Asked, IsAsked, asked, at_start, first_broken}
 use Rattle.als_command.specs.declared.answer.Answer.{Answer}
-use Rattle.als_command.specs.declared.answer.Answer.TheVariants.{Usage, Refused, ReadFault, Trace, Absent}
+use Rattle.als_command.specs.declared.answer.Answer.TheVariants.{Usage, Refused, ReadFault, Trace, Absent, Checked}
 
 -- why a run with these settings refuses a text: a file that it asks for breaks a rule as a whole, and it is the first of them;
 -- or all are whole, and what is asked for isn't built yet
 abbrev pub RefusedFor : Option (Rule × List ℕ) → Settings → Refusal → List ℕ → Type 0
 RefusedFor (Some broken) settings refusal name = (refusal ≡ at_start broken.0) × (name ≡ broken.1)
-RefusedFor None settings refusal name = (refusal ≡ at_start NotBuilt) × (name ≡ settings.file)
+RefusedFor None settings refusal name = (refusal ≡ at_start NotBuilt) × (name ≡ settings.file) × (settings.mode ≢ Lrat)
 
 -- a run that asks for these files refuses this text, where the libraries tell what they hold
 abbrev pub IsRefused : List (Option Texts) → List Asked → Settings → Refusal → List ℕ → Type 0
@@ -29,6 +34,34 @@ pub record IsSearched (held : List (Option Texts)) (files : List Asked) (setting
   pub mode : settings.mode ≡ Exec
   pub whole : (told : List Texts) → held ≡ map (λ t. Some t) told → first_broken told files ≡ None
 
+-- what the lines of a text come to for the clauses of another; where they refute, no assignment satisfies the clauses
+pub record IsChecked (clauses lines : List ℕ) (verdict : Verdict) : Type 0 where
+  pub verdict_on : lrat.IsVerdict clauses lines verdict
+  pub refutes : verdict ≡ says.Refuted → lrat.NoneSatisfies (formula_of clauses)
+
+-- the same of two texts that may be there
+abbrev pub IsCheckedIn : Option (List ℕ) → Option (List ℕ) → Verdict → Type 0
+IsCheckedIn (Some clauses) (Some lines) verdict = IsChecked clauses lines verdict
+IsCheckedIn (Some clauses) None verdict = ⊥
+IsCheckedIn None lines verdict = ⊥
+
+-- the run checks a proof: of these two files, neither of which breaks a rule as a whole, the verdict is that on their texts
+pub record IsProof (held : List (Option Texts)) (files : List Asked) (settings : Settings) (verdict : Verdict) (clauses lines : List ℕ) : Type 0 where
+  pub mode : settings.mode ≡ Lrat
+  pub first : clauses ≡ settings.file
+  pub second : settings.second ≡ Some lines
+  pub whole : (told : List Texts) → held ≡ map (λ t. Some t) told → first_broken told files ≡ None
+  pub checked : (told : List Texts) → held ≡ map (λ t. Some t) told → IsCheckedIn (texts.text_of told clauses) (texts.text_of told lines) verdict
+
+-- the settings ask for a check of two files that break no rule as a whole, and this is the verdict on their texts
+pub record IsProofOf (told : List Texts) (settings : Settings) (name clauses lines : List ℕ) (verdict : Verdict) : Type 0 where
+  pub mode : settings.mode ≡ Lrat
+  pub second : settings.second ≡ Some name
+  pub whole : first_broken told (asked settings) ≡ None
+  pub clauses_are : texts.text_of told settings.file ≡ Some clauses
+  pub lines_are : texts.text_of told name ≡ Some lines
+  pub verdict_on : lrat.IsVerdict clauses lines verdict
+
 -- an answer that the settings, these files, what the libraries hold, and their counts of faults allow
 abbrev pub AllowsFiles : List Asked → Settings → List (Option Texts) → List ℕ → List ℕ → Answer → Type 0
 AllowsFiles files settings held before now Usage = ⊥
@@ -36,26 +69,35 @@ AllowsFiles files settings held before now (Refused refusal name) = (now ≡ bef
 AllowsFiles files settings held before now (ReadFault name) = IsAsked name files × SomeRose before now
 AllowsFiles files settings held before now (Trace text) = (now ≡ before) × IsSearched held files settings
 AllowsFiles files settings held before now (Absent text) = (now ≡ before) × IsSearched held files settings
+AllowsFiles files settings held before now (Checked verdict clauses lines) = (now ≡ before) × IsProof held files settings verdict clauses lines
 
 -- the same of the files that the settings ask for
 abbrev pub AllowsRun : Settings → List (Option Texts) → List ℕ → List ℕ → Answer → Type 0
 AllowsRun settings held before now answer = AllowsFiles (asked settings) settings held before now answer
 
--- an answer on texts that break no rule as a whole
-abbrev pub IsOnTexts : Settings → Answer → Type 0
-IsOnTexts settings Usage = ⊥
-IsOnTexts settings (Refused refusal name) = (refusal ≡ at_start NotBuilt) × (name ≡ settings.file)
-IsOnTexts settings (ReadFault name) = ⊥
-IsOnTexts settings (Trace text) = settings.mode ≡ Exec
-IsOnTexts settings (Absent text) = settings.mode ≡ Exec
+-- an answer on the text of a model
+abbrev pub IsOnModel : Settings → Answer → Type 0
+IsOnModel settings Usage = ⊥
+IsOnModel settings (Refused refusal name) = (refusal ≡ at_start NotBuilt) × (name ≡ settings.file) × (settings.mode ≢ Lrat)
+IsOnModel settings (ReadFault name) = ⊥
+IsOnModel settings (Trace text) = settings.mode ≡ Exec
+IsOnModel settings (Absent text) = settings.mode ≡ Exec
+IsOnModel settings (Checked verdict clauses lines) = ⊥
 
--- the same where there may be no settings that fit
+-- the answer on clauses and the lines of the file `second`
+pub record IsOnProof (settings : Settings) (second clauses lines : List ℕ) (answer : Answer) : Type 0 where
+  pub verdict : Verdict
+  pub says_so : answer ≡ Checked verdict settings.file second
+  pub checked : IsChecked clauses lines verdict
+
+-- an answer that the settings allow, where there may be none that fit
 abbrev pub Allows : Option Settings → List (Option Texts) → List ℕ → List ℕ → Answer → Type 0
 Allows None held before now Usage = now ≡ before
 Allows None held before now (Refused refusal name) = ⊥
 Allows None held before now (ReadFault name) = ⊥
 Allows None held before now (Trace text) = ⊥
 Allows None held before now (Absent text) = ⊥
+Allows None held before now (Checked verdict clauses lines) = ⊥
 Allows (Some settings) held before now answer = AllowsRun settings held before now answer
 
 -- the whole text was written
@@ -90,6 +132,17 @@ pub record Refuses (given : Option Settings) (held : List (Option Texts)) (old n
   pub cause : IsRefused held (asked settings) settings refusal name
   pub line : Written old new (refused_line refusal name)
 
+-- a proof was checked, and the line of the verdict was written
+pub record Checks (given : Option Settings) (held : List (Option Texts)) (old new : Option (List ℕ)) (status : ℕ) : Type 0 where
+  pub settings : Settings
+  pub verdict : Verdict
+  pub clauses : List ℕ
+  pub lines : List ℕ
+  pub fit : given ≡ Some settings
+  pub cause : IsProof held (asked settings) settings verdict clauses lines
+  pub line : Written old new (checked_line verdict clauses lines)
+  pub has : status ≡ lrat.status_of verdict
+
 -- some library failed in this call at a file that the run asks for, and the line that says so was written
 pub record FailsToRead (given : Option Settings) (before now : List ℕ) (old new : Option (List ℕ)) : Type 0 where
   pub settings : Settings
@@ -113,4 +166,4 @@ pub record FailsToWrite (given : Option Settings) (held : List (Option Texts)) (
 
 -- the statuses of the table
 abbrev pub IsStatus : ℕ → Type 0
-IsStatus status = (status ≡ 2) ⊎ (status ≡ 3) ⊎ (status ≡ 4) ⊎ (status ≡ 5) ⊎ (status ≡ 6) ⊎ (status ≡ 10) ⊎ (status ≡ 20)
+IsStatus status = (status ≡ 0) ⊎ (status ≡ 1) ⊎ (status ≡ 2) ⊎ (status ≡ 3) ⊎ (status ≡ 4) ⊎ (status ≡ 5) ⊎ (status ≡ 6) ⊎ (status ≡ 10) ⊎ (status ≡ 20)

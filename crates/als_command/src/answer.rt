@@ -1,8 +1,9 @@
 // What the program has to say, with its status and its text.
 ghost use Rattle.std.specs.Prelude.{◌≡◌, IfOk, string_bytes};
-ghost use Rattle.als_command.specs.Answer.{text_of, status_of, fault_line, refused_line, numbered_line};
+ghost use Rattle.als_command.specs.Answer.{text_of, status_of, checked_line, fault_line, refused_line, numbered_line};
 
 use alloy_base::{Bytes, Name, Place, Refusal};
+use lrat_mode::{Verdict, message_of, status_of as verdict_status};
 use std::alloc::{AllocError, Global};
 
 /// What the program has to say.
@@ -18,6 +19,8 @@ pub enum Answer {
     Trace(Bytes),
     /// There is no trace; the text says so.
     Absent(Bytes),
+    /// What the lines of the second file come to for the clauses of the first, and the names of the two.
+    Checked(Verdict, Name, Name),
 }
 
 impl Answer {
@@ -31,6 +34,7 @@ impl Answer {
             Answer::ReadFault(_) => 4,
             Answer::Trace(_) => 10,
             Answer::Absent(_) => 20,
+            Answer::Checked(verdict, _, _) => verdict_status(*verdict),
         }
     }
 
@@ -47,6 +51,9 @@ impl Answer {
             Answer::ReadFault(name) => fault(alloc, name.text()),
             Answer::Trace(text) => Bytes::copy(alloc, text.bytes()),
             Answer::Absent(text) => Bytes::copy(alloc, text.bytes()),
+            Answer::Checked(verdict, clauses, lines) => {
+                checked(alloc, *verdict, clauses.text(), lines.text())
+            }
         }
     }
 }
@@ -56,6 +63,15 @@ fn fault(alloc: Global, name: &str) -> Result<Bytes, AllocError>
     ensures { IfOk result (λ text. text ≡ fault_line name.now) }
 {
     let line = format!(in alloc; "fault read {name}\n")?;
+    Bytes::copy(alloc, line.as_bytes())
+}
+
+/// The line of a checked proof.
+fn checked(alloc: Global, verdict: Verdict, clauses: &str, lines: &str) -> Result<Bytes, AllocError>
+    ensures { IfOk result (λ text. text ≡ checked_line verdict clauses.now lines.now) }
+{
+    let mut line = message_of(alloc, verdict, clauses, lines)?;
+    line.push_str("\n")?;
     Bytes::copy(alloc, line.as_bytes())
 }
 

@@ -1,5 +1,4 @@
 // The answer is written by one call.
-ghost use Rattle.std.specs.Prelude.{◌≡◌};
 ghost use Rattle.als_command.specs.Run.{Delivered, Finished};
 
 use crate::Answer;

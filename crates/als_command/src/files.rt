@@ -1,5 +1,5 @@
 // A file is asked for as a whole.
-ghost use Rattle.std.specs.Prelude.{◌≡◌, ◌+◌, ◌<◌, ◌^◌, Ok, cond, nat_le, length};
+ghost use Rattle.std.specs.Prelude.{◌≡◌, ◌+◌, ◌<◌, ◌≤◌, ◌^◌, Ok, cond, nat_le, length};
 ghost use Rattle.alloy_base.specs.Causes.{NoneFell};
 ghost use Rattle.als_command.specs.Files.{IsFile, at_start};
 
@@ -27,6 +27,7 @@ pub fn whole_file<L: Libraries>(
     requires { most + 1 < 2 ^ 64 }
     ensures keeps { L.told libraries.new ≡ L.told libraries.old }
     ensures later { NoneFell (L.counts libraries.old) (L.counts libraries.new) }
+    ensures short { (text : _) → result ≡ Ok (File.Whole text) → length text.items ≤ most }
     ensures file { (file : _) → result ≡ Ok file → IsFile (L.told libraries.old) name.now most (L.counts libraries.old) (L.counts libraries.new) file }
 {
     match libraries.fetch_first(alloc, name, most + 1) {

@@ -229,6 +229,73 @@ fn failing_writes(rt: HostRuntime) -> Result<(), Fail> {
     Ok(())
 }
 
+const FOUR: &str = "p cnf 2 4\n1 2 0\n1 -2 0\n-1 2 0\n-1 -2 0\n";
+
+#[test]
+fn checked_proofs(rt: HostRuntime) -> Result<(), Fail> {
+    let alloc = rt.alloc();
+    let rows = [
+        (FOUR, "5 1 0 1 2 0\n6 0 5 3 4 0\n", 0, "refuted\n"),
+        (
+            FOUR,
+            "5 1 0 1 2 0\n6 0 5 3 3 0\n",
+            1,
+            "rejected L3 line 2\n",
+        ),
+        (FOUR, "5 1 0 1 2 0\n6 0 5 3", 3, "refused C13 p.lrat:2\n"),
+        (FOUR, "5 1 0 1 2 0\n", 1, "unfinished 1\n"),
+        ("p cnf 0 1\n0\n", "2 0 1 0\n", 0, "refuted\n"),
+        (FOUR, "", 1, "unfinished 0\n"),
+        (FOUR, "4 1 0 1 2 0\n", 1, "rejected L1 line 1\n"),
+        (
+            FOUR,
+            "5 1 0 1 2 0\n5 0 5 3 4 0\n",
+            1,
+            "rejected L1 line 2\n",
+        ),
+        (FOUR, "5 1 0 1 9 0\n", 1, "rejected L2 line 1\n"),
+        (
+            FOUR,
+            "5 1 0 1 2 0\n5 d 3 0\n6 0 5 3 4 0\n",
+            1,
+            "rejected L2 line 3\n",
+        ),
+        (FOUR, "5 1 0 1 0\n", 1, "rejected L4 line 1\n"),
+        (FOUR, "5 1 0 1 2 0\n5 d 1 1 0\n", 1, "rejected L5 line 2\n"),
+        (FOUR, "5 1 0 1 2 9 0\n", 1, "unfinished 1\n"),
+        (FOUR, "5 1 0 1 -2 0\n", 3, "refused C12 p.lrat:1\n"),
+        (FOUR, "5 1 x 0\n", 3, "refused C11 p.lrat:1\n"),
+        (FOUR, "5 1 0 1 2 0\n6 0 5 3 4 0\nx\n", 0, "refuted\n"),
+    ];
+    for (clauses, lines, status, bytes) in rows {
+        let files = [("f.cnf", clauses), ("p.lrat", lines)];
+        let line = "alloyc lrat f.cnf p.lrat";
+        assert!(rt;
+            gives(alloc, line, &plain(&files), status, bytes)?,
+            "{lines}"
+        );
+    }
+    Ok(())
+}
+
+#[test]
+fn clauses_that_cannot_be_read(rt: HostRuntime) -> Result<(), Fail> {
+    let alloc = rt.alloc();
+    let rows = [
+        ("p cnf 2\n", "refused C01 f.cnf:1\n"),
+        ("", "refused C01 f.cnf:1\n"),
+        ("p cnf 2 1\n1 3 0\n", "refused C02 f.cnf:2\n"),
+        ("p cnf 2 2\n1 2 0\n", "refused C03 f.cnf:2\n"),
+        ("p cnf 2 1\n1 2\n", "refused C04 f.cnf:2\n"),
+    ];
+    for (clauses, bytes) in rows {
+        let files = [("f.cnf", clauses), ("p.lrat", "5 1 0 1 2 0\n")];
+        let line = "alloyc lrat f.cnf p.lrat";
+        assert!(rt; gives(alloc, line, &plain(&files), 3, bytes)?, "{clauses}");
+    }
+    Ok(())
+}
+
 #[test]
 fn a_text_that_is_no_utf8(rt: HostRuntime) -> Result<(), Fail> {
     let alloc = rt.alloc();

@@ -1,9 +1,10 @@
 // The answer to the words: the work of each mode.
-ghost use Rattle.std.specs.Prelude.{◌≡◌, Ok, IfOk, map, string_bytes};
+ghost use Rattle.std.specs.Prelude.{◌≡◌, ◌≢◌, ◌≤◌, List, length, true, is_some, Some, Ok, IfOk, map, string_bytes};
 ghost use Rattle.alloy_base.specs.Causes.{NoneFell};
-ghost use Rattle.command_words.specs.Settings.{fitting};
+ghost use Rattle.command_words.specs.Settings.{fitting, has_second};
+ghost use Rattle.alloy_base.specs.Texts.{Texts, text_of};
 ghost use Rattle.als_command.specs.Files.{asked, at_start, second_asked};
-ghost use Rattle.als_command.specs.Run.{Justified, AllowsFiles, AllowsRun, IsOnTexts};
+ghost use Rattle.als_command.specs.Run.{Justified, AllowsFiles, AllowsRun, IsOnModel, IsOnProof};
 ghost use Rattle.std.specs.Prelude.{◌∷◌, []};
 ghost use Rattle.command_words.specs.declared.named.Mode.TheVariants.{Exec, Lrat};
 
@@ -13,6 +14,7 @@ use crate::small::{Decision, decide};
 use alloy_base::limits::{FILE_BYTES, MODULE_BYTES};
 use alloy_base::{Libraries, Name, Rule};
 use command_words::{Mode, Settings, fits, settings_of_words};
+use lrat_mode::{Verdict, check_texts};
 use std::alloc::{AllocError, Global};
 
 /// The answer to these words, where there are so many choosers.
@@ -38,7 +40,8 @@ fn fitting_settings(
     words: &[String],
     choosers: usize,
 ) -> Result<Option<Settings>, AllocError>
-    ensures { (settings : _) → result ≡ Ok settings → settings ≡ fitting choosers (map string_bytes words.now) }
+    ensures value { (settings : _) → result ≡ Ok settings → settings ≡ fitting choosers (map string_bytes words.now) }
+    ensures second { (settings : _) → result ≡ Ok (Some settings) → has_second settings ≡ true }
 {
     match settings_of_words(alloc, words)? {
         Some(settings) => {
@@ -58,6 +61,7 @@ fn work<L: Libraries>(
     settings: &Settings,
     libraries: &mut L,
 ) -> Result<Answer, AllocError>
+    requires { has_second settings.now ≡ true }
     ensures keeps { L.told libraries.new ≡ L.told libraries.old }
     ensures later { NoneFell (L.counts libraries.old) (L.counts libraries.new) }
     ensures allowed { (answer : _) → result ≡ Ok answer → AllowsRun settings.now (L.told libraries.old) (L.counts libraries.old) (L.counts libraries.new) answer }
@@ -75,7 +79,8 @@ fn model<L: Libraries>(
     settings: &Settings,
     libraries: &mut L,
 ) -> Result<Answer, AllocError>
-    requires { asked settings.now ≡ (settings.now.file, MODULE_BYTES) ∷ [] }
+    requires asks { asked settings.now ≡ (settings.now.file, MODULE_BYTES) ∷ [] }
+    requires mode { settings.now.mode ≢ Lrat }
     ensures keeps { L.told libraries.new ≡ L.told libraries.old }
     ensures later { NoneFell (L.counts libraries.old) (L.counts libraries.new) }
     ensures allowed { (answer : _) → result ≡ Ok answer → AllowsRun settings.now (L.told libraries.old) (L.counts libraries.old) (L.counts libraries.new) answer }
@@ -90,7 +95,8 @@ fn model<L: Libraries>(
 
 /// The answer of a run on the text of a model.
 fn on_model(alloc: Global, settings: &Settings, text: &[u8]) -> Result<Answer, AllocError>
-    ensures { IfOk result (λ answer. IsOnTexts settings.now answer) }
+    requires { settings.now.mode ≢ Lrat }
+    ensures { IfOk result (λ answer. IsOnModel settings.now answer) }
 {
     match settings.mode {
         Mode::Exec => search(alloc, settings, text),
@@ -101,7 +107,7 @@ fn on_model(alloc: Global, settings: &Settings, text: &[u8]) -> Result<Answer, A
 /// The answer of a search on the text of a model.
 fn search(alloc: Global, settings: &Settings, text: &[u8]) -> Result<Answer, AllocError>
     requires { settings.now.mode ≡ Exec }
-    ensures { IfOk result (λ answer. IsOnTexts settings.now answer) }
+    ensures { IfOk result (λ answer. IsOnModel settings.now answer) }
 {
     match decide(alloc, text)? {
         Decision::Trace(text) => Ok(Answer::Trace(text)),
@@ -116,7 +122,8 @@ fn refutation<L: Libraries>(
     settings: &Settings,
     libraries: &mut L,
 ) -> Result<Answer, AllocError>
-    requires { settings.now.mode ≡ Lrat }
+    requires mode { settings.now.mode ≡ Lrat }
+    requires second { is_some settings.now.second ≡ true }
     ensures keeps { L.told libraries.new ≡ L.told libraries.old }
     ensures later { NoneFell (L.counts libraries.old) (L.counts libraries.new) }
     ensures allowed { (answer : _) → result ≡ Ok answer → AllowsRun settings.now (L.told libraries.old) (L.counts libraries.old) (L.counts libraries.new) answer }
@@ -136,33 +143,52 @@ fn proof<L: Libraries>(
     clauses: &[u8],
     libraries: &mut L,
 ) -> Result<Answer, AllocError>
+    requires mode { settings.now.mode ≡ Lrat }
+    requires second { is_some settings.now.second ≡ true }
+    requires tells { (told : List Texts) → L.told libraries.old ≡ map Some told → text_of told settings.now.file ≡ Some clauses.now }
+    requires short { length clauses.now ≤ FILE_BYTES }
     ensures keeps { L.told libraries.new ≡ L.told libraries.old }
     ensures later { NoneFell (L.counts libraries.old) (L.counts libraries.new) }
     ensures allowed { (answer : _) → result ≡ Ok answer → AllowsFiles (second_asked settings.now.second) settings.now (L.told libraries.old) (L.counts libraries.old) (L.counts libraries.new) answer }
 {
-    match &settings.second {
-        None => unbuilt(alloc, settings),
-        Some(second) => {
-            let name = second.text();
-            match whole_file(alloc, libraries, name, FILE_BYTES)? {
-                File::Whole(lines) => on_proof(alloc, settings, clauses, &lines),
-                File::Broken(rule) => refused(alloc, rule, name),
-                File::Failed => read_fault(alloc, name),
-            }
-        }
+    let Some(second) = &settings.second else {
+        unreachable!();
+    };
+    let name = second.text();
+    match whole_file(alloc, libraries, name, FILE_BYTES)? {
+        File::Whole(lines) => on_proof(alloc, settings, name, clauses, &lines),
+        File::Broken(rule) => refused(alloc, rule, name),
+        File::Failed => read_fault(alloc, name),
     }
 }
 
-/// The answer on clauses and a proof.
+/// The answer on clauses and the lines of the file `second`.
 fn on_proof(
     alloc: Global,
     settings: &Settings,
-    _clauses: &[u8],
-    _lines: &[u8],
+    second: &str,
+    clauses: &[u8],
+    lines: &[u8],
 ) -> Result<Answer, AllocError>
-    ensures { IfOk result (λ answer. IsOnTexts settings.now answer) }
+    requires { length clauses.now ≤ FILE_BYTES }
+    ensures { IfOk result (λ answer. IsOnProof settings.now second.now clauses.now lines.now answer) }
 {
-    unbuilt(alloc, settings)
+    let verdict = check_texts(alloc, clauses, lines)?;
+    checked(alloc, verdict, settings.file.text(), second)
+}
+
+/// The answer of a verdict on these two files.
+fn checked(
+    alloc: Global,
+    verdict: Verdict,
+    clauses: &str,
+    lines: &str,
+) -> Result<Answer, AllocError>
+    ensures { IfOk result (λ answer. answer ≡ Answer.Checked verdict clauses.now lines.now) }
+{
+    let clauses = Name::copy(alloc, clauses)?;
+    let lines = Name::copy(alloc, lines)?;
+    Ok(Answer::Checked(verdict, clauses, lines))
 }
 
 /// What is asked for isn't built yet.

@@ -1,7 +1,7 @@
 use Rattle.std.proofs.Common.{◌+◌}
 use Rattle.alloy_base.specs.declared.library.Fetch.TheVariants.{Found, Absent}
 use Rattle.als_command.specs.Files.{IsFile}
-use Rattle.als_command.proofs.Fetched.{same_value, absent_rule, found_file}
+use Rattle.als_command.proofs.Fetched.{same_value, absent_rule, found_file, whole_length}
 use Rattle.als_command.proofs.files.whole_file.Goals as goal
 
 pub returns-in-Ok-Absent-clause-file : goal.returns-in-Ok-Absent-clause-file
@@ -21,3 +21,6 @@ returns-in-Ok-Found-clause-file g c file is =
     (λ told tells. c.fetch_first.ensures.answer told (Found c.in-Ok-Found.text) tells (cc (c.in-Ok-Found.is, c.in-Ok-Found.field-0-is)))
     c.within.result c.within.ensures
     )
+
+pub returns-in-Ok-Found-clause-short : goal.returns-in-Ok-Found-clause-short
+returns-in-Ok-Found-clause-short g c text is = whole_length c.in-Ok-Found.text text c.args.most (cc (is, c.within.ensures))

@@ -36,3 +36,9 @@ returns-clause-write_fault_always g c = ends.sink_fault_always _ _ _ _ _ _ c.fin
 
 pub returns-clause-status : goal.returns-clause-status
 returns-clause-status g c = let justified = rw c.len.ensures at c.answer_from_boxes-answered.ensures.allowed in ends.status _ _ _ _ _ _ _ _ _ _ justified c.finish.ensures
+
+pub returns-clause-checked : goal.returns-clause-checked
+returns-clause-checked g c = let justified = rw c.len.ensures at c.answer_from_boxes-answered.ensures.allowed in ends.checked _ _ _ _ _ _ _ _ _ _ justified c.finish.ensures
+
+pub returns-clause-checked_always : goal.returns-clause-checked_always
+returns-clause-checked_always g c = let justified = rw c.len.ensures at c.answer_from_boxes-answered.ensures.allowed in ends.checked_always _ _ _ _ _ _ _ _ _ _ justified c.finish.ensures

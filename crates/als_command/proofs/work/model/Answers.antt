@@ -7,18 +7,18 @@ use Rattle.als_command.proofs.work.model.Goals as goal
 
 pub returns-in-Whole-clause-allowed : goal.returns-in-Whole-clause-allowed
 returns-in-Whole-clause-allowed g c answer is =
-    let asks = c.requires ∙ ap (λ n. (n, MODULE_BYTES) ∷ []) (sym c.text-name.ensures) in
+    let asks = c.requires.asks ∙ ap (λ n. (n, MODULE_BYTES) ∷ []) (sym c.text-name.ensures) in
     whole_allows c.args.settings.now (g.L.Libraries.told c.args.libraries.now) (g.L.Libraries.counts c.args.libraries.now) (g.L.Libraries.counts c.whole_file.new.libraries)
     c.text-name.result.now MODULE_BYTES (asked c.args.settings.now) asks c.on_model.result answer is c.in-Whole.text (c.whole_file.ensures.file (Whole c.in-Whole.text) (cc (c.in_ok-text.was, c.in-Whole.is))) c.on_model.ensures
 
 pub returns-in-Broken-clause-allowed : goal.returns-in-Broken-clause-allowed
 returns-in-Broken-clause-allowed g c answer is =
-    let asks = c.requires ∙ ap (λ n. (n, MODULE_BYTES) ∷ []) (sym c.text-name.ensures) in
+    let asks = c.requires.asks ∙ ap (λ n. (n, MODULE_BYTES) ∷ []) (sym c.text-name.ensures) in
     broken_allows c.args.settings.now (g.L.Libraries.told c.args.libraries.now) (g.L.Libraries.counts c.args.libraries.now) (g.L.Libraries.counts c.whole_file.new.libraries)
     c.text-name.result.now MODULE_BYTES (asked c.args.settings.now) [] asks c.refused.result answer is c.in-Broken.rule (c.whole_file.ensures.file (Broken c.in-Broken.rule) (cc (c.in_ok-text.was, c.in-Broken.is))) c.refused.ensures
 
 pub returns-in-Failed-clause-allowed : goal.returns-in-Failed-clause-allowed
 returns-in-Failed-clause-allowed g c answer is =
-    let asks = c.requires ∙ ap (λ n. (n, MODULE_BYTES) ∷ []) (sym c.text-name.ensures) in
+    let asks = c.requires.asks ∙ ap (λ n. (n, MODULE_BYTES) ∷ []) (sym c.text-name.ensures) in
     failed_allows c.args.settings.now (g.L.Libraries.told c.args.libraries.now) (g.L.Libraries.counts c.args.libraries.now) (g.L.Libraries.counts c.whole_file.new.libraries)
     c.text-name.result.now MODULE_BYTES (asked c.args.settings.now) [] asks c.read_fault.result answer is (c.whole_file.ensures.file Failed (cc (c.in_ok-text.was, c.in-Failed.is))) c.read_fault.ensures
