@@ -1,0 +1,4 @@
+pub mod Symbols
+pub mod Longest
+pub mod Pieces
+pub mod Divided
