@@ -1,0 +1,7 @@
+//! Tests of the parsers on texts.
+#![tactic(auto)]
+
+#[cfg(test)]
+mod expressions;
+#[cfg(test)]
+mod modules;
