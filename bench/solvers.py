@@ -1,0 +1,194 @@
+#!/usr/bin/env python3
+"""Runs alloyc's search beside minisat and cadical on the same clauses, and writes a table in Markdown.
+
+usage: solvers.py DIMACS_SOLVE [--limit SECONDS] [--runs N] [--only WORD] [CNF ..]
+
+DIMACS_SOLVE is the built program of crates/dimacs_solve. minisat and cadical are looked for on the path (Debian has
+both). CNF files that are named are run behind the made ones. Each run is cut off behind the limit (60 seconds of its
+own processor time), and of several runs the least time counts.
+"""
+import argparse
+import os
+import random
+import re
+import resource
+import shutil
+import subprocess
+import sys
+import tempfile
+
+
+def pigeons(count, holes):
+    """Each pigeon sits in a hole, and no two in one."""
+    number = lambda pigeon, hole: pigeon * holes + hole + 1
+    clauses = [[number(p, h) for h in range(holes)] for p in range(count)]
+    for hole in range(holes):
+        for one in range(count):
+            for two in range(one + 1, count):
+                clauses.append([-number(one, hole), -number(two, hole)])
+    return count * holes, clauses
+
+
+def random_threes(variables, ratio, seed):
+    """Random clauses of three different variables."""
+    source = random.Random(seed)
+    clauses = []
+    for _ in range(round(variables * ratio)):
+        names = source.sample(range(1, variables + 1), 3)
+        clauses.append([name if source.random() < 0.5 else -name for name in names])
+    return variables, clauses
+
+
+def parity(length, seed, is_odd):
+    """Two chains of exclusive ors over the same variables in different orders, which agree or not."""
+    source = random.Random(seed)
+    order = list(range(1, length + 1))
+    count = length
+    clauses = []
+
+    def exclusive_or(a, b, c):
+        clauses.extend([[-a, -b, -c], [-a, b, c], [a, -b, c], [a, b, -c]])
+
+    ends = []
+    for _ in range(2):
+        source.shuffle(order)
+        last = order[0]
+        for name in order[1:]:
+            count += 1
+            exclusive_or(last, name, count)
+            last = count
+        ends.append(last)
+    clauses.append([ends[0]])
+    clauses.append([-ends[1] if is_odd else ends[1]])
+    return count, clauses
+
+
+def chain(length):
+    """Each variable forces the next, and the first is true."""
+    return length, [[-k, k + 1] for k in range(1, length)] + [[1]]
+
+
+def instances():
+    """The made clauses, by name."""
+    yield "pigeons 7 into 6", pigeons(7, 6)
+    yield "pigeons 8 into 7", pigeons(8, 7)
+    yield "pigeons 9 into 8", pigeons(9, 8)
+    for variables in (150, 200, 250):
+        for seed in range(3):
+            yield f"random {variables}, {seed}", random_threes(variables, 4.2, 1000 * variables + seed)
+    for length in (12, 16, 20):
+        yield f"parity {length}, odd", parity(length, length, True)
+    yield "parity 40, even", parity(40, 40, False)
+    yield "chain of 1,000,000", chain(1000000)
+
+
+def write_cnf(path, variables, clauses):
+    with open(path, "w") as out:
+        out.write(f"p cnf {variables} {len(clauses)}\n")
+        for clause in clauses:
+            out.write(" ".join(map(str, clause)) + " 0\n")
+
+
+def run_once(words, limit):
+    """The seconds in user code, the kilobytes and the text of a run; no seconds where it was cut off."""
+    with tempfile.TemporaryFile() as text:
+        child = subprocess.Popen(
+            words,
+            stdout=text,
+            stderr=subprocess.STDOUT,
+            preexec_fn=lambda: resource.setrlimit(resource.RLIMIT_CPU, (limit, limit)),
+        )
+        _, status, usage = os.wait4(child.pid, 0)
+        child.returncode = 0
+        if os.WIFSIGNALED(status):
+            return None, 0, ""
+        text.seek(0)
+        return usage.ru_utime, usage.ru_maxrss, text.read().decode(errors="replace")
+
+
+def run(words, limit, runs):
+    """The least of some runs; none of them is repeated where one was cut off."""
+    best = run_once(words, limit)
+    for _ in range(runs - 1):
+        if best[0] is None:
+            break
+        other = run_once(words, limit)
+        if other[0] is not None and other[0] < best[0]:
+            best = other
+    return best
+
+
+def number_in(text, pattern):
+    found = re.search(pattern, text)
+    return found.group(1) if found else "-"
+
+
+def verdict_in(text):
+    if "UNSATISFIABLE" in text:
+        return "no"
+    return "yes" if "SATISFIABLE" in text else "-"
+
+
+def seconds(value):
+    return "over" if value is None else f"{value:.2f}"
+
+
+def row(name, path, program, limit, runs):
+    """A row of the table: seconds, conflicts and memory of each solver."""
+    ours, ours_memory, ours_text = run([program, path], limit, runs)
+    cells = [name, verdict_in(ours_text), seconds(ours), number_in(ours_text, r"(\d+) lemmas"), f"{ours_memory // 1024}"]
+    other_time = None
+    verdicts = {verdict_in(ours_text)}
+    for solver, words, pattern in (
+        ("minisat", ["minisat", "-verb=1", path], r"conflicts\s*:\s*(\d+)"),
+        ("cadical", ["cadical", path], r"c conflicts:\s+(\d+)"),
+    ):
+        if not shutil.which(solver):
+            cells += ["-", "-", "-"]
+            continue
+        took, memory, text = run(words, limit, runs)
+        verdicts.add(verdict_in(text))
+        if solver == "minisat":
+            other_time = took
+        cells += [seconds(took), number_in(text, pattern), f"{memory // 1024}"]
+    ratio = "-"
+    if ours is not None and other_time is not None:
+        ratio = f"{ours / max(other_time, 0.01):.1f}"
+    cells.append(ratio)
+    if len(verdicts - {"-"}) > 1:
+        cells.append("THE VERDICTS DIFFER")
+    return "| " + " | ".join(cells) + " |"
+
+
+def processor():
+    """The kind of processor."""
+    with open("/proc/cpuinfo") as lines:
+        return number_in(lines.read(), r"model name\s*:\s*(.*)")
+
+
+def main():
+    words = argparse.ArgumentParser(description=__doc__, formatter_class=argparse.RawDescriptionHelpFormatter)
+    words.add_argument("program")
+    words.add_argument("--limit", type=int, default=60)
+    words.add_argument("--runs", type=int, default=3)
+    words.add_argument("--only", default="")
+    words.add_argument("files", nargs="*")
+    given = words.parse_args()
+    load = os.getloadavg()
+    print(f"Seconds in user code (the least of {given.runs} runs), conflicts or lemmas, megabytes.")
+    print(f"{processor()}, {os.cpu_count()} processors, load {load[0]:.1f}.\n")
+    print("| Clauses | Satisfiable | alloyc s | lemmas | MB | minisat s | conflicts | MB | cadical s | conflicts | MB | alloyc/minisat |")
+    print("|---|---|---|---|---|---|---|---|---|---|---|---|")
+    with tempfile.TemporaryDirectory() as folder:
+        for name, made in instances():
+            if given.only not in name:
+                continue
+            path = os.path.join(folder, "made.cnf")
+            write_cnf(path, *made)
+            print(row(name, path, given.program, given.limit, given.runs), flush=True)
+        for path in given.files:
+            print(row(os.path.basename(path), path, given.program, given.limit, given.runs), flush=True)
+
+
+if __name__ == "__main__":
+    sys.exit(main())
