@@ -11,7 +11,6 @@ import argparse
 import os
 import random
 import re
-import resource
 import shutil
 import subprocess
 import sys
@@ -90,20 +89,20 @@ def write_cnf(path, variables, clauses):
 
 
 def run_once(words, limit):
-    """The seconds in user code, the kilobytes and the text of a run; no seconds where it was cut off."""
-    with tempfile.TemporaryFile() as text:
-        child = subprocess.Popen(
-            words,
-            stdout=text,
-            stderr=subprocess.STDOUT,
-            preexec_fn=lambda: resource.setrlimit(resource.RLIMIT_CPU, (limit, limit)),
-        )
-        _, status, usage = os.wait4(child.pid, 0)
-        child.returncode = 0
-        if os.WIFSIGNALED(status):
+    """The seconds in user code, the kilobytes and the text of a run; no seconds where it was cut off.
+
+    GNU time starts the program, so that the kilobytes are those of the program and not of this script.
+    """
+    with tempfile.TemporaryDirectory() as folder:
+        told = os.path.join(folder, "time")
+        timed = ["time", "-o", told, "-f", "%U %M", *words]
+        limited = ["sh", "-c", 'ulimit -t "$1"; shift; exec "$@"', "sh", str(limit), *timed]
+        child = subprocess.run(limited, stdout=subprocess.PIPE, stderr=subprocess.STDOUT)
+        with open(told) as lines:
+            last = lines.read().split("\n")[-2].split()
+        if child.returncode not in (0, 10, 20):
             return None, 0, ""
-        text.seek(0)
-        return usage.ru_utime, usage.ru_maxrss, text.read().decode(errors="replace")
+        return float(last[0]), int(last[1]), child.stdout.decode(errors="replace")
 
 
 def run(words, limit, runs):
