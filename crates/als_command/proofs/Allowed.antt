@@ -12,27 +12,29 @@ use Rattle.command_words.specs.Named.{takes_second}
 use Rattle.command_words.specs.Settings.{has_second}
 use Rattle.command_words.specs.declared.settings.Settings.{Settings}
 use Rattle.als_command.specs.Files.{Asked, IsFile, asked, asked_in, second_asked, at_start, file_rule, first_broken, first_of}
-use Rattle.als_command.specs.Run.{AllowsFiles, IsOnModel, IsOnProof, IsCheckedIn, RefusedFor}
+use Rattle.als_command.specs.Run.{AllowsFiles, IsOnModel, IsOnProof, IsCheckedIn, RefusedFor, RefusedOn, model_in, model_of}
+use Rattle.als_command.specs.Root.{SpellsModule}
 use Rattle.als_command.specs.declared.answer.Answer.{Answer}
 use Rattle.als_command.specs.declared.answer.Answer.TheVariants.{Usage, Refused, ReadFault, Trace, Absent, Checked}
 use Rattle.als_command.specs.declared.files.File.TheVariants.{Whole, Broken}
 
 module _ (settings : Settings) (held : List (Option Texts)) (before now : List ℕ) where
-  -- an answer on texts that are all whole
-  pub on_model : (a : Answer) → now ≡ before → IsOnModel settings a → AllowsFiles [] settings held before now a
-  on_model Usage same h = absurd h
-  on_model (Refused refusal name) same h = (same, λ told tells. h)
-  on_model (ReadFault name) same h = absurd h
-  on_model (Trace text) same h = (same, record { mode = h; whole = λ told tells. refl })
-  on_model (Absent text) same h = (same, record { mode = h; whole = λ told tells. refl })
-  on_model (Checked verdict clauses lines) same h = absurd h
+  -- an answer on the text of a model, once all files are whole
+  pub on_model : (text : List ℕ) → ((told : List Texts) → held ≡ map (λ t. Some t) told → model_of told settings ≡ Some text) → (a : Answer) → now ≡ before →
+      IsOnModel settings text a → AllowsFiles [] settings held before now a
+  on_model text is Usage same h = absurd h
+  on_model text is (Refused refusal name) same h = (same, λ told tells. (subst (λ o. RefusedOn o refusal) (sym (is told tells)) h.0, h.1, h.2))
+  on_model text is (ReadFault name) same h = absurd h
+  on_model text is (Trace bytes) same h = (same, record { mode = h.0; whole = λ told tells. refl; spells = λ told tells. subst (λ o. SpellsModule o) (sym (is told tells)) h.1 })
+  on_model text is (Absent bytes) same h = (same, record { mode = h.0; whole = λ told tells. refl; spells = λ told tells. subst (λ o. SpellsModule o) (sym (is told tells)) h.1 })
+  on_model text is (Checked verdict clauses lines) same h = absurd h
 
   -- a file that breaks a rule as a whole is refused
   pub on_broken : (name : List ℕ) (most : ℕ) (files : List Asked) (rule : Rule) → IsFile held name most before now (Broken rule) →
       AllowsFiles ((name, most) ∷ files) settings held before now (Refused (at_start rule) name)
   on_broken name most files rule h = (
     h.0,
-    λ told tells. subst (λ o. RefusedFor (first_of o name (first_broken told files)) settings (at_start rule) name) (sym (h.1 told tells)) (refl, refl),
+    λ told tells. subst (λ o. RefusedFor (first_of o name (first_broken told files)) (model_of told settings) settings (at_start rule) name) (sym (h.1 told tells)) (refl, refl),
   )
 
   pub on_failed : (name : List ℕ) (most : ℕ) (files : List Asked) → SomeRose before now → AllowsFiles ((name, most) ∷ files) settings held before now (ReadFault name)
@@ -44,16 +46,16 @@ module _ (settings : Settings) (held : List (Option Texts)) (before now : List �
   on_whole name most files Usage whole h = absurd h
   on_whole name most files (Refused refusal n) whole h = (
     h.0,
-    λ told tells. subst (λ o. RefusedFor (first_of o name (first_broken told files)) settings refusal n) (sym (whole told tells)) (h.1 told tells),
+    λ told tells. subst (λ o. RefusedFor (first_of o name (first_broken told files)) (model_of told settings) settings refusal n) (sym (whole told tells)) (h.1 told tells),
   )
   on_whole name most files (ReadFault n) whole h = (inr h.0, h.1)
   on_whole name most files (Trace text) whole h = (
     h.0,
-    record { mode = h.1.mode; whole = λ told tells. ap (λ o. first_of o name (first_broken told files)) (whole told tells) ∙ h.1.whole told tells },
+    record { mode = h.1.mode; whole = λ told tells. ap (λ o. first_of o name (first_broken told files)) (whole told tells) ∙ h.1.whole told tells; spells = h.1.spells },
   )
   on_whole name most files (Absent text) whole h = (
     h.0,
-    record { mode = h.1.mode; whole = λ told tells. ap (λ o. first_of o name (first_broken told files)) (whole told tells) ∙ h.1.whole told tells },
+    record { mode = h.1.mode; whole = λ told tells. ap (λ o. first_of o name (first_broken told files)) (whole told tells) ∙ h.1.whole told tells; spells = h.1.spells },
   )
   on_whole name most files (Checked verdict clauses lines) whole h = (
     h.0,
@@ -102,13 +104,27 @@ module _ (settings : Settings) (held : List (Option Texts)) (before now : List �
       subst (λ fs. AllowsFiles fs settings held before now answer) (sym asks)
       (subst (λ a. AllowsFiles ((name, most) ∷ rest) settings held before now a) (sym fault) (on_failed settings held before now name most rest rose))
 
--- the last file is whole, and the answer is one on the texts
-pub whole_allows : (settings : Settings) (held : List (Option Texts)) (before now : List ℕ) (name : List ℕ) (most : ℕ) (files : List Asked) → files ≡ (name, most) ∷ [] →
-    (r : Result Answer AllocError) (answer : Answer) → r ≡ Ok answer → (text : Vec ℕ Global) → IsFile held name most before now (Whole text) → IfOk r (IsOnModel settings) →
-    AllowsFiles files settings held before now answer
-whole_allows settings held before now name most files asks r answer is text file on =
+-- a mode that asks for one model reads it
+model_in_one : (m : Mode) (file : List ℕ) (second : Option (List ℕ)) → asked_in m file second ≡ (file, MODULE_BYTES) ∷ [] → m ≢ Lrat → (text : Option (List ℕ)) → model_in m text ≡ text
+model_in_one Exec file second asks lrat text = refl
+model_in_one Commands file second asks lrat text = refl
+model_in_one Lrat file second asks lrat text = absurd (lrat refl)
+model_in_one Make file second asks lrat text = cc
+model_in_one Replay file second asks lrat text = refl
+model_in_one Eval file second asks lrat text = refl
+model_in_one Least file second asks lrat text = refl
+model_in_one Core file second asks lrat text = refl
+
+-- the model is whole, and the answer is one on its text
+pub whole_allows : (settings : Settings) (held : List (Option Texts)) (before now : List ℕ) → asked settings ≡ (settings.file, MODULE_BYTES) ∷ [] → settings.mode ≢ Lrat →
+    (r : Result Answer AllocError) (answer : Answer) → r ≡ Ok answer → (text : Vec ℕ Global) → IsFile held settings.file MODULE_BYTES before now (Whole text) → IfOk r (IsOnModel settings text.items) →
+    AllowsFiles (asked settings) settings held before now answer
+whole_allows settings held before now asks lrat r answer is text file on =
+    let reads : (told : List Texts) → held ≡ map (λ t. Some t) told → model_of told settings ≡ Some text.items =
+    λ told tells. model_in_one settings.mode settings.file settings.second asks lrat (texts.text_of told settings.file) ∙ (file.1 told tells).0 in
     subst (λ fs. AllowsFiles fs settings held before now answer) (sym asks)
-    (on_whole settings held before now name most [] answer (λ told tells. (file.1 told tells).1) (on_model settings held before now answer file.0 (if_ok (IsOnModel settings) r answer on is)))
+    (on_whole settings held before now settings.file MODULE_BYTES [] answer (λ told tells. (file.1 told tells).1)
+    (on_model settings held before now text.items reads answer file.0 (if_ok (IsOnModel settings text.items) r answer on is)))
 
 -- a file is whole, and the answer is one that the others allow
 pub then_allows : (settings : Settings) (held later : List (Option Texts)) (before mid now : List ℕ) (name : List ℕ) (most : ℕ) (files rest : List Asked) → files ≡ (name, most) ∷ rest →

@@ -1,5 +1,5 @@
 -- How a run ends, status by status.
-use Rattle.std.proofs.Common.{◌≡◌, ◌≢◌, ◌⊎◌, ℕ, List, [], Option, Some, None, Result, refl, sym, ap, ◌∙◌, subst, inl, inr, arith, map, append-nil}
+use Rattle.std.proofs.Common.{◌≡◌, ◌≢◌, ◌⊎◌, ℕ, List, [], Option, Some, None, Result, Err, refl, sym, ap, ◌∙◌, subst, inl, inr, arith, map, append-nil}
 use Rattle.std.specs.declared.alloc.AllocError.{AllocError}
 use Rattle.alloy_base.specs.Causes.{Rose}
 use Rattle.alloy_base.specs.Texts as texts
@@ -11,7 +11,11 @@ use Rattle.lrat_mode.specs.declared.mode.Verdict.{Verdict}
 use Rattle.lrat_mode.specs.declared.mode.Verdict.TheVariants as says
 use Rattle.als_command.specs.Answer.{text_of, status_of, usage_line}
 use Rattle.als_command.specs.Files.{asked, first_broken}
-use Rattle.als_command.specs.Run.{Allows, Written, written, no_memory, write_fault, Finished, delivered, gave_up, Justified, Refuses, Checks, FailsToRead, FailsToWrite, Searches, IsStatus, IsProofOf, IsCheckedIn, RefusedFor}
+use Rattle.als_command.specs.Run.{Allows, Written, written, no_memory, write_fault, Finished, delivered, gave_up, Justified, Refuses, Checks, FailsToRead, FailsToWrite, Searches, IsStatus, IsProofOf, IsCheckedIn, RefusedFor, model_in, model_of}
+use Rattle.als_command.specs.Root.{SpellsModule, ReadsAs}
+use Rattle.als_lexer.specs.Tokens.{tokens_of}
+use Rattle.alloy_base.specs.declared.place.Refusal.{Refusal}
+use Rattle.command_words.specs.declared.named.Mode.TheVariants.{Lrat}
 use Rattle.verdict_laws.proofs.Verdicts.{one_verdict}
 use Rattle.als_command.specs.declared.answer.Answer.{Answer}
 use Rattle.als_command.specs.declared.answer.Answer.TheVariants.{Usage, Refused, ReadFault, Trace, Absent, Checked}
@@ -135,7 +139,7 @@ module _ (given : Option Settings) (held : List (Option Texts)) (before now : Li
       IsProofOf told settings name clauses lines verdict → (status_of a ≡ lrat.status_of verdict) ⊎ (status_of a ≡ 4)
   proof_given settings Usage told name clauses lines verdict allows tells is = absurd allows
   proof_given settings (Refused refusal n) told name clauses lines verdict allows tells is =
-      let why : RefusedFor None settings refusal n = subst (λ o. RefusedFor o settings refusal n) is.whole (allows.1 told tells) in
+      let why : RefusedFor None (model_of told settings) settings refusal n = subst (λ o. RefusedFor o (model_of told settings) settings refusal n) is.whole (allows.1 told tells) in
       absurd (why.2 is.mode)
   proof_given settings (ReadFault n) told name clauses lines verdict allows tells is = inr refl
   proof_given settings (Trace text) told name clauses lines verdict allows tells is = cc (allows.1.mode, is.mode)
@@ -188,6 +192,31 @@ module _ (given : Option Settings) (held : List (Option Texts)) (before now : Li
   broken_given settings (Trace text) told broken allows tells breaks = cc (allows.1.whole told tells, breaks)
   broken_given settings (Absent text) told broken allows tells breaks = cc (allows.1.whole told tells, breaks)
   broken_given settings (Checked v clauses lines) told broken allows tells breaks = cc (allows.1.whole told tells, breaks)
+
+  -- a text that can't be cut into tokens spells no module
+  uncut : (model : Option (List ℕ)) (text : List ℕ) (refusal : Refusal) → model ≡ Some text → tokens_of 0 text ≡ Err refusal → SpellsModule model → ⊥
+  uncut None text refusal is cut spells = cc
+  uncut (Some bytes) text refusal is cut spells =
+      let same : bytes ≡ text = cc in
+      let on : SpellsModule (Some text) = subst (λ b. SpellsModule (Some b)) same spells in
+      let no : None ≡ Some refusal = subst (λ ts. ReadsAs ts None) cut on in
+      cc
+
+  -- a run that checks a proof reads no model
+  no_model : (settings : Settings) (told : List Texts) (text : List ℕ) → settings.mode ≡ Lrat → model_of told settings ≡ Some text → ⊥
+  no_model settings told text mode is =
+      let none : model_of told settings ≡ None = ap (λ m. model_in m (texts.text_of told settings.file)) mode in
+      cc
+
+  -- where the model can't be cut into tokens, the answer is a refusal or a library's fault
+  uncut_given : (settings : Settings) (a : Answer) (told : List Texts) (text : List ℕ) (refusal : Refusal) → Allows (Some settings) held before now a → held ≡ map (λ t. Some t) told →
+      model_of told settings ≡ Some text → tokens_of 0 text ≡ Err refusal → (status_of a ≡ 3) ⊎ (status_of a ≡ 4)
+  uncut_given settings Usage told text refusal allows tells is cut = absurd allows
+  uncut_given settings (Refused r name) told text refusal allows tells is cut = inl refl
+  uncut_given settings (ReadFault name) told text refusal allows tells is cut = inr refl
+  uncut_given settings (Trace bytes) told text refusal allows tells is cut = absurd (uncut (model_of told settings) text refusal is cut (allows.1.spells told tells))
+  uncut_given settings (Absent bytes) told text refusal allows tells is cut = absurd (uncut (model_of told settings) text refusal is cut (allows.1.spells told tells))
+  uncut_given settings (Checked v clauses lines) told text refusal allows tells is cut = absurd (no_model settings told text allows.1.mode is)
 
   -- where a count has changed, the answer is a library's fault
   risen_given : (o : Option Settings) (a : Answer) → Allows o held before now a → now ≢ before → status_of a ≡ 4
@@ -261,6 +290,14 @@ module _ (given : Option Settings) (held : List (Option Texts)) (before now : Li
         given ≡ Some settings → held ≡ map (λ t. Some t) told → first_broken told (asked settings) ≡ Some broken → (s ≡ 3) ⊎ (s ≡ 4) ⊎ (s ≡ 5) ⊎ (s ≡ 6)
     refused_always r justified finished settings told broken fit tells breaks =
         elim (ends (λ n. (n ≡ 3) ⊎ (n ≡ 4)) r justified finished (λ a allows. broken_given settings a told broken (subst (λ o. Allows o held before now a) fit allows) tells breaks)) [
+          | inl either ↦ elim either [ inl three ↦ inl three | inr four ↦ inr (inl four) ]
+          | inr rest ↦ elim rest [ inl five ↦ inr (inr (inl five)) | inr six ↦ inr (inr (inr six)) ]
+        ]
+
+    pub uncut_always : (r : Result Answer AllocError) → Justified given held before now r → Finished r old new f g s → (settings : Settings) (told : List Texts) (text : List ℕ) (refusal : Refusal) →
+        given ≡ Some settings → held ≡ map (λ t. Some t) told → model_of told settings ≡ Some text → tokens_of 0 text ≡ Err refusal → (s ≡ 3) ⊎ (s ≡ 4) ⊎ (s ≡ 5) ⊎ (s ≡ 6)
+    uncut_always r justified finished settings told text refusal fit tells is cut =
+        elim (ends (λ n. (n ≡ 3) ⊎ (n ≡ 4)) r justified finished (λ a allows. uncut_given settings a told text refusal (subst (λ o. Allows o held before now a) fit allows) tells is cut)) [
           | inl either ↦ elim either [ inl three ↦ inl three | inr four ↦ inr (inl four) ]
           | inr rest ↦ elim rest [ inl five ↦ inr (inr (inl five)) | inr six ↦ inr (inr (inr six)) ]
         ]

@@ -7,7 +7,8 @@ use Rattle.alloy_base.specs.Texts.{Texts}
 use Rattle.alloy_base.specs.declared.place.Refusal.{Refusal}
 use Rattle.alloy_base.specs.declared.place.Rule.{Rule}
 use Rattle.alloy_base.specs.declared.place.Rule.TheVariants.{NotBuilt}
-use Rattle.command_words.specs.declared.named.Mode.TheVariants.{Exec, Lrat}
+use Rattle.command_words.specs.declared.named.Mode.{Mode}
+use Rattle.command_words.specs.declared.named.Mode.TheVariants.{Exec, Make, Lrat}
 use Rattle.command_words.specs.declared.settings.Settings.{Settings}
 use Rattle.cnf_form.specs.Text.{formula_of}
 use Rattle.lrat_mode.specs.Mode as lrat
@@ -15,24 +16,41 @@ use Rattle.lrat_mode.specs.declared.mode.Verdict.{Verdict}
 use Rattle.lrat_mode.specs.declared.mode.Verdict.TheVariants as says
 use Rattle.als_command.specs.Answer.{text_of, status_of, refused_line, fault_line, checked_line}
 use Rattle.als_command.specs.Files.{Asked, IsAsked, asked, at_start, first_broken}
+use Rattle.als_command.specs.Root.{SpellsModule, Breaks}
 use Rattle.als_command.specs.declared.answer.Answer.{Answer}
 use Rattle.als_command.specs.declared.answer.Answer.TheVariants.{Usage, Refused, ReadFault, Trace, Absent, Checked}
 
+-- the text of the model that a mode reads, if it reads one
+abbrev pub model_in : Mode → Option (List ℕ) → Option (List ℕ)
+model_in Make text = None
+model_in Lrat text = None
+model_in _ text = text
+
+abbrev pub model_of : List Texts → Settings → Option (List ℕ)
+model_of told settings = model_in settings.mode (texts.text_of told settings.file)
+
+-- why a run on this model, if there is one, refuses its text: the text breaks a rule; or it spells a module, and what is asked
+-- for isn't built yet
+abbrev pub RefusedOn : Option (List ℕ) → Refusal → Type 0
+RefusedOn None refusal = refusal ≡ at_start NotBuilt
+RefusedOn (Some text) refusal = Breaks (Some text) refusal ⊎ ((refusal ≡ at_start NotBuilt) × SpellsModule (Some text))
+
 -- why a run with these settings refuses a text: a file that it asks for breaks a rule as a whole, and it is the first of them;
--- or all are whole, and what is asked for isn't built yet
-abbrev pub RefusedFor : Option (Rule × List ℕ) → Settings → Refusal → List ℕ → Type 0
-RefusedFor (Some broken) settings refusal name = (refusal ≡ at_start broken.0) × (name ≡ broken.1)
-RefusedFor None settings refusal name = (refusal ≡ at_start NotBuilt) × (name ≡ settings.file) × (settings.mode ≢ Lrat)
+-- or all are whole, and the run on the model refuses it
+abbrev pub RefusedFor : Option (Rule × List ℕ) → Option (List ℕ) → Settings → Refusal → List ℕ → Type 0
+RefusedFor (Some broken) model settings refusal name = (refusal ≡ at_start broken.0) × (name ≡ broken.1)
+RefusedFor None model settings refusal name = RefusedOn model refusal × (name ≡ settings.file) × (settings.mode ≢ Lrat)
 
 -- a run that asks for these files refuses this text, where the libraries tell what they hold
 abbrev pub IsRefused : List (Option Texts) → List Asked → Settings → Refusal → List ℕ → Type 0
 IsRefused held files settings refusal name =
-    (told : List Texts) → held ≡ map (λ t. Some t) told → RefusedFor (first_broken told files) settings refusal name
+    (told : List Texts) → held ≡ map (λ t. Some t) told → RefusedFor (first_broken told files) (model_of told settings) settings refusal name
 
--- the run searches, and none of the files that it asks for breaks a rule as a whole
+-- the run searches, none of the files that it asks for breaks a rule as a whole, and its model is a module
 pub record IsSearched (held : List (Option Texts)) (files : List Asked) (settings : Settings) : Type 0 where
   pub mode : settings.mode ≡ Exec
   pub whole : (told : List Texts) → held ≡ map (λ t. Some t) told → first_broken told files ≡ None
+  pub spells : (told : List Texts) → held ≡ map (λ t. Some t) told → SpellsModule (model_of told settings)
 
 -- what the lines of a text come to for the clauses of another; where they refute, no assignment satisfies the clauses
 pub record IsChecked (clauses lines : List ℕ) (verdict : Verdict) : Type 0 where
@@ -76,13 +94,13 @@ abbrev pub AllowsRun : Settings → List (Option Texts) → List ℕ → List �
 AllowsRun settings held before now answer = AllowsFiles (asked settings) settings held before now answer
 
 -- an answer on the text of a model
-abbrev pub IsOnModel : Settings → Answer → Type 0
-IsOnModel settings Usage = ⊥
-IsOnModel settings (Refused refusal name) = (refusal ≡ at_start NotBuilt) × (name ≡ settings.file) × (settings.mode ≢ Lrat)
-IsOnModel settings (ReadFault name) = ⊥
-IsOnModel settings (Trace text) = settings.mode ≡ Exec
-IsOnModel settings (Absent text) = settings.mode ≡ Exec
-IsOnModel settings (Checked verdict clauses lines) = ⊥
+abbrev pub IsOnModel : Settings → List ℕ → Answer → Type 0
+IsOnModel settings text Usage = ⊥
+IsOnModel settings text (Refused refusal name) = RefusedOn (Some text) refusal × (name ≡ settings.file) × (settings.mode ≢ Lrat)
+IsOnModel settings text (ReadFault name) = ⊥
+IsOnModel settings text (Trace bytes) = (settings.mode ≡ Exec) × SpellsModule (Some text)
+IsOnModel settings text (Absent bytes) = (settings.mode ≡ Exec) × SpellsModule (Some text)
+IsOnModel settings text (Checked verdict clauses lines) = ⊥
 
 -- the answer on clauses and the lines of the file `second`
 pub record IsOnProof (settings : Settings) (second clauses lines : List ℕ) (answer : Answer) : Type 0 where

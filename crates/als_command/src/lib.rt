@@ -7,6 +7,7 @@
 mod answer;
 mod deliver;
 mod files;
+mod root;
 mod run;
 mod shelves;
 mod small;

@@ -1,15 +1,17 @@
 // The top call.
-ghost use Rattle.std.specs.Prelude.{◌≡◌, ◌≢◌, ◌⊎◌, ℕ, List, map, string_bytes, vec_len, Some, None};
+ghost use Rattle.std.specs.Prelude.{◌≡◌, ◌≢◌, ◌⊎◌, ℕ, List, map, string_bytes, vec_len, Some, None, Err};
 ghost use Rattle.alloy_base.specs.Causes.{NoneFell, Rose};
 ghost use Rattle.alloy_base.specs.Texts.{Texts};
+ghost use Rattle.alloy_base.specs.declared.place.Refusal.{Refusal};
 ghost use Rattle.alloy_base.specs.declared.place.Rule.{Rule};
+ghost use Rattle.als_lexer.specs.Tokens.{tokens_of};
 ghost use Rattle.command_words.specs.Settings.{fitting};
 ghost use Rattle.lrat_mode.specs.Mode as lrat;
 ghost use Rattle.lrat_mode.specs.declared.mode.Verdict.{Verdict};
 ghost use Rattle.command_words.specs.declared.settings.Settings.{Settings};
 ghost use Rattle.als_command.specs.Answer.{usage_line};
 ghost use Rattle.als_command.specs.Files.{asked, first_broken};
-ghost use Rattle.als_command.specs.Run.{Justified, Written, Refuses, Checks, FailsToRead, FailsToWrite, Searches, IsProofOf, IsStatus};
+ghost use Rattle.als_command.specs.Run.{model_of, Justified, Written, Refuses, Checks, FailsToRead, FailsToWrite, Searches, IsProofOf, IsStatus};
 
 use crate::Answer;
 use crate::deliver::finish;
@@ -43,15 +45,18 @@ pub fn run_words<S: Sink>(
     ensures checked { (result ≡ 0) ⊎ (result ≡ 1) → Checks (fitting (vec_len choosers) (map string_bytes words.now)) (map holds libraries.old.items) (S.got out.old) (S.got out.new) result }
     ensures checked_always { (settings : Settings) (told : List Texts) (second clauses lines : List ℕ) (verdict : Verdict) → fitting (vec_len choosers) (map string_bytes words.now) ≡ Some settings → map holds libraries.old.items ≡ map Some told → IsProofOf told settings second clauses lines verdict → (result ≡ lrat.status_of verdict) ⊎ (result ≡ 4) ⊎ (result ≡ 5) ⊎ (result ≡ 6) }
 
-    // 3: a text breaks a rule, and its line was written. Where a file is absent or too large, it is the line of the first.
+    // 3: a text breaks a rule, and its line was written. Where a file is absent or too large, it is the line of the first;
+    // and else, where the text of the model that the mode reads can't be cut into tokens, it is the line of its first break.
     ensures refused { result ≡ 3 → Refuses (fitting (vec_len choosers) (map string_bytes words.now)) (map holds libraries.old.items) (S.got out.old) (S.got out.new) ⊎ Checks (fitting (vec_len choosers) (map string_bytes words.now)) (map holds libraries.old.items) (S.got out.old) (S.got out.new) 3 }
     ensures refused_always { (settings : Settings) (told : List Texts) (broken : Rule × List ℕ) → fitting (vec_len choosers) (map string_bytes words.now) ≡ Some settings → map holds libraries.old.items ≡ map Some told → first_broken told (asked settings) ≡ Some broken → (result ≡ 3) ⊎ (result ≡ 4) ⊎ (result ≡ 5) ⊎ (result ≡ 6) }
+
+    ensures uncut_always { (settings : Settings) (told : List Texts) (text : List ℕ) (refusal : Refusal) → fitting (vec_len choosers) (map string_bytes words.now) ≡ Some settings → map holds libraries.old.items ≡ map Some told → model_of told settings ≡ Some text → tokens_of 0 text ≡ Err refusal → (result ≡ 3) ⊎ (result ≡ 4) ⊎ (result ≡ 5) ⊎ (result ≡ 6) }
 
     // 4: a library failed in this call, and the line says at which file.
     ensures read_fault { result ≡ 4 → FailsToRead (fitting (vec_len choosers) (map string_bytes words.now)) (map faults libraries.old.items) (map faults libraries.new.items) (S.got out.old) (S.got out.new) }
     ensures read_fault_always { map faults libraries.new.items ≢ map faults libraries.old.items → (result ≡ 4) ⊎ (result ≡ 5) ⊎ (result ≡ 6) }
 
-    // 10 and 20: the words ask for a search, and no file breaks a rule as a whole.
+    // 10 and 20: the words ask for a search, and no file breaks a rule as a whole, and the text of the model spells a module.
     ensures trace { result ≡ 10 → Searches (fitting (vec_len choosers) (map string_bytes words.now)) (map holds libraries.old.items) }
     ensures absent { result ≡ 20 → Searches (fitting (vec_len choosers) (map string_bytes words.now)) (map holds libraries.old.items) }
 

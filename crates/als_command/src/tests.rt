@@ -104,10 +104,8 @@ fn small_models(rt: HostRuntime) -> Result<(), Fail> {
             20,
             "none states 1\n",
         ),
-        ("sig A {}\nrun { some A and }\n", 3, unbuilt),
         ("sig A {}\nrun { some B }\n", 3, unbuilt),
         ("sig A {}\nsig A {}\nrun {}\n", 3, unbuilt),
-        ("sig set {}\nrun {}\n", 3, unbuilt),
         ("run {} for 9\n", 3, unbuilt),
         ("sig A {}\n", 3, unbuilt),
         ("", 3, unbuilt),
@@ -117,6 +115,42 @@ fn small_models(rt: HostRuntime) -> Result<(), Fail> {
         let right = gives(alloc, "alloyc exec m.als", &plain(&files), status, bytes)?;
         assert!(rt; right, "{text}");
     }
+    Ok(())
+}
+
+#[test]
+fn texts_that_spell_no_module(rt: HostRuntime) -> Result<(), Fail> {
+    let alloc = rt.alloc();
+    let rows = [
+        ("sig A {}\n  ?\n", "refused S01 m.als:2:3\n"),
+        ("sig A { \"\\\" }", "refused S01 m.als:1:9\n"),
+        ("sig { } /* }", "refused S02 m.als:1:9\n"),
+        ("run {} for 1234567890", "refused S03 m.als:1:12\n"),
+        ("sig A {}\nrun { some A and }\n", "refused S10 m.als:2:18\n"),
+        ("sig set {}\nrun {}\n", "refused S10 m.als:1:5\n"),
+        ("sig A {", "refused S10 m.als:1:8\n"),
+    ];
+    for (text, bytes) in rows {
+        let files = [("m.als", text)];
+        let right = gives(alloc, "alloyc exec m.als", &plain(&files), 3, bytes)?;
+        assert!(rt; right, "{text}");
+    }
+    Ok(())
+}
+
+#[test]
+fn a_tree_that_is_too_deep(rt: HostRuntime) -> Result<(), Fail> {
+    let alloc = rt.alloc();
+    let mut text = String::from_str(alloc, "(")?;
+    for _ in 0..8 {
+        let half = String::from_str(alloc, text.as_str())?;
+        text.push_str(half.as_str())?;
+    }
+    let parens = text.as_str();
+    let text = format!(in alloc; "run {{{parens}")?;
+    let files = [("m.als", text.as_str())];
+    let deep = "refused S11 m.als:1:255\n";
+    assert!(rt; gives(alloc, "alloyc commands m.als", &plain(&files), 3, deep)?);
     Ok(())
 }
 
@@ -308,6 +342,6 @@ fn a_text_that_is_no_utf8(rt: HostRuntime) -> Result<(), Fail> {
     let words = words(alloc, "alloyc exec m.als")?;
     let status = run_words(alloc, &words, &mut libraries, choosers(alloc)?, &mut out);
     assert_eq!(rt; status, 3);
-    assert_eq!(rt; out.got(), b"refused S00 m.als:1:1\n".as_slice());
+    assert_eq!(rt; out.got(), b"refused S01 m.als:1:1\n".as_slice());
     Ok(())
 }

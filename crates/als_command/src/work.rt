@@ -4,15 +4,17 @@ ghost use Rattle.alloy_base.specs.Causes.{NoneFell};
 ghost use Rattle.command_words.specs.Settings.{fitting, has_second};
 ghost use Rattle.alloy_base.specs.Texts.{Texts, text_of};
 ghost use Rattle.als_command.specs.Files.{asked, at_start, second_asked};
+ghost use Rattle.als_command.specs.Root.{SpellsModule};
 ghost use Rattle.als_command.specs.Run.{Justified, AllowsFiles, AllowsRun, IsOnModel, IsOnProof};
 ghost use Rattle.std.specs.Prelude.{◌∷◌, []};
 ghost use Rattle.command_words.specs.declared.named.Mode.TheVariants.{Exec, Lrat};
 
 use crate::Answer;
 use crate::files::{File, at_start, whole_file};
+use crate::root::refusal_of;
 use crate::small::{Decision, decide};
 use alloy_base::limits::{FILE_BYTES, MODULE_BYTES};
-use alloy_base::{Libraries, Name, Rule};
+use alloy_base::{Libraries, Name, Refusal, Rule};
 use command_words::{Mode, Settings, fits, settings_of_words};
 use lrat_mode::{Verdict, check_texts};
 use std::alloc::{AllocError, Global};
@@ -95,8 +97,21 @@ fn model<L: Libraries>(
 
 /// The answer of a run on the text of a model.
 fn on_model(alloc: Global, settings: &Settings, text: &[u8]) -> Result<Answer, AllocError>
-    requires { settings.now.mode ≢ Lrat }
-    ensures { IfOk result (λ answer. IsOnModel settings.now answer) }
+    requires mode { settings.now.mode ≢ Lrat }
+    requires short { length text.now ≤ MODULE_BYTES }
+    ensures { IfOk result (λ answer. IsOnModel settings.now text.now answer) }
+{
+    match refusal_of(alloc, text)? {
+        None => on_module(alloc, settings, text),
+        Some(refusal) => refused_at(alloc, refusal, settings.file.text()),
+    }
+}
+
+/// The answer of a run on the text of a module.
+fn on_module(alloc: Global, settings: &Settings, text: &[u8]) -> Result<Answer, AllocError>
+    requires mode { settings.now.mode ≢ Lrat }
+    requires spells { SpellsModule (Some text.now) }
+    ensures { IfOk result (λ answer. IsOnModel settings.now text.now answer) }
 {
     match settings.mode {
         Mode::Exec => search(alloc, settings, text),
@@ -104,10 +119,11 @@ fn on_model(alloc: Global, settings: &Settings, text: &[u8]) -> Result<Answer, A
     }
 }
 
-/// The answer of a search on the text of a model.
+/// The answer of a search on the text of a module.
 fn search(alloc: Global, settings: &Settings, text: &[u8]) -> Result<Answer, AllocError>
-    requires { settings.now.mode ≡ Exec }
-    ensures { IfOk result (λ answer. IsOnModel settings.now answer) }
+    requires mode { settings.now.mode ≡ Exec }
+    requires spells { SpellsModule (Some text.now) }
+    ensures { IfOk result (λ answer. IsOnModel settings.now text.now answer) }
 {
     match decide(alloc, text)? {
         Decision::Trace(text) => Ok(Answer::Trace(text)),
@@ -202,7 +218,14 @@ fn unbuilt(alloc: Global, settings: &Settings) -> Result<Answer, AllocError>
 fn refused(alloc: Global, rule: Rule, name: &str) -> Result<Answer, AllocError>
     ensures { IfOk result (λ answer. answer ≡ Answer.Refused (at_start rule) name.now) }
 {
-    Ok(Answer::Refused(at_start(rule), Name::copy(alloc, name)?))
+    refused_at(alloc, at_start(rule), name)
+}
+
+/// The text of this name is refused so.
+fn refused_at(alloc: Global, refusal: Refusal, name: &str) -> Result<Answer, AllocError>
+    ensures { IfOk result (λ answer. answer ≡ Answer.Refused refusal name.now) }
+{
+    Ok(Answer::Refused(refusal, Name::copy(alloc, name)?))
 }
 
 /// A library failed at this name.

@@ -42,3 +42,6 @@ returns-clause-checked g c = let justified = rw c.len.ensures at c.answer_from_b
 
 pub returns-clause-checked_always : goal.returns-clause-checked_always
 returns-clause-checked_always g c = let justified = rw c.len.ensures at c.answer_from_boxes-answered.ensures.allowed in ends.checked_always _ _ _ _ _ _ _ _ _ _ justified c.finish.ensures
+
+pub returns-clause-uncut_always : goal.returns-clause-uncut_always
+returns-clause-uncut_always g c = let justified = rw c.len.ensures at c.answer_from_boxes-answered.ensures.allowed in ends.uncut_always _ _ _ _ _ _ _ _ _ _ justified c.finish.ensures

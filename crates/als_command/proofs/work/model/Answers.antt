@@ -1,15 +1,21 @@
-use Rattle.std.proofs.Common.{◌∙◌, ◌∷◌, [], ap, sym}
+use Rattle.std.proofs.Common.{◌∙◌, ◌∷◌, [], ap, sym, subst}
 use Rattle.alloy_base.specs.declared.limits.TheConstants.{MODULE_BYTES}
-use Rattle.als_command.specs.Files.{asked}
+use Rattle.als_command.specs.Files.{asked, IsFile}
 use Rattle.als_command.specs.declared.files.File.TheVariants.{Whole, Broken, Failed}
 use Rattle.als_command.proofs.Allowed.{whole_allows, broken_allows, failed_allows}
 use Rattle.als_command.proofs.work.model.Goals as goal
 
+pub on_model-requires-clause-short : goal.on_model-requires-clause-short
+on_model-requires-clause-short g c = rw c.deref.ensures.value (c.whole_file.ensures.short c.in-Whole.text (cc (c.in_ok-text.was, c.in-Whole.is)))
+
 pub returns-in-Whole-clause-allowed : goal.returns-in-Whole-clause-allowed
 returns-in-Whole-clause-allowed g c answer is =
-    let asks = c.requires.asks ∙ ap (λ n. (n, MODULE_BYTES) ∷ []) (sym c.text-name.ensures) in
-    whole_allows c.args.settings.now (g.L.Libraries.told c.args.libraries.now) (g.L.Libraries.counts c.args.libraries.now) (g.L.Libraries.counts c.whole_file.new.libraries)
-    c.text-name.result.now MODULE_BYTES (asked c.args.settings.now) asks c.on_model.result answer is c.in-Whole.text (c.whole_file.ensures.file (Whole c.in-Whole.text) (cc (c.in_ok-text.was, c.in-Whole.is))) c.on_model.ensures
+    let told = g.L.Libraries.told c.args.libraries.now in
+    let before = g.L.Libraries.counts c.args.libraries.now in
+    let now = g.L.Libraries.counts c.whole_file.new.libraries in
+    let file = c.whole_file.ensures.file (Whole c.in-Whole.text) (cc (c.in_ok-text.was, c.in-Whole.is)) in
+    whole_allows c.args.settings.now told before now c.requires.asks c.requires.mode c.on_model.result answer is c.in-Whole.text
+    (subst (λ n. IsFile told n MODULE_BYTES before now (Whole c.in-Whole.text)) c.text-name.ensures file) (rw c.deref.ensures.value at c.on_model.ensures)
 
 pub returns-in-Broken-clause-allowed : goal.returns-in-Broken-clause-allowed
 returns-in-Broken-clause-allowed g c answer is =
