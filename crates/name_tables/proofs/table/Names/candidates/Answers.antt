@@ -1,0 +1,10 @@
+use Rattle.std.proofs.Common.{◌∙◌, ap}
+use Rattle.name_tables.specs.Visible.{path_of}
+use Rattle.name_tables.proofs.Listed.{candidates_of}
+use Rattle.name_tables.proofs.table.Names.candidates.Goals as goal
+
+pub returns : goal.returns
+returns c = λ e.
+    candidates_of c.args.self.now.scopes c.args.instance c.args.name.now c.in_ok-marks.marks.items c.in_ok-all.all.items e
+    (c.in_ok-marks.ensures (c.path_before.ensures ∙ ap path_of c.as_slice-parts.ensures ∙ e))
+    (let found = c.in_ok-all.ensures in let marks = c.as_slice.ensures.value in let name = c.last_part.ensures in let parts = c.as_slice-parts.ensures in let scopes = c.as_slice-scopes.ensures in cc)

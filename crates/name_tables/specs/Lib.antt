@@ -1,0 +1,4 @@
+pub mod Visible
+pub mod Marks
+pub mod Lookup
+pub mod Refused

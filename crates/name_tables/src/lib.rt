@@ -1,0 +1,19 @@
+//! The names of all modules: what each declares, what each sees, and what a name stands for.
+#![tactic(auto)]
+
+mod entries;
+mod follow;
+mod gather;
+mod links;
+mod lookup;
+mod reach;
+mod source;
+mod table;
+mod twice;
+
+pub use gather::names;
+pub use source::{paragraph_at, place_in, text_of};
+pub use table::{BodyEntry, Decl, Declared, FieldEntry, Link, NameFault, Names, Scope, SigEntry};
+
+#[cfg(test)]
+mod tests;
