@@ -47,6 +47,20 @@ impl<T> ItemList<T> {
         &self.items[place]
     }
 
+    /// The list of these items.
+    pub fn from_vec(items: Vec<T>) -> ItemList<T>
+        ensures { result ≡ items.items }
+    {
+        ItemList { items }
+    }
+
+    /// The items in order, to own.
+    pub fn into_vec(self) -> Vec<T>
+        ensures { result.items ≡ self }
+    {
+        self.items
+    }
+
     /// The items in order.
     pub fn as_slice(&self) -> &[T]
         ensures { result.now ≡ self.now }

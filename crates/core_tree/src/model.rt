@@ -137,9 +137,11 @@ pub struct Assert {
     pub formula: Formula,
 }
 
-/// A parameter of a predicate or function. Its name in the body is its place among the parameters.
+/// A parameter of a predicate or function. Its number in the body is its place among the parameters.
 #[derive(Drop)]
 pub struct Parameter {
+    /// How it is called where it is declared.
+    pub label: Name,
     /// From how many of the parameters just before it it differs, as in `Variable`.
     pub apart: u32,
     /// Its bound, in which earlier parameters may stand. It doesn't constrain a call.

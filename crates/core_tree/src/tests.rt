@@ -13,6 +13,8 @@ fn lists_grow_and_are_read(rt: HostRuntime) -> Result<(), Fail> {
     assert_eq!(rt; list.len(), 2);
     assert_eq!(rt; *list.get(0), Column::Sig(4));
     assert_eq!(rt; list.as_slice().len(), 2);
+    let list = ItemList::from_vec(list.into_vec());
+    assert_eq!(rt; list.len(), 2);
     Ok(())
 }
 
