@@ -8,6 +8,7 @@ mod operate;
 mod part;
 mod root;
 
+pub use choices::found;
 pub use meaning::{Meaning, What};
 pub use part::{Binary, Found, Multiplicity, Outcome, Part, Place, Typing, Unary};
 pub use root::decide;
