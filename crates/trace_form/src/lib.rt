@@ -1,0 +1,17 @@
+//! The text of a trace: labels, and a lasso written under labels and read again.
+#![tactic(auto)]
+
+pub mod atom_index;
+pub mod label;
+pub mod make;
+pub mod print;
+pub mod read;
+pub mod words;
+
+pub use label::{Labels, RelationLabel, RelationLabelList, Shown, TextList, TraceFault};
+pub use make::make_labels;
+pub use print::{print_trace, push_tuple, push_tuples};
+pub use read::read_trace;
+
+#[cfg(test)]
+mod tests;
