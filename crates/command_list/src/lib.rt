@@ -1,0 +1,9 @@
+//! The list of a module's commands.
+#![tactic(auto)]
+
+mod lines;
+
+pub use lines::command_text;
+
+#[cfg(test)]
+mod tests;

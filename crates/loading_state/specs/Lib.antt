@@ -1,0 +1,4 @@
+pub mod Causes
+pub mod Names
+pub mod Refusals
+pub mod Weights

@@ -1,0 +1,118 @@
+//! A model is put together.
+ghost use Rattle.std.specs.Prelude.{◌≡◌, IfOk, map};
+ghost use Rattle.als_tree.specs.Instances.{sig_count};
+ghost use Rattle.loading_state.specs.Weights.{Weighs};
+
+use crate::check::are_closed;
+use crate::count::{names_of, plus, sig_count, weight};
+use crate::loading::{Finished, Key, Loading};
+use crate::refuse::small;
+use crate::source::Source;
+use alloy_base::Name;
+use als_items::Items;
+use als_tree::{Instance, InstanceList, Loaded, Opened, OpenedList, TextList};
+use std::alloc::{AllocError, Global};
+
+/// The texts of a model, with what is counted of each.
+#[derive(Drop)]
+struct Counted {
+    texts: TextList,
+    /// How many sigs each text declares.
+    sigs: Vec<usize>,
+    /// At least as many as each text has paragraphs, declared names and literals.
+    weights: Vec<usize>,
+}
+
+/// The model: each instance with its opens, the implicit one of the integers last.
+#[tactic(auto, using(crate::proofs::Heavy::counted_at_most))]
+pub fn finished_model(
+    alloc: Global,
+    loading: Loading,
+    integer: Option<usize>,
+) -> Result<Loaded, AllocError> {
+    let Loading {
+        sources,
+        keys,
+        finished,
+        asked: _,
+    } = loading;
+    let instances = instances_of(alloc, keys, finished, integer)?;
+    let Counted {
+        texts,
+        sigs,
+        weights,
+    } = count_all(alloc, sources)?;
+    let total = weight(&weights, instances.as_slice())?;
+    if total >= u32::MAX as usize || !are_closed(texts.as_slice(), &sigs, instances.as_slice()) {
+        return Err(AllocError);
+    }
+    Ok(Loaded { texts, instances })
+}
+
+/// Counts what the texts have.
+#[tactic(auto, using(crate::proofs::Heavy::Weighs_push))]
+fn count_all(alloc: Global, sources: Vec<Source>) -> Result<Counted, AllocError>
+    ensures sigs { IfOk result (λ c. c.sigs.items ≡ map (λ t. sig_count t.tree) c.texts) }
+    ensures weights { IfOk result (λ c. Weighs c.texts c.weights.items) }
+{
+    let mut texts = Items::new(alloc);
+    let mut sigs = Vec::new(alloc);
+    let mut weights = Vec::new(alloc);
+    for source in sources {
+        let Source {
+            text,
+            table: _,
+            tokens,
+        } = source;
+        sigs.push(sig_count(&text.tree)?)?;
+        weights.push(plus(names_of(&text.tree)?, tokens)?)?;
+        texts.push(text)?;
+    }
+    Ok(Counted {
+        texts,
+        sigs,
+        weights,
+    })
+}
+
+/// The instances with their opens.
+fn instances_of(
+    alloc: Global,
+    keys: Vec<Key>,
+    mut finished: Vec<Finished>,
+    integer: Option<usize>,
+) -> Result<InstanceList, AllocError> {
+    let integer_text = match integer {
+        Some(instance) => keys.get(instance).map(|key| key.text),
+        None => None,
+    };
+    let mut instances = Items::new(alloc);
+    for (instance, key) in keys.into_iter().enumerate() {
+        let mut opens = opens_of(&mut finished, instance)?;
+        if let Some(integer) = integer
+            && integer_text != Some(key.text)
+        {
+            opens.push(Opened {
+                alias: Name::copy(alloc, "integer")?,
+                instance: small(integer)?,
+            })?;
+        }
+        instances.push(Instance {
+            text: key.text,
+            arguments: key.arguments,
+            label: key.label,
+            opens,
+        })?;
+    }
+    Ok(instances)
+}
+
+/// Takes the opens of an instance out of the list.
+fn opens_of(finished: &mut Vec<Finished>, instance: usize) -> Result<OpenedList, AllocError> {
+    for place in 0..finished.len() {
+        if finished[place].instance as usize == instance {
+            return Ok(finished.swap_remove(place).doors.opens);
+        }
+    }
+    Err(AllocError)
+}

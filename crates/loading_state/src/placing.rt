@@ -1,0 +1,194 @@
+//! Opens, and the instances to which they lead.
+#![tactic(auto, using(crate::proofs::Faults::memory_is_quiet, crate::proofs::Faults::refusal_is_quiet))]
+
+ghost use Rattle.std.specs.Prelude.{◌≡◌, ◌+◌, ◌<◌, ◌≤◌, true, IsTrue, IfErr, IfOk, OnOk, length};
+ghost use Rattle.loading_state.specs.Causes.{IsQuietFault};
+ghost use Rattle.loading_state.specs.Refusals.{is_of_loading};
+
+use crate::argument::Opener;
+use crate::label::{longer_path, new_label};
+use crate::loading::{
+    Asked, Doors, Finished, Key, Loading, instance_with, is_being_opened, key_at, public_reach,
+    source_of,
+};
+use crate::refuse::{refused, small};
+use crate::request::{Request, implied_request, written_request};
+use crate::source::Source;
+use crate::{LoadFault, count};
+use alloy_base::{Name, Rule};
+use als_items::Items;
+use als_tree::Opened;
+use std::alloc::{AllocError, Global};
+use std::collections::HashSet;
+
+/// Notes the answer for a name.
+pub fn note(
+    alloc: Global,
+    asked: &mut Vec<Asked>,
+    name: &str,
+    text: Option<u32>,
+) -> Result<Option<u32>, LoadFault>
+    ensures quiet { IfErr result IsQuietFault }
+    ensures same { IfOk result (λ answer. answer ≡ text) }
+{
+    let name = Name::copy(alloc, name)?;
+    asked.push(Asked { name, text })?;
+    Ok(text)
+}
+
+/// How many opens an instance has, with those that enums imply.
+pub fn open_count(loading: &Loading, instance: usize) -> Result<usize, AllocError> {
+    let source = source_of(loading, instance)?;
+    let written = source.text.tree.opens.len();
+    Ok(written.saturating_add(source.table.enums().len()))
+}
+
+/// What the open of this number asks for.
+pub fn request_at(
+    alloc: Global,
+    loading: &Loading,
+    doors: &Doors,
+    aliases: &mut HashSet<String>,
+    instance: usize,
+    number: usize,
+) -> Result<Request, LoadFault>
+    ensures quiet { IfErr result IsQuietFault }
+{
+    let key = key_at(&loading.keys, instance)?;
+    let source = source_of(loading, instance)?;
+    let opener = Opener {
+        number: small(instance)?,
+        key,
+        source,
+        doors,
+        sources: &loading.sources,
+        keys: &loading.keys,
+        finished: &loading.finished,
+    };
+    let written = source.text.tree.opens.as_slice();
+    if number < written.len() {
+        return written_request(alloc, opener, aliases, &written[number]);
+    }
+    match source.table.enums().get(number - written.len()) {
+        Some(implied) => implied_request(alloc, opener.number, *implied),
+        None => Err(LoadFault::Memory),
+    }
+}
+
+/// The instance to which an open leads.
+#[derive(Drop)]
+pub struct Target {
+    pub instance: usize,
+    /// Whether it wasn't there before: then its own opens are to be followed.
+    pub is_new: bool,
+}
+
+/// The instance of a text to which an open leads, which is added where it isn't there yet.
+pub fn placed(
+    alloc: Global,
+    loading: &mut Loading,
+    instance: usize,
+    limit: usize,
+    request: &Request,
+    text: u32,
+) -> Result<Target, LoadFault>
+    ensures quiet { IfErr result IsQuietFault }
+    ensures grows { length loading.old.keys.items ≤ length loading.new.keys.items }
+    ensures new { IfOk result (λ t. t.is_new ≡ true → (length loading.old.keys.items < length loading.new.keys.items) × (length loading.new.keys.items ≤ limit)) }
+{
+    if is_being_opened(&loading.keys, &loading.finished, text) {
+        return Err(refused_open(alloc, loading, instance, request, Rule::ModuleCycle));
+    }
+    if parameter_count(&loading.sources, text) != request.arguments.len() {
+        return Err(refused_open(alloc, loading, instance, request, Rule::ModuleArguments));
+    }
+    if let Some(instance) = instance_with(&loading.keys, text, &request.arguments) {
+        return Ok(Target {
+            instance,
+            is_new: false,
+        });
+    }
+    if loading.keys.len() >= limit {
+        return Err(refused_open(alloc, loading, instance, request, Rule::TooManyModules));
+    }
+    let added = add_instance(alloc, &mut loading.keys, instance, text, request)?;
+    Ok(Target {
+        instance: added,
+        is_new: true,
+    })
+}
+
+/// The refusal of an open of an instance.
+pub fn refused_open(
+    alloc: Global,
+    loading: &Loading,
+    instance: usize,
+    request: &Request,
+    rule: Rule,
+) -> LoadFault
+    requires { IsTrue (is_of_loading rule) }
+    ensures quiet { IsQuietFault result }
+{
+    match source_of(loading, instance) {
+        Ok(source) => refused(alloc, rule, request.place, source.text.name.text()),
+        Err(_) => LoadFault::Memory,
+    }
+}
+
+/// How many parameters a text has.
+pub fn parameter_count(sources: &[Source], text: u32) -> usize {
+    match sources.get(text as usize) {
+        Some(source) => count::parameter_count(&source.text.tree),
+        None => 0,
+    }
+}
+
+/// Adds an instance that is reached by an open of another.
+fn add_instance(
+    alloc: Global,
+    keys: &mut Vec<Key>,
+    opener: usize,
+    text: u32,
+    request: &Request,
+) -> Result<usize, AllocError>
+    ensures grows { length keys.old.items ≤ length keys.new.items }
+    ensures added { OnOk result (length keys.new.items ≡ length keys.old.items + 1) }
+{
+    let before = key_at(keys, opener)?;
+    let path = longer_path(alloc, before.path.text(), request.alias.text())?;
+    let label = new_label(alloc, keys, path.text())?;
+    let arguments = Items::from_slice(alloc, request.arguments.as_slice())?;
+    let added = keys.len();
+    keys.push(Key {
+        text,
+        arguments,
+        path,
+        label,
+    })?;
+    Ok(added)
+}
+
+/// Notes that the opens of an instance are all followed.
+pub fn finish(loading: &mut Loading, instance: usize, doors: Doors) -> Result<(), AllocError>
+    ensures instances { loading.new.keys.items ≡ loading.old.keys.items }
+{
+    let instance = small(instance)?;
+    loading.finished.push(Finished { instance, doors })?;
+    Ok(())
+}
+
+/// Adds an open that leads to an instance.
+pub fn add_open(
+    alloc: Global,
+    loading: &Loading,
+    doors: &mut Doors,
+    request: Request,
+    target: usize,
+) -> Result<(), AllocError> {
+    let opened = Opened {
+        alias: request.alias,
+        instance: small(target)?,
+    };
+    let beyond = public_reach(&loading.finished, target);
+    doors.add(alloc, opened, beyond, request.is_private)
+}

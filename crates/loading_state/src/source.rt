@@ -1,0 +1,16 @@
+//! The texts that were read.
+ghost use Rattle.std.specs.Prelude.{◌≤◌, length};
+ghost use Rattle.als_tree.specs.Instances.{literals_of};
+
+use crate::table::Table;
+use als_tree::Text;
+
+/// A text that was read.
+#[derive(Drop)]
+pub struct Source {
+    pub text: Text,
+    pub table: Table,
+    /// How many tokens it has.
+    pub tokens: usize,
+    pub ghost few: { length (literals_of text.tree) ≤ tokens },
+}

@@ -1,0 +1,143 @@
+//! What a text says of the names of its sigs and parameters.
+use alloy_base::{Name, Place};
+use als_tree::{Module, Named, Paragraph, Parameter, Qualifier};
+use std::alloc::{AllocError, Global};
+use std::collections::HashMap;
+
+/// What a name stands for in a text: how many sigs and parameters have it, and the number of the last of each.
+#[derive(Clone, Copy, Debug)]
+pub struct Known {
+    /// Sigs of this name.
+    pub sigs: u32,
+    pub sig: u32,
+    /// Those of them that aren't private.
+    pub public_sigs: u32,
+    pub public_sig: u32,
+    /// Parameters of this name.
+    pub parameters: u32,
+    pub parameter: usize,
+}
+
+impl Known {
+    /// A name that no sig and no parameter has.
+    const NOTHING: Known = Known {
+        sigs: 0,
+        sig: 0,
+        public_sigs: 0,
+        public_sig: 0,
+        parameters: 0,
+        parameter: 0,
+    };
+
+    fn add_parameter(&mut self, number: usize) {
+        self.parameters = self.parameters.saturating_add(1);
+        self.parameter = number;
+    }
+
+    fn add_sig(&mut self, number: u32, is_private: bool) {
+        self.sigs = self.sigs.saturating_add(1);
+        self.sig = number;
+        if !is_private {
+            self.public_sigs = self.public_sigs.saturating_add(1);
+            self.public_sig = number;
+        }
+    }
+}
+
+/// An enum, which implies an open that orders its members.
+#[derive(Clone, Copy, Debug)]
+pub struct Enumerated {
+    /// The place of its name.
+    pub place: Place,
+    /// Its number among the sigs of the text.
+    pub sig: u32,
+}
+
+/// The names of the sigs and parameters of a text, and its enums.
+#[derive(Drop)]
+pub struct Table {
+    known: HashMap<String, Known>,
+    enums: Vec<Enumerated>,
+    sigs: u32,
+}
+
+impl Table {
+    /// The table of a module.
+    pub fn new(alloc: Global, tree: &Module) -> Result<Table, AllocError> {
+        let mut table = Table {
+            known: HashMap::new(alloc),
+            enums: Vec::new(alloc),
+            sigs: 0,
+        };
+        if let Some(header) = &tree.header {
+            table.add_parameters(alloc, header.parameters.as_slice())?;
+        }
+        for paragraph in tree.paragraphs.as_slice() {
+            table.add_paragraph(alloc, paragraph)?;
+        }
+        Ok(table)
+    }
+
+    /// What the name stands for.
+    pub fn known(&self, name: &str) -> Option<Known> {
+        self.known.get(name).copied()
+    }
+
+    /// The enums of the text, in their order.
+    pub fn enums(&self) -> &[Enumerated] {
+        &self.enums
+    }
+
+    fn add_parameters(
+        &mut self,
+        alloc: Global,
+        parameters: &[Parameter],
+    ) -> Result<(), AllocError> {
+        for (number, parameter) in parameters.iter().enumerate() {
+            let key = String::from_str(alloc, parameter.name.name.text())?;
+            let known = self.known.entry(key)?.or_insert(Known::NOTHING);
+            known.add_parameter(number);
+        }
+        Ok(())
+    }
+
+    fn add_paragraph(&mut self, alloc: Global, paragraph: &Paragraph) -> Result<(), AllocError> {
+        match paragraph {
+            Paragraph::Sig(sig) => {
+                let is_private = sig.qualifiers.as_slice().contains(&Qualifier::Private);
+                self.add_sigs(alloc, sig.names.as_slice(), is_private)
+            }
+            Paragraph::Enum(e) => {
+                self.enums.push(Enumerated {
+                    place: e.name.place,
+                    sig: self.sigs,
+                })?;
+                self.add_sig(alloc, &e.name.name, false)?;
+                self.add_sigs(alloc, e.members.as_slice(), false)
+            }
+            _ => Ok(()),
+        }
+    }
+
+    fn add_sigs(
+        &mut self,
+        alloc: Global,
+        names: &[Named],
+        is_private: bool,
+    ) -> Result<(), AllocError> {
+        for named in names {
+            self.add_sig(alloc, &named.name, is_private)?;
+        }
+        Ok(())
+    }
+
+    /// Adds the next sig of the text.
+    fn add_sig(&mut self, alloc: Global, name: &Name, is_private: bool) -> Result<(), AllocError> {
+        let number = self.sigs;
+        let key = String::from_str(alloc, name.text())?;
+        let known = self.known.entry(key)?.or_insert(Known::NOTHING);
+        known.add_sig(number, is_private);
+        self.sigs = number.saturating_add(1);
+        Ok(())
+    }
+}
