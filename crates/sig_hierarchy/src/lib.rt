@@ -1,0 +1,15 @@
+//! The hierarchy of sigs: parents, lines of ancestors, the members of types, and overlap.
+#![tactic(auto)]
+
+mod build;
+mod faults;
+mod fields;
+mod order;
+mod parents;
+mod sigs;
+
+pub use build::hierarchy;
+pub use sigs::{Hierarchy, HierarchyFault, Kind};
+
+#[cfg(test)]
+mod tests;
