@@ -1,0 +1,4 @@
+pub mod Signed
+pub mod Alike
+pub mod Finals
+pub mod Columns
