@@ -1,0 +1,2 @@
+pub mod WalkLaw
+pub mod FilterLaw
