@@ -1,0 +1,25 @@
+//! Upper bounds of the relations of a model, the table of variables that they give, and the lasso
+//! for which an assignment of those variables stands.
+#![tactic(auto)]
+
+pub mod decoding;
+pub mod kinds;
+pub mod numbering;
+pub mod numbers;
+pub mod order;
+pub mod places;
+pub mod rows;
+pub mod shortening;
+pub mod table;
+pub mod tops;
+pub mod uppers;
+
+pub use decoding::decode;
+pub use numbering::layout;
+pub use places::{Cells, Layout};
+pub use shortening::shortest;
+pub use table::{Bound, BoundList, Bounds, BoundsFault};
+pub use uppers::bounds;
+
+#[cfg(test)]
+mod tests;
