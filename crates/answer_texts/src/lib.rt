@@ -1,0 +1,14 @@
+//! The printed texts of answers: clauses with the lines that belong to them, the summary of a ring, and the text of a ring.
+#![tactic(auto)]
+
+mod clauses;
+mod ring;
+mod summary;
+mod write;
+
+pub use clauses::{absent_text, unknown_text};
+pub use ring::ring_text;
+pub use summary::{made_none, made_trace, made_unknown};
+
+#[cfg(test)]
+mod tests;
