@@ -1,0 +1,12 @@
+use Rattle.gate_trait.specs.Built.{Keeps}
+use Rattle.bool_matrix.specs.Matrices.{AllBelong}
+use Rattle.set_circuits.proofs.operators.masked.Given as goal
+
+abbrev pub invariant-loop-entry : goal.invariant-loop-entry
+invariant-loop-entry g l =
+    let belongs = g.G.Gates.belongs in
+    let value = g.G.Gates.node_value in
+    record {
+      keeps : Keeps belongs value l.initial.gates l.gates;
+      belong : AllBelong (belongs l.gates) l.new.entries;
+    }

@@ -1,0 +1,188 @@
+// The matrices of what depends on no other expression, and parts of matrices.
+
+ghost use Rattle.std.specs.Prelude.{◌≡◌, ◌≤◌, IfOk, IsTrue, All, length};
+ghost use Rattle.tuple_sets.specs.Index.{IsNumber};
+ghost use Rattle.gate_trait.specs.Built.{Keeps};
+ghost use Rattle.bool_matrix.specs.Matrices.{AllBelong};
+
+use bool_matrix::Matrix;
+use gate_trait::{Gates, Node};
+use std::alloc::{AllocError, Global};
+use tuple_sets::{Tuple, TupleSet};
+
+/// Whether the tuple has this many numbers, all below 16,384.
+fn is_row(tuple: &Tuple, arity: u32) -> bool
+    ensures columns { IsTrue result → length tuple.now ≡ arity }
+    ensures numbers { IsTrue result → All IsNumber tuple.now }
+{
+    tuple.numbers().len() == arity as usize && tuple.numbers().iter().all(|x| *x < 16384)
+}
+
+/// Gives a tuple a node, where it has as many numbers as the matrix has columns, and none is too
+/// great.
+pub fn put<G: Gates>(
+    gates: &G,
+    matrix: &mut Matrix,
+    tuple: Tuple,
+    node: Node,
+) -> Result<(), AllocError>
+    requires matrix { AllBelong (G.belongs gates.now) matrix.old.entries }
+    requires node { G.belongs gates.now node }
+    ensures { AllBelong (G.belongs gates.now) matrix.new.entries }
+{
+    let _ = gates;
+    if !is_row(&tuple, matrix.arity()) {
+        return Ok(());
+    }
+    matrix.put(tuple, node)
+}
+
+/// Adds the tuple at a place of the upper bound with its variable.
+fn put_variable<G: Gates>(
+    alloc: Global,
+    gates: &mut G,
+    matrix: &mut Matrix,
+    tuple: &Tuple,
+    variable: u64,
+) -> Result<(), AllocError>
+    requires { AllBelong (G.belongs gates.old) matrix.old.entries }
+    ensures keeps { Keeps G.belongs G.node_value gates.old gates.new }
+    ensures belongs { AllBelong (G.belongs gates.new) matrix.new.entries }
+{
+    let node = gates.input(variable)?;
+    let copy = tuple.copy(alloc)?;
+    put(gates, matrix, copy, node)
+}
+
+/// The matrix of a relation whose tuples have the variables from `first` on.
+pub fn relation_matrix<G: Gates>(
+    alloc: Global,
+    gates: &mut G,
+    upper: &TupleSet,
+    first: u64,
+) -> Result<Matrix, AllocError>
+    ensures keeps { Keeps G.belongs G.node_value gates.old gates.new }
+    ensures belongs { IfOk result (λ m. AllBelong (G.belongs gates.new) m.entries) }
+{
+    let mut matrix = Matrix::empty(alloc, upper.arity());
+    for place in 0..upper.len() {
+        let variable = first.saturating_add(place as u64);
+        put_variable(alloc, gates, &mut matrix, upper.tuple(place), variable)?;
+    }
+    Ok(matrix)
+}
+
+/// Adds the tuple of one number.
+fn put_atom<G: Gates>(
+    alloc: Global,
+    gates: &G,
+    matrix: &mut Matrix,
+    atom: u32,
+) -> Result<(), AllocError>
+    requires { AllBelong (G.belongs gates.now) matrix.old.entries }
+    ensures { AllBelong (G.belongs gates.now) matrix.new.entries }
+{
+    let tuple = Tuple::of(alloc, &[atom])?;
+    let node = gates.constant(true);
+    put(gates, matrix, tuple, node)
+}
+
+/// The matrix of one atom, or of none.
+pub fn atom_matrix<G: Gates>(
+    alloc: Global,
+    gates: &G,
+    atom: Option<u32>,
+) -> Result<Matrix, AllocError>
+    ensures { IfOk result (λ m. AllBelong (G.belongs gates.now) m.entries) }
+{
+    let mut matrix = Matrix::empty(alloc, 1);
+    match atom {
+        None => Ok(matrix),
+        Some(number) => {
+            put_atom(alloc, gates, &mut matrix, number)?;
+            Ok(matrix)
+        }
+    }
+}
+
+/// The matrix of the numbers from `first` to before `end`.
+pub fn range_matrix<G: Gates>(
+    alloc: Global,
+    gates: &G,
+    first: u32,
+    end: u32,
+) -> Result<Matrix, AllocError>
+    ensures { IfOk result (λ m. AllBelong (G.belongs gates.now) m.entries) }
+{
+    let mut matrix = Matrix::empty(alloc, 1);
+    for atom in first..end {
+        put_atom(alloc, gates, &mut matrix, atom)?;
+    }
+    Ok(matrix)
+}
+
+/// What is left of the numbers of a tuple without these first or last ones, if they are so.
+fn rest_numbers(
+    alloc: Global,
+    all: &[u32],
+    numbers: &[u32],
+    at_start: bool,
+) -> Result<Option<Tuple>, AllocError> {
+    if all.len() <= numbers.len() {
+        return Ok(None);
+    }
+    let cut = if at_start {
+        numbers.len()
+    } else {
+        all.len() - numbers.len()
+    };
+    let (left, right) = all.split_at(cut);
+    if at_start && left == numbers {
+        return Ok(Some(Tuple::of(alloc, right)?));
+    }
+    if !at_start && right == numbers {
+        return Ok(Some(Tuple::of(alloc, left)?));
+    }
+    Ok(None)
+}
+
+/// Adds what is left of a tuple.
+fn put_rest<G: Gates>(
+    gates: &G,
+    matrix: &mut Matrix,
+    rest: Option<Tuple>,
+    node: Node,
+) -> Result<(), AllocError>
+    requires matrix { AllBelong (G.belongs gates.now) matrix.old.entries }
+    requires node { G.belongs gates.now node }
+    ensures { AllBelong (G.belongs gates.now) matrix.new.entries }
+{
+    match rest {
+        None => Ok(()),
+        Some(tuple) => put(gates, matrix, tuple, node),
+    }
+}
+
+/// What follows these numbers in the tuples that begin with them, or what stands before them in
+/// those that end with them. Nothing where no column would be left.
+pub fn rest_of<G: Gates>(
+    alloc: Global,
+    gates: &G,
+    matrix: &Matrix,
+    numbers: &[u32],
+    at_start: bool,
+) -> Result<Matrix, AllocError>
+    requires { AllBelong (G.belongs gates.now) matrix.now.entries }
+    ensures { IfOk result (λ m. AllBelong (G.belongs gates.now) m.entries) }
+{
+    let columns = matrix.arity() as usize;
+    if numbers.len() >= columns {
+        return Ok(Matrix::empty(alloc, 1));
+    }
+    let mut new = Matrix::empty(alloc, (columns - numbers.len()) as u32);
+    for entry in matrix.entries() {
+        let rest = rest_numbers(alloc, entry.tuple.numbers(), numbers, at_start)?;
+        put_rest(gates, &mut new, rest, entry.node)?;
+    }
+    Ok(new)
+}
