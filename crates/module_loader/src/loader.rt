@@ -1,0 +1,138 @@
+//! Loading of a model.
+#![tactic(auto, using(loading_state::proofs::Faults::quiet_causes, loading_state::proofs::Faults::later_causes, loading_state::proofs::Faults::memory_is_quiet, loading_state::proofs::Faults::later_fault, loading_state::proofs::Faults::quiet_fault, loading_state::proofs::Faults::memory_fault, loading_state::proofs::Faults::refusal_is_quiet))]
+
+ghost use Rattle.std.specs.Prelude.{◌≡◌, ◌≤◌, length};
+ghost use Rattle.als_tree.specs.Instances.{literals_of};
+ghost use Rattle.loading_state.specs.Causes.{Causes};
+
+use crate::source::with_tree;
+use crate::walk::{ask, open_all, take_in, text_of_path};
+use alloy_base::limits::MODULE_INSTANCES;
+use alloy_base::{Libraries, Name, Rule};
+use als_items::Items;
+use als_tree::{Loaded, Module};
+use loading_state::{
+    Key, LoadFault, Loading, finish, finished_model, instance_with, new_label, note,
+    parameter_count, refused, start_of,
+};
+use std::alloc::{AllocError, Global};
+
+/// The instances that count.
+const LIMIT: usize = MODULE_INSTANCES as usize;
+
+/// Loads the model of a file: its text, and those of all that it opens.
+///
+/// A path `p` is sought in the folder of the root's file first, then as it stands, each time with `.als` after it, and a name
+/// has the text of the first library that holds it. `util/integer` is opened by every other module, where a library has it. A
+/// model is refused by the first rule of loading that its texts break in the order of the walk: each open is followed to its
+/// end before the next one, those that enums imply after the written ones.
+#[tactic(auto, using(loading_state::proofs::Faults::root_is_tried, loading_state::proofs::Faults::quiet_fault, loading_state::proofs::Faults::refusal_is_quiet, loading_state::proofs::Faults::later_causes))]
+pub fn load<L: Libraries>(alloc: Global, libraries: &mut L, root: &str) -> Result<Loaded, LoadFault>
+    ensures keeps { L.told libraries.new ≡ L.told libraries.old }
+    ensures cause { Causes root.now (L.counts libraries.old) (L.counts libraries.new) result }
+{
+    let mut loading = Loading::new(alloc);
+    match ask(alloc, libraries, &mut loading, root, root)? {
+        Some(_) => follow(alloc, libraries, loading, root),
+        None => Err(refused(alloc, Rule::NoModule, start_of(0), root)),
+    }
+}
+
+/// The same for a root whose text is given. No library is asked for its name.
+pub fn load_text<L: Libraries>(
+    alloc: Global,
+    libraries: &mut L,
+    root: &str,
+    text: &[u8],
+) -> Result<Loaded, LoadFault>
+    ensures keeps { L.told libraries.new ≡ L.told libraries.old }
+    ensures cause { Causes root.now (L.counts libraries.old) (L.counts libraries.new) result }
+{
+    let mut loading = Loading::new(alloc);
+    let number = take_in(alloc, &mut loading.sources, root, text)?;
+    note(alloc, &mut loading.asked, root, Some(number))?;
+    follow(alloc, libraries, loading, root)
+}
+
+/// The same for a root that was read: its tree, and how many tokens spell it.
+pub fn load_tree<L: Libraries>(
+    alloc: Global,
+    libraries: &mut L,
+    root: &str,
+    tree: Module,
+    tokens: usize,
+) -> Result<Loaded, LoadFault>
+    requires { length (literals_of tree) ≤ tokens }
+    ensures keeps { L.told libraries.new ≡ L.told libraries.old }
+    ensures cause { Causes root.now (L.counts libraries.old) (L.counts libraries.new) result }
+{
+    let mut loading = Loading::new(alloc);
+    loading.sources.push(with_tree(alloc, root, tree, tokens)?)?;
+    note(alloc, &mut loading.asked, root, Some(0))?;
+    follow(alloc, libraries, loading, root)
+}
+
+/// Loads what a root opens.
+fn follow<L: Libraries>(
+    alloc: Global,
+    libraries: &mut L,
+    mut loading: Loading,
+    root: &str,
+) -> Result<Loaded, LoadFault>
+    ensures keeps { L.told libraries.new ≡ L.told libraries.old }
+    ensures cause { Causes root.now (L.counts libraries.old) (L.counts libraries.new) result }
+{
+    if parameter_count(&loading.sources, 0) != 0 {
+        return Err(refused(alloc, Rule::ModuleArguments, start_of(0), root));
+    }
+    let first = add_plain(alloc, &mut loading.keys, 0, "")?;
+    let doors = open_all(alloc, libraries, &mut loading, root, first, LIMIT)?;
+    let integer = open_integer(alloc, libraries, &mut loading, root)?;
+    finish(&mut loading, first, doors)?;
+    Ok(finished_model(alloc, loading, integer)?)
+}
+
+/// Adds an instance without arguments that no written open reaches.
+fn add_plain(
+    alloc: Global,
+    keys: &mut Vec<Key>,
+    text: u32,
+    alias: &str,
+) -> Result<usize, AllocError> {
+    let instance = keys.len();
+    let arguments = Items::new(alloc);
+    let path = Name::copy(alloc, alias)?;
+    let label = new_label(alloc, keys, alias)?;
+    keys.push(Key {
+        text,
+        arguments,
+        path,
+        label,
+    })?;
+    Ok(instance)
+}
+
+/// Opens `util/integer` for all others, where a library has it. The answer is its instance.
+fn open_integer<L: Libraries>(
+    alloc: Global,
+    libraries: &mut L,
+    loading: &mut Loading,
+    root: &str,
+) -> Result<Option<usize>, LoadFault>
+    ensures keeps { L.told libraries.new ≡ L.told libraries.old }
+    ensures cause { Causes root.now (L.counts libraries.old) (L.counts libraries.new) result }
+{
+    let Some(text) = text_of_path(alloc, libraries, loading, root, "util/integer")? else {
+        return Ok(None);
+    };
+    if parameter_count(&loading.sources, text) != 0 {
+        return Err(refused(alloc, Rule::ModuleArguments, start_of(0), root));
+    }
+    if let Some(instance) = instance_with(&loading.keys, text, &Items::new(alloc)) {
+        return Ok(Some(instance));
+    }
+    let instance = add_plain(alloc, &mut loading.keys, text, "integer")?;
+    let doors = open_all(alloc, libraries, loading, root, instance, LIMIT + 1)?;
+    finish(loading, instance, doors)?;
+    Ok(Some(instance))
+}

@@ -1,0 +1,128 @@
+//! The walk over opens.
+#![tactic(auto, using(loading_state::proofs::Faults::quiet_causes, loading_state::proofs::Faults::later_causes, loading_state::proofs::Faults::later_fault, loading_state::proofs::Faults::quiet_fault, loading_state::proofs::Faults::memory_fault, loading_state::proofs::Faults::memory_is_quiet, loading_state::proofs::Faults::refusal_is_quiet))]
+
+ghost use Rattle.std.specs.Prelude.{◌≡◌, ◌<◌, ◌≤◌, true, IsTrue, IfErr, IfOk, length};
+ghost use Rattle.loading_state.specs.Causes.{IsTried, Causes, IsQuietFault};
+
+use crate::source::read_text;
+use alloy_base::limits::MODULE_BYTES;
+use alloy_base::{Fetch, FetchFault, Libraries, Rule};
+use loading_state::{
+    Doors, LoadFault, Loading, Request, Source, Target, add_open, answer_to, file_name, finish,
+    folder_of, note, open_count, placed, refused_open, request_at, small, unread,
+};
+use std::alloc::Global;
+use std::collections::HashSet;
+
+/// Asks for the text of a name, and reads it. A name that was answered isn't asked again.
+#[tactic(auto, using(loading_state::proofs::Faults::failed_fault, loading_state::proofs::Faults::quiet_causes, loading_state::proofs::Faults::quiet_fault, loading_state::proofs::Faults::memory_fault))]
+pub fn ask<L: Libraries>(
+    alloc: Global,
+    libraries: &mut L,
+    loading: &mut Loading,
+    root: &str,
+    name: &str,
+) -> Result<Option<u32>, LoadFault>
+    requires { IsTried root.now name.now }
+    ensures keeps { L.told libraries.new ≡ L.told libraries.old }
+    ensures cause { Causes root.now (L.counts libraries.old) (L.counts libraries.new) result }
+    ensures instances { loading.new.keys.items ≡ loading.old.keys.items }
+{
+    if let Some(answer) = answer_to(&loading.asked, name) {
+        return Ok(answer);
+    }
+    match libraries.fetch_first(alloc, name, MODULE_BYTES + 1) {
+        Ok(Fetch::Absent) => note(alloc, &mut loading.asked, name, None),
+        Ok(Fetch::Found(bytes)) => {
+            let number = take_in(alloc, &mut loading.sources, name, &bytes)?;
+            note(alloc, &mut loading.asked, name, Some(number))
+        }
+        Err(FetchFault::Failed) => Err(unread(alloc, name)),
+        Err(FetchFault::Memory) => Err(LoadFault::Memory),
+    }
+}
+
+/// Reads a text, and puts it after the others. The answer is its number.
+pub fn take_in(
+    alloc: Global,
+    sources: &mut Vec<Source>,
+    name: &str,
+    bytes: &[u8],
+) -> Result<u32, LoadFault>
+    ensures quiet { IfErr result IsQuietFault }
+{
+    let number = small(sources.len())?;
+    let source = read_text(alloc, number, name, bytes)?;
+    sources.push(source)?;
+    Ok(number)
+}
+
+/// The number of the text of a path: that of the first of its two names that a library has.
+#[tactic(auto, using(loading_state::proofs::Faults::near_is_tried, loading_state::proofs::Faults::far_is_tried, loading_state::proofs::Faults::later_fault, loading_state::proofs::Faults::later_causes, loading_state::proofs::Faults::memory_fault))]
+pub fn text_of_path<L: Libraries>(
+    alloc: Global,
+    libraries: &mut L,
+    loading: &mut Loading,
+    root: &str,
+    path: &str,
+) -> Result<Option<u32>, LoadFault>
+    ensures keeps { L.told libraries.new ≡ L.told libraries.old }
+    ensures cause { Causes root.now (L.counts libraries.old) (L.counts libraries.new) result }
+    ensures instances { loading.new.keys.items ≡ loading.old.keys.items }
+{
+    let folder = folder_of(alloc, root)?;
+    let near = file_name(alloc, folder.as_str(), path)?;
+    if let Some(text) = ask(alloc, libraries, loading, root, near.as_str())? {
+        return Ok(Some(text));
+    }
+    let far = file_name(alloc, "", path)?;
+    ask(alloc, libraries, loading, root, far.as_str())
+}
+
+/// Follows the opens of an instance, in their order: the written ones, and then those that enums imply.
+pub fn open_all<L: Libraries>(
+    alloc: Global,
+    libraries: &mut L,
+    loading: &mut Loading,
+    root: &str,
+    instance: usize,
+    limit: usize,
+) -> Result<Doors, LoadFault>
+    ensures keeps { L.told libraries.new ≡ L.told libraries.old }
+    ensures cause { Causes root.now (L.counts libraries.old) (L.counts libraries.new) result }
+    ensures grows { length loading.old.keys.items ≤ length loading.new.keys.items }
+{
+    let mut doors = Doors::new(alloc);
+    let mut aliases = HashSet::new(alloc);
+    for number in 0..open_count(loading, instance)? {
+        let request = request_at(alloc, loading, &doors, &mut aliases, instance, number)?;
+        let target = target_of(alloc, libraries, loading, root, instance, limit, &request)?;
+        if target.is_new {
+            let behind = open_all(alloc, libraries, loading, root, target.instance, limit)?;
+            finish(loading, target.instance, behind)?;
+        }
+        add_open(alloc, loading, &mut doors, request, target.instance)?;
+    }
+    Ok(doors)
+}
+
+/// The instance to which an open leads, which is added where it isn't there yet.
+fn target_of<L: Libraries>(
+    alloc: Global,
+    libraries: &mut L,
+    loading: &mut Loading,
+    root: &str,
+    instance: usize,
+    limit: usize,
+    request: &Request,
+) -> Result<Target, LoadFault>
+    ensures keeps { L.told libraries.new ≡ L.told libraries.old }
+    ensures cause { Causes root.now (L.counts libraries.old) (L.counts libraries.new) result }
+    ensures grows { length loading.old.keys.items ≤ length loading.new.keys.items }
+    ensures new { IfOk result (λ t. t.is_new ≡ true → (length loading.old.keys.items < length loading.new.keys.items) × (length loading.new.keys.items ≤ limit)) }
+{
+    let Some(text) = text_of_path(alloc, libraries, loading, root, request.path.as_str())? else {
+        return Err(refused_open(alloc, loading, instance, request, Rule::NoModule));
+    };
+    placed(alloc, loading, instance, limit, request, text)
+}
