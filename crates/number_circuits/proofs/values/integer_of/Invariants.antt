@@ -1,0 +1,11 @@
+use Rattle.gate_trait.specs.Built.{Keeps, AllIn}
+use Rattle.number_circuits.proofs.values.integer_of.Given as goal
+
+abbrev pub invariant-loop-entry : goal.invariant-loop-entry
+invariant-loop-entry g l =
+    let belongs = g.G.Gates.belongs in
+    let value = g.G.Gates.node_value in
+    record {
+      keeps : Keeps belongs value l.initial.gates l.gates;
+      belong : AllIn (belongs l.gates) l.total;
+    }
