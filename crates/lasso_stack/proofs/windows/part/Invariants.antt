@@ -1,0 +1,7 @@
+use Rattle.gate_trait.specs.Built.{AllIn}
+use Rattle.lasso_stack.proofs.windows.part.Given as goal
+
+abbrev pub invariant-loop-place : goal.invariant-loop-place
+invariant-loop-place g l =
+    let belongs = g.G.Gates.belongs in
+    AllIn (belongs l.gates) l.new

@@ -1,0 +1,143 @@
+// The tuples that sets may have, and parts of sets.
+
+ghost use Rattle.std.specs.Prelude.{IfOk, OnOk};
+ghost use Rattle.gate_trait.specs.Built.{AllIn};
+ghost use Rattle.bool_matrix.specs.Matrices.{AllBelong};
+ghost use Rattle.lasso_stack.specs.Stored.{AreStored};
+
+use crate::basics::{add_matrix, push_row};
+use crate::store::Store;
+use bool_matrix::Matrix;
+use gate_trait::{Gates, Node, NodeList};
+use lasso_frame::{moved, pairs_of};
+use set_circuits::{add_tuples, distinct_tuples, rest_of};
+use std::alloc::{AllocError, Global};
+use tuple_sets::Tuple;
+
+/// The tuples of the sets of a row, in order, each once.
+fn tuples_of(alloc: Global, store: &Store, row: &[usize]) -> Result<Vec<Tuple>, AllocError> {
+    let pairs = pairs_of(alloc, row, row)?;
+    let mut all = Vec::new(alloc);
+    for pair in &pairs.pairs {
+        if let Some(matrix) = store.matrices.get(pair.0) {
+            add_tuples(alloc, matrix, &mut all)?;
+        }
+    }
+    distinct_tuples(alloc, all)
+}
+
+/// The node that says whether a tuple is in a set; the constant false where it has none.
+fn found_in<G: Gates>(gates: &G, matrix: &Matrix, tuple: &Tuple) -> Node
+    requires { AllBelong (G.belongs gates.now) matrix.now.entries }
+    ensures { G.belongs gates.now result }
+{
+    match matrix.node(tuple) {
+        Some(node) => node,
+        None => gates.constant(false),
+    }
+}
+
+/// The node that says whether a tuple is in a set; the constant false where there is no set of this
+/// number.
+fn member_node<G: Gates>(gates: &G, store: &Store, number: usize, tuple: &Tuple) -> Node
+    requires { AreStored (G.belongs gates.now) store.now }
+    ensures { G.belongs gates.now result }
+{
+    if number >= store.matrices.len() {
+        return gates.constant(false);
+    }
+    found_in(gates, &store.matrices[number], tuple)
+}
+
+/// Adds the nodes that say at which places the tuple is in the set.
+fn add_row<G: Gates>(
+    gates: &G,
+    store: &Store,
+    row: &[usize],
+    tuple: &Tuple,
+    nodes: &mut NodeList,
+) -> Result<(), AllocError>
+    requires store { AreStored (G.belongs gates.now) store.now }
+    requires nodes { AllIn (G.belongs gates.now) nodes.old }
+    ensures { AllIn (G.belongs gates.now) nodes.new }
+{
+    for number in row {
+        nodes.push(member_node(gates, store, *number, tuple))?;
+    }
+    Ok(())
+}
+
+/// The nodes that say at which places each tuple is in the set: those of the first tuple first.
+fn member_nodes<G: Gates>(
+    alloc: Global,
+    gates: &G,
+    store: &Store,
+    row: &[usize],
+    tuples: &[Tuple],
+) -> Result<NodeList, AllocError>
+    requires { AreStored (G.belongs gates.now) store.now }
+    ensures { IfOk result (λ nodes. AllIn (G.belongs gates.now) nodes) }
+{
+    let mut nodes = NodeList::new(alloc);
+    for tuple in tuples {
+        add_row(gates, store, row, tuple, &mut nodes)?;
+    }
+    Ok(nodes)
+}
+
+/// The tuples that a set may have at some place. Puts on the stack the nodes that say at which
+/// places each is in the set, those of the first tuple first.
+pub fn members_of<G: Gates>(
+    alloc: Global,
+    gates: &G,
+    store: &mut Store,
+    row: &[usize],
+) -> Result<Vec<Tuple>, AllocError>
+    requires { AreStored (G.belongs gates.now) store.old }
+    ensures { OnOk result (AreStored (G.belongs gates.now) store.new) }
+{
+    let tuples = tuples_of(alloc, store, row)?;
+    let nodes = member_nodes(alloc, gates, store, row, &tuples)?;
+    push_row(gates, store, nodes)?;
+    Ok(tuples)
+}
+
+/// What follows or stands before some numbers in a set; the empty set where there is no set of this
+/// number.
+fn rest_at<G: Gates>(
+    alloc: Global,
+    gates: &G,
+    store: &Store,
+    number: usize,
+    numbers: &[u32],
+    at_start: bool,
+) -> Result<Matrix, AllocError>
+    requires { AreStored (G.belongs gates.now) store.now }
+    ensures { IfOk result (λ m. AllBelong (G.belongs gates.now) m.entries) }
+{
+    if number >= store.matrices.len() {
+        return Ok(Matrix::empty(alloc, 1));
+    }
+    rest_of(alloc, gates, &store.matrices[number], numbers, at_start)
+}
+
+/// What follows or stands before some numbers in the set at each place.
+pub fn rests<G: Gates>(
+    alloc: Global,
+    gates: &G,
+    store: &mut Store,
+    row: &[usize],
+    numbers: &[u32],
+    at_start: bool,
+) -> Result<Vec<usize>, AllocError>
+    requires { AreStored (G.belongs gates.now) store.old }
+    ensures { OnOk result (AreStored (G.belongs gates.now) store.new) }
+{
+    let pairs = pairs_of(alloc, row, row)?;
+    let mut made = Vec::new(alloc);
+    for pair in &pairs.pairs {
+        let new = rest_at(alloc, gates, store, pair.0, numbers, at_start)?;
+        made.push(add_matrix(gates, store, new)?)?;
+    }
+    moved(alloc, &made, &pairs.row)
+}

@@ -1,0 +1,235 @@
+// Operators and tests on numbers of sets and integers.
+
+ghost use Rattle.std.specs.Prelude.{IfOk, OnOk};
+ghost use Rattle.gate_trait.specs.Built.{Keeps, AllIn};
+ghost use Rattle.bool_matrix.specs.Matrices.{AllBelong};
+ghost use Rattle.lasso_stack.specs.Stored.{AreStored};
+
+use crate::basics::{add_integer, add_matrix};
+use crate::steps::extend_top;
+use crate::store::Store;
+use bool_matrix::Matrix;
+use core_tree::{Comparison, IntOp};
+use gate_trait::{Gates, Node};
+use int_circuits::Bits;
+use number_circuits::{calculate, compare, count_of, integer_of, matrix_of};
+use set_circuits::{Question, SetOperator, apply, ask};
+use std::alloc::{AllocError, Global};
+use tuple_sets::Universe;
+
+/// An operator on one or two sets or integers. That on one is given it twice.
+#[derive(Clone, Copy, Debug, PartialEq, Eq)]
+pub enum Operator {
+    /// A set of two sets.
+    OfSets(SetOperator),
+    /// An integer of two integers.
+    OfIntegers(IntOp),
+    /// The number of tuples of a set.
+    Count,
+    /// The sum of the integers of a set.
+    Total,
+    /// The set of one integer.
+    AsSet,
+}
+
+/// A test of one or two sets or integers. That of one is given it twice.
+#[derive(Clone, Copy, Debug, PartialEq, Eq)]
+pub enum TestOperator {
+    OfSets(Question),
+    OfIntegers(Comparison),
+}
+
+/// What an operator gives of two sets; the empty set where there are none of these numbers.
+fn set_of_sets<G: Gates>(
+    alloc: Global,
+    gates: &mut G,
+    store: &Store,
+    op: SetOperator,
+    a: usize,
+    b: usize,
+) -> Result<Matrix, AllocError>
+    requires { AreStored (G.belongs gates.old) store.now }
+    ensures keeps { Keeps G.belongs G.node_value gates.old gates.new }
+    ensures belongs { IfOk result (λ m. AllBelong (G.belongs gates.new) m.entries) }
+{
+    if a >= store.matrices.len() || b >= store.matrices.len() {
+        return Ok(Matrix::empty(alloc, 1));
+    }
+    apply(alloc, gates, op, &store.matrices[a], &store.matrices[b])
+}
+
+/// What an operator gives of two integers; no bits where there are none of these numbers.
+fn integer_of_integers<G: Gates>(
+    alloc: Global,
+    gates: &mut G,
+    store: &Store,
+    op: IntOp,
+    a: usize,
+    b: usize,
+) -> Result<Bits, AllocError>
+    requires { AreStored (G.belongs gates.old) store.now }
+    ensures keeps { Keeps G.belongs G.node_value gates.old gates.new }
+    ensures belongs { IfOk result (λ s. AllIn (G.belongs gates.new) s) }
+{
+    if a >= store.integers.len() || b >= store.integers.len() {
+        return Ok(Bits::new(alloc));
+    }
+    calculate(alloc, gates, op, &store.integers[a], &store.integers[b])
+}
+
+/// The number of tuples of a set; no bits where there is none of this number.
+fn count_at<G: Gates>(
+    alloc: Global,
+    gates: &mut G,
+    store: &Store,
+    universe: Universe,
+    a: usize,
+) -> Result<Bits, AllocError>
+    requires { AreStored (G.belongs gates.old) store.now }
+    ensures keeps { Keeps G.belongs G.node_value gates.old gates.new }
+    ensures belongs { IfOk result (λ s. AllIn (G.belongs gates.new) s) }
+{
+    if a >= store.matrices.len() {
+        return Ok(Bits::new(alloc));
+    }
+    count_of(alloc, gates, universe.bits, &store.matrices[a])
+}
+
+/// The sum of the integers of a set; no bits where there is none of this number.
+fn total_at<G: Gates>(
+    alloc: Global,
+    gates: &mut G,
+    store: &Store,
+    universe: Universe,
+    a: usize,
+) -> Result<Bits, AllocError>
+    requires { AreStored (G.belongs gates.old) store.now }
+    ensures keeps { Keeps G.belongs G.node_value gates.old gates.new }
+    ensures belongs { IfOk result (λ s. AllIn (G.belongs gates.new) s) }
+{
+    if a >= store.matrices.len() {
+        return Ok(Bits::new(alloc));
+    }
+    integer_of(alloc, gates, universe, &store.matrices[a])
+}
+
+/// The set of an integer; the empty set where there is none of this number.
+fn set_at<G: Gates>(
+    alloc: Global,
+    gates: &mut G,
+    store: &Store,
+    universe: Universe,
+    a: usize,
+) -> Result<Matrix, AllocError>
+    requires { AreStored (G.belongs gates.old) store.now }
+    ensures keeps { Keeps G.belongs G.node_value gates.old gates.new }
+    ensures belongs { IfOk result (λ m. AllBelong (G.belongs gates.new) m.entries) }
+{
+    if a >= store.integers.len() {
+        return Ok(Matrix::empty(alloc, 1));
+    }
+    matrix_of(alloc, gates, universe, &store.integers[a])
+}
+
+/// Adds what the operator gives, and gives its number.
+pub fn apply_at<G: Gates>(
+    alloc: Global,
+    gates: &mut G,
+    store: &mut Store,
+    universe: Universe,
+    op: Operator,
+    pair: (usize, usize),
+) -> Result<usize, AllocError>
+    requires { AreStored (G.belongs gates.old) store.old }
+    ensures { OnOk result (AreStored (G.belongs gates.new) store.new) }
+{
+    match op {
+        Operator::OfSets(op) => {
+            let new = set_of_sets(alloc, gates, store, op, pair.0, pair.1)?;
+            add_matrix(gates, store, new)
+        }
+        Operator::OfIntegers(op) => {
+            let new = integer_of_integers(alloc, gates, store, op, pair.0, pair.1)?;
+            add_integer(gates, store, new)
+        }
+        Operator::Count => {
+            let new = count_at(alloc, gates, store, universe, pair.0)?;
+            add_integer(gates, store, new)
+        }
+        Operator::Total => {
+            let new = total_at(alloc, gates, store, universe, pair.0)?;
+            add_integer(gates, store, new)
+        }
+        Operator::AsSet => {
+            let new = set_at(alloc, gates, store, universe, pair.0)?;
+            add_matrix(gates, store, new)
+        }
+    }
+}
+
+/// Whether two sets pass the test; never where there are none of these numbers.
+fn ask_sets<G: Gates>(
+    alloc: Global,
+    gates: &mut G,
+    store: &Store,
+    question: Question,
+    a: usize,
+    b: usize,
+) -> Result<Node, AllocError>
+    requires { AreStored (G.belongs gates.old) store.now }
+    ensures keeps { Keeps G.belongs G.node_value gates.old gates.new }
+    ensures belongs { IfOk result (λ n. G.belongs gates.new n) }
+{
+    if a >= store.matrices.len() || b >= store.matrices.len() {
+        return Ok(gates.constant(false));
+    }
+    ask(
+        alloc,
+        gates,
+        question,
+        &store.matrices[a],
+        &store.matrices[b],
+    )
+}
+
+/// Whether two integers compare so; never where there are none of these numbers.
+fn ask_integers<G: Gates>(
+    alloc: Global,
+    gates: &mut G,
+    store: &Store,
+    op: Comparison,
+    a: usize,
+    b: usize,
+) -> Result<Node, AllocError>
+    requires { AreStored (G.belongs gates.old) store.now }
+    ensures keeps { Keeps G.belongs G.node_value gates.old gates.new }
+    ensures belongs { IfOk result (λ n. G.belongs gates.new n) }
+{
+    if a >= store.integers.len() || b >= store.integers.len() {
+        return Ok(gates.constant(false));
+    }
+    compare(alloc, gates, op, &store.integers[a], &store.integers[b])
+}
+
+/// Adds whether the test is passed to the row on top.
+pub fn ask_at<G: Gates>(
+    alloc: Global,
+    gates: &mut G,
+    store: &mut Store,
+    question: TestOperator,
+    pair: (usize, usize),
+) -> Result<(), AllocError>
+    requires { AreStored (G.belongs gates.old) store.old }
+    ensures { OnOk result (AreStored (G.belongs gates.new) store.new) }
+{
+    match question {
+        TestOperator::OfSets(question) => {
+            let node = ask_sets(alloc, gates, store, question, pair.0, pair.1)?;
+            extend_top(alloc, gates, store, node)
+        }
+        TestOperator::OfIntegers(op) => {
+            let node = ask_integers(alloc, gates, store, op, pair.0, pair.1)?;
+            extend_top(alloc, gates, store, node)
+        }
+    }
+}

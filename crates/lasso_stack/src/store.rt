@@ -1,0 +1,40 @@
+// What is built.
+
+use bool_matrix::Matrix;
+use gate_trait::NodeList;
+use int_circuits::Bits;
+
+/// What has been built.
+#[derive(Drop)]
+pub struct Store {
+    /// The sets that are named by their numbers.
+    pub matrices: Vec<Matrix>,
+    /// The integers that are named by their numbers.
+    pub integers: Vec<Bits>,
+    /// The stack of rows.
+    pub rows: Vec<NodeList>,
+    /// The stack of rows that say where tuples of comprehensions are found.
+    pub found: Vec<NodeList>,
+}
+
+/// How many sets and integers there were.
+#[derive(Clone, Copy, Debug, PartialEq, Eq)]
+pub struct Mark {
+    pub matrices: usize,
+    pub integers: usize,
+}
+
+impl Store {
+    /// How many sets and integers there are.
+    pub fn mark(&self) -> Mark {
+        Mark {
+            matrices: self.matrices.len(),
+            integers: self.integers.len(),
+        }
+    }
+
+    /// The place of the row on top of the stack.
+    pub fn top(&self) -> usize {
+        self.rows.len().saturating_sub(1)
+    }
+}
