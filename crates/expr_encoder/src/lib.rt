@@ -1,0 +1,16 @@
+//! Operators of the language on sets and integers, as circuits: one operator at one position, from
+//! its operands.
+#![tactic(auto)]
+
+pub mod combined;
+pub mod questions;
+pub mod relations;
+pub mod unary;
+
+pub use combined::{combine, multiplied};
+pub use questions::{TestOp, test_op};
+pub use relations::{RelOp, relation_op};
+pub use unary::{closed, identity, transposed};
+
+#[cfg(test)]
+mod tests;
