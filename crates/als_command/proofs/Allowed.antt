@@ -12,22 +12,23 @@ use Rattle.command_words.specs.Named.{takes_second}
 use Rattle.command_words.specs.Settings.{has_second}
 use Rattle.command_words.specs.declared.settings.Settings.{Settings}
 use Rattle.als_command.specs.Files.{Asked, IsFile, asked, asked_in, second_asked, at_start, file_rule, first_broken, first_of}
-use Rattle.als_command.specs.Run.{AllowsFiles, IsOnModel, IsOnProof, IsCheckedIn, RefusedFor, RefusedOn, model_in, model_of}
-use Rattle.als_command.specs.Root.{SpellsModule}
+use Rattle.als_command.specs.Run.{AllowsFiles, IsOnModel, IsOnProof, IsCheckedIn, RefusedFor, RefusedIn, model_in, model_of}
+use Rattle.als_command.specs.Root.{SpellsModule, ListsModule}
 use Rattle.als_command.specs.declared.answer.Answer.{Answer}
-use Rattle.als_command.specs.declared.answer.Answer.TheVariants.{Usage, Refused, ReadFault, Trace, Absent, Checked}
+use Rattle.als_command.specs.declared.answer.Answer.TheVariants.{Usage, Refused, ReadFault, Trace, Absent, Listed, Checked}
 use Rattle.als_command.specs.declared.files.File.TheVariants.{Whole, Broken}
 
 module _ (settings : Settings) (held : List (Option Texts)) (before now : List ℕ) where
   -- an answer on the text of a model, once all files are whole
-  pub on_model : (text : List ℕ) → ((told : List Texts) → held ≡ map (λ t. Some t) told → model_of told settings ≡ Some text) → (a : Answer) → now ≡ before →
-      IsOnModel settings text a → AllowsFiles [] settings held before now a
-  on_model text is Usage same h = absurd h
-  on_model text is (Refused refusal name) same h = (same, λ told tells. (subst (λ o. RefusedOn o refusal) (sym (is told tells)) h.0, h.1, h.2))
-  on_model text is (ReadFault name) same h = absurd h
-  on_model text is (Trace bytes) same h = (same, record { mode = h.0; whole = λ told tells. refl; spells = λ told tells. subst (λ o. SpellsModule o) (sym (is told tells)) h.1 })
-  on_model text is (Absent bytes) same h = (same, record { mode = h.0; whole = λ told tells. refl; spells = λ told tells. subst (λ o. SpellsModule o) (sym (is told tells)) h.1 })
-  on_model text is (Checked verdict clauses lines) same h = absurd h
+  pub on_model : (text : List ℕ) → ((told : List Texts) → held ≡ map (λ t. Some t) told → model_of told settings ≡ Some text) → (a : Answer) →
+      IsOnModel settings text before now a → AllowsFiles [] settings held before now a
+  on_model text is Usage h = absurd h
+  on_model text is (Refused refusal name) h = (h.0, λ told tells. subst (λ o. RefusedIn o settings refusal name) (sym (is told tells)) h.1)
+  on_model text is (ReadFault name) h = (inr h.0, h.1)
+  on_model text is (Trace bytes) h = (h.0, record { mode = h.1; whole = λ told tells. refl; spells = λ told tells. subst (λ o. SpellsModule o) (sym (is told tells)) h.2 })
+  on_model text is (Absent bytes) h = (h.0, record { mode = h.1; whole = λ told tells. refl; spells = λ told tells. subst (λ o. SpellsModule o) (sym (is told tells)) h.2 })
+  on_model text is (Listed list) h = (h.0, record { mode = h.1; whole = λ told tells. refl; lists = λ told tells. subst (λ o. ListsModule o list) (sym (is told tells)) h.2 })
+  on_model text is (Checked verdict clauses lines) h = absurd h
 
   -- a file that breaks a rule as a whole is refused
   pub on_broken : (name : List ℕ) (most : ℕ) (files : List Asked) (rule : Rule) → IsFile held name most before now (Broken rule) →
@@ -38,7 +39,7 @@ module _ (settings : Settings) (held : List (Option Texts)) (before now : List �
   )
 
   pub on_failed : (name : List ℕ) (most : ℕ) (files : List Asked) → SomeRose before now → AllowsFiles ((name, most) ∷ files) settings held before now (ReadFault name)
-  on_failed name most files h = (inl refl, h)
+  on_failed name most files h = (inl (inl refl), h)
 
   -- after a file that is whole, what the other files allow
   pub on_whole : (name : List ℕ) (most : ℕ) (files : List Asked) (a : Answer) → ((told : List Texts) → held ≡ map (λ t. Some t) told → file_rule told (name, most) ≡ None) →
@@ -48,7 +49,7 @@ module _ (settings : Settings) (held : List (Option Texts)) (before now : List �
     h.0,
     λ told tells. subst (λ o. RefusedFor (first_of o name (first_broken told files)) (model_of told settings) settings refusal n) (sym (whole told tells)) (h.1 told tells),
   )
-  on_whole name most files (ReadFault n) whole h = (inr h.0, h.1)
+  on_whole name most files (ReadFault n) whole h = (elim h.0 [ inl one ↦ inl (inr one) | inr other ↦ inr other ], h.1)
   on_whole name most files (Trace text) whole h = (
     h.0,
     record { mode = h.1.mode; whole = λ told tells. ap (λ o. first_of o name (first_broken told files)) (whole told tells) ∙ h.1.whole told tells; spells = h.1.spells },
@@ -56,6 +57,10 @@ module _ (settings : Settings) (held : List (Option Texts)) (before now : List �
   on_whole name most files (Absent text) whole h = (
     h.0,
     record { mode = h.1.mode; whole = λ told tells. ap (λ o. first_of o name (first_broken told files)) (whole told tells) ∙ h.1.whole told tells; spells = h.1.spells },
+  )
+  on_whole name most files (Listed list) whole h = (
+    h.0,
+    record { mode = h.1.mode; whole = λ told tells. ap (λ o. first_of o name (first_broken told files)) (whole told tells) ∙ h.1.whole told tells; lists = h.1.lists },
   )
   on_whole name most files (Checked verdict clauses lines) whole h = (
     h.0,
@@ -116,15 +121,16 @@ model_in_one Least file second asks lrat text = refl
 model_in_one Core file second asks lrat text = refl
 
 -- the model is whole, and the answer is one on its text
-pub whole_allows : (settings : Settings) (held : List (Option Texts)) (before now : List ℕ) → asked settings ≡ (settings.file, MODULE_BYTES) ∷ [] → settings.mode ≢ Lrat →
-    (r : Result Answer AllocError) (answer : Answer) → r ≡ Ok answer → (text : Vec ℕ Global) → IsFile held settings.file MODULE_BYTES before now (Whole text) → IfOk r (IsOnModel settings text.items) →
-    AllowsFiles (asked settings) settings held before now answer
-whole_allows settings held before now asks lrat r answer is text file on =
+pub whole_allows : (settings : Settings) (held : List (Option Texts)) (before mid now : List ℕ) → asked settings ≡ (settings.file, MODULE_BYTES) ∷ [] → settings.mode ≢ Lrat →
+    (r : Result Answer AllocError) (answer : Answer) → r ≡ Ok answer → (text : Vec ℕ Global) → IsFile held settings.file MODULE_BYTES before mid (Whole text) →
+    IfOk r (IsOnModel settings text.items mid now) → AllowsFiles (asked settings) settings held before now answer
+whole_allows settings held before mid now asks lrat r answer is text file on =
     let reads : (told : List Texts) → held ≡ map (λ t. Some t) told → model_of told settings ≡ Some text.items =
     λ told tells. model_in_one settings.mode settings.file settings.second asks lrat (texts.text_of told settings.file) ∙ (file.1 told tells).0 in
     subst (λ fs. AllowsFiles fs settings held before now answer) (sym asks)
     (on_whole settings held before now settings.file MODULE_BYTES [] answer (λ told tells. (file.1 told tells).1)
-    (on_model settings held before now text.items reads answer file.0 (if_ok (IsOnModel settings text.items) r answer on is)))
+    (subst (λ ns. AllowsFiles [] settings held ns now answer) file.0
+    (on_model settings held mid now text.items reads answer (if_ok (IsOnModel settings text.items mid now) r answer on is))))
 
 -- a file is whole, and the answer is one that the others allow
 pub then_allows : (settings : Settings) (held later : List (Option Texts)) (before mid now : List ℕ) (name : List ℕ) (most : ℕ) (files rest : List Asked) → files ≡ (name, most) ∷ rest →

@@ -11,14 +11,14 @@ use Rattle.lrat_mode.specs.declared.mode.Verdict.{Verdict}
 use Rattle.lrat_mode.specs.declared.mode.Verdict.TheVariants as says
 use Rattle.als_command.specs.Answer.{text_of, status_of, usage_line}
 use Rattle.als_command.specs.Files.{asked, first_broken}
-use Rattle.als_command.specs.Run.{Allows, Written, written, no_memory, write_fault, Finished, delivered, gave_up, Justified, Refuses, Checks, FailsToRead, FailsToWrite, Searches, IsStatus, IsProofOf, IsCheckedIn, RefusedFor, model_in, model_of}
-use Rattle.als_command.specs.Root.{SpellsModule, ReadsAs}
+use Rattle.als_command.specs.Run.{Allows, Written, written, no_memory, write_fault, Finished, delivered, gave_up, Justified, Refuses, Checks, Listing, FailsToRead, FailsToWrite, Searches, IsStatus, IsProofOf, IsCheckedIn, RefusedFor, model_in, model_of}
+use Rattle.als_command.specs.Root.{SpellsModule, ListsModule, SpellIn}
 use Rattle.als_lexer.specs.Tokens.{tokens_of}
 use Rattle.alloy_base.specs.declared.place.Refusal.{Refusal}
 use Rattle.command_words.specs.declared.named.Mode.TheVariants.{Lrat}
 use Rattle.verdict_laws.proofs.Verdicts.{one_verdict}
 use Rattle.als_command.specs.declared.answer.Answer.{Answer}
-use Rattle.als_command.specs.declared.answer.Answer.TheVariants.{Usage, Refused, ReadFault, Trace, Absent, Checked}
+use Rattle.als_command.specs.declared.answer.Answer.TheVariants.{Usage, Refused, ReadFault, Trace, Absent, Listed, Checked}
 
 -- an empty text is written by no call
 pub nothing_written : (old : Option (List ℕ)) → Written old old []
@@ -46,6 +46,7 @@ not_five (Refused refusal name) is = omega arith
 not_five (ReadFault name) is = omega arith
 not_five (Trace text) is = omega arith
 not_five (Absent text) is = omega arith
+not_five (Listed list) is = omega arith
 not_five (Checked v clauses lines) is = other_status v 5 (λ e. omega arith) (λ e. omega arith) (λ e. omega arith) is
 
 not_six : (a : Answer) → status_of a ≡ 6 → ⊥
@@ -54,6 +55,7 @@ not_six (Refused refusal name) is = omega arith
 not_six (ReadFault name) is = omega arith
 not_six (Trace text) is = omega arith
 not_six (Absent text) is = omega arith
+not_six (Listed list) is = omega arith
 not_six (Checked v clauses lines) is = other_status v 6 (λ e. omega arith) (λ e. omega arith) (λ e. omega arith) is
 
 answer_status : (a : Answer) → IsStatus (status_of a)
@@ -62,6 +64,7 @@ answer_status (Refused refusal name) = inr (inr (inr (inl refl)))
 answer_status (ReadFault name) = inr (inr (inr (inr (inl refl))))
 answer_status (Trace text) = inr (inr (inr (inr (inr (inr (inr (inl refl)))))))
 answer_status (Absent text) = inr (inr (inr (inr (inr (inr (inr (inr (refl))))))))
+answer_status (Listed list) = inl refl
 answer_status (Checked v clauses lines) = elim (verdict_status v) [
   | inl e ↦ inl e
   | inr rest ↦ elim rest [ inl e ↦ inr (inl e) | inr e ↦ inr (inr (inr (inl e))) ]
@@ -87,12 +90,14 @@ module _ (given : Option Settings) (held : List (Option Texts)) (before now : Li
   usage_given None (ReadFault name) allows is = absurd allows
   usage_given None (Trace text) allows is = absurd allows
   usage_given None (Absent text) allows is = absurd allows
+  usage_given None (Listed list) allows is = absurd allows
   usage_given None (Checked v clauses lines) allows is = absurd allows
   usage_given (Some settings) Usage allows is = absurd allows
   usage_given (Some settings) (Refused refusal name) allows is = absurd (omega arith)
   usage_given (Some settings) (ReadFault name) allows is = absurd (omega arith)
   usage_given (Some settings) (Trace text) allows is = absurd (omega arith)
   usage_given (Some settings) (Absent text) allows is = absurd (omega arith)
+  usage_given (Some settings) (Listed list) allows is = absurd (omega arith)
   usage_given (Some settings) (Checked v clauses lines) allows is = absurd (other_status v 2 (λ e. omega arith) (λ e. omega arith) (λ e. omega arith) is)
 
   usage_where_none : (a : Answer) → Allows None held before now a → status_of a ≡ 2
@@ -101,6 +106,7 @@ module _ (given : Option Settings) (held : List (Option Texts)) (before now : Li
   usage_where_none (ReadFault name) allows = absurd allows
   usage_where_none (Trace text) allows = absurd allows
   usage_where_none (Absent text) allows = absurd allows
+  usage_where_none (Listed list) allows = absurd allows
   usage_where_none (Checked v clauses lines) allows = absurd allows
 
   refused_given : (o : Option Settings) (a : Answer) (old new : Option (List ℕ)) → Allows o held before now a → status_of a ≡ 3 → Written old new (text_of a) → Refuses o held old new ⊎ Checks o held old new 3
@@ -109,6 +115,7 @@ module _ (given : Option Settings) (held : List (Option Texts)) (before now : Li
   refused_given None (ReadFault name) old new allows is line = absurd allows
   refused_given None (Trace text) old new allows is line = absurd allows
   refused_given None (Absent text) old new allows is line = absurd allows
+  refused_given None (Listed list) old new allows is line = absurd allows
   refused_given None (Checked v clauses lines) old new allows is line = absurd allows
   refused_given (Some settings) Usage old new allows is line = absurd allows
   refused_given (Some settings) (Refused refusal name) old new allows is line =
@@ -116,23 +123,27 @@ module _ (given : Option Settings) (held : List (Option Texts)) (before now : Li
   refused_given (Some settings) (ReadFault name) old new allows is line = absurd (omega arith)
   refused_given (Some settings) (Trace text) old new allows is line = absurd (omega arith)
   refused_given (Some settings) (Absent text) old new allows is line = absurd (omega arith)
+  refused_given (Some settings) (Listed list) old new allows is line = absurd (omega arith)
   refused_given (Some settings) (Checked v clauses lines) old new allows is line =
       inr (record { settings = settings; verdict = v; clauses = clauses; lines = lines; fit = refl; cause = allows.1; line = line; has = sym is })
 
-  checked_given : (o : Option Settings) (a : Answer) (old new : Option (List ℕ)) (n : ℕ) → Allows o held before now a → status_of a ≡ n → (n ≡ 0) ⊎ (n ≡ 1) → Written old new (text_of a) → Checks o held old new n
+  checked_given : (o : Option Settings) (a : Answer) (old new : Option (List ℕ)) (n : ℕ) → Allows o held before now a → status_of a ≡ n → (n ≡ 0) ⊎ (n ≡ 1) → Written old new (text_of a) → Checks o held old new n ⊎ ((n ≡ 0) × Listing o held old new)
   checked_given None Usage old new n allows is low line = elim low [ inl e ↦ absurd (omega arith) | inr e ↦ absurd (omega arith) ]
   checked_given None (Refused refusal name) old new n allows is low line = absurd allows
   checked_given None (ReadFault name) old new n allows is low line = absurd allows
   checked_given None (Trace text) old new n allows is low line = absurd allows
   checked_given None (Absent text) old new n allows is low line = absurd allows
+  checked_given None (Listed list) old new n allows is low line = absurd allows
   checked_given None (Checked v clauses lines) old new n allows is low line = absurd allows
   checked_given (Some settings) Usage old new n allows is low line = absurd allows
   checked_given (Some settings) (Refused refusal name) old new n allows is low line = elim low [ inl e ↦ absurd (omega arith) | inr e ↦ absurd (omega arith) ]
   checked_given (Some settings) (ReadFault name) old new n allows is low line = elim low [ inl e ↦ absurd (omega arith) | inr e ↦ absurd (omega arith) ]
   checked_given (Some settings) (Trace text) old new n allows is low line = elim low [ inl e ↦ absurd (omega arith) | inr e ↦ absurd (omega arith) ]
   checked_given (Some settings) (Absent text) old new n allows is low line = elim low [ inl e ↦ absurd (omega arith) | inr e ↦ absurd (omega arith) ]
+  checked_given (Some settings) (Listed list) old new n allows is low line =
+      inr (sym is, record { settings = settings; list = list; fit = refl; cause = allows.1; line = line })
   checked_given (Some settings) (Checked v clauses lines) old new n allows is low line =
-      record { settings = settings; verdict = v; clauses = clauses; lines = lines; fit = refl; cause = allows.1; line = line; has = sym is }
+      inl (record { settings = settings; verdict = v; clauses = clauses; lines = lines; fit = refl; cause = allows.1; line = line; has = sym is })
 
   -- where the files of a proof are whole, the answer is the verdict on their texts, unless a library failed
   proof_given : (settings : Settings) (a : Answer) (told : List Texts) (name clauses lines : List ℕ) (verdict : Verdict) → Allows (Some settings) held before now a → held ≡ map (λ t. Some t) told →
@@ -140,10 +151,11 @@ module _ (given : Option Settings) (held : List (Option Texts)) (before now : Li
   proof_given settings Usage told name clauses lines verdict allows tells is = absurd allows
   proof_given settings (Refused refusal n) told name clauses lines verdict allows tells is =
       let why : RefusedFor None (model_of told settings) settings refusal n = subst (λ o. RefusedFor o (model_of told settings) settings refusal n) is.whole (allows.1 told tells) in
-      absurd (why.2 is.mode)
+      elim why [ inl one ↦ absurd (one.2 is.mode) | inr loads ↦ cc (loads.0, is.mode) ]
   proof_given settings (ReadFault n) told name clauses lines verdict allows tells is = inr refl
   proof_given settings (Trace text) told name clauses lines verdict allows tells is = cc (allows.1.mode, is.mode)
   proof_given settings (Absent text) told name clauses lines verdict allows tells is = cc (allows.1.mode, is.mode)
+  proof_given settings (Listed list) told name clauses lines verdict allows tells is = cc (allows.1.mode, is.mode)
   proof_given settings (Checked v first second) told name clauses lines verdict allows tells is =
       let named : second ≡ name = cc (allows.1.second, is.second) in
       let one : texts.text_of told first ≡ Some clauses = ap (texts.text_of told) allows.1.first ∙ is.clauses_are in
@@ -157,6 +169,7 @@ module _ (given : Option Settings) (held : List (Option Texts)) (before now : Li
   read_fault_given None (ReadFault name) old new allows is line = absurd allows
   read_fault_given None (Trace text) old new allows is line = absurd allows
   read_fault_given None (Absent text) old new allows is line = absurd allows
+  read_fault_given None (Listed list) old new allows is line = absurd allows
   read_fault_given None (Checked v clauses lines) old new allows is line = absurd allows
   read_fault_given (Some settings) Usage old new allows is line = absurd allows
   read_fault_given (Some settings) (Refused refusal name) old new allows is line = absurd (omega arith)
@@ -164,6 +177,7 @@ module _ (given : Option Settings) (held : List (Option Texts)) (before now : Li
       record { settings = settings; name = name; fit = refl; asked_for = allows.0; rose = allows.1; line = line }
   read_fault_given (Some settings) (Trace text) old new allows is line = absurd (omega arith)
   read_fault_given (Some settings) (Absent text) old new allows is line = absurd (omega arith)
+  read_fault_given (Some settings) (Listed list) old new allows is line = absurd (omega arith)
   read_fault_given (Some settings) (Checked v clauses lines) old new allows is line = absurd (other_status v 4 (λ e. omega arith) (λ e. omega arith) (λ e. omega arith) is)
 
   searched_given : (o : Option Settings) (a : Answer) → Allows o held before now a → (status_of a ≡ 10) ⊎ (status_of a ≡ 20) → Searches o held
@@ -172,12 +186,14 @@ module _ (given : Option Settings) (held : List (Option Texts)) (before now : Li
   searched_given None (ReadFault name) allows is = absurd allows
   searched_given None (Trace text) allows is = absurd allows
   searched_given None (Absent text) allows is = absurd allows
+  searched_given None (Listed list) allows is = absurd allows
   searched_given None (Checked v clauses lines) allows is = absurd allows
   searched_given (Some settings) Usage allows is = absurd allows
   searched_given (Some settings) (Refused refusal name) allows is = elim is [ inl e ↦ absurd (omega arith) | inr e ↦ absurd (omega arith) ]
   searched_given (Some settings) (ReadFault name) allows is = elim is [ inl e ↦ absurd (omega arith) | inr e ↦ absurd (omega arith) ]
   searched_given (Some settings) (Trace text) allows is = record { settings = settings; fit = refl; searched = allows.1 }
   searched_given (Some settings) (Absent text) allows is = record { settings = settings; fit = refl; searched = allows.1 }
+  searched_given (Some settings) (Listed list) allows is = elim is [ inl e ↦ absurd (omega arith) | inr e ↦ absurd (omega arith) ]
   searched_given (Some settings) (Checked v clauses lines) allows is = elim is [
     | inl e ↦ absurd (other_status v 10 (λ z. omega arith) (λ z. omega arith) (λ z. omega arith) e)
     | inr e ↦ absurd (other_status v 20 (λ z. omega arith) (λ z. omega arith) (λ z. omega arith) e)
@@ -191,6 +207,7 @@ module _ (given : Option Settings) (held : List (Option Texts)) (before now : Li
   broken_given settings (ReadFault name) told broken allows tells breaks = inr refl
   broken_given settings (Trace text) told broken allows tells breaks = cc (allows.1.whole told tells, breaks)
   broken_given settings (Absent text) told broken allows tells breaks = cc (allows.1.whole told tells, breaks)
+  broken_given settings (Listed list) told broken allows tells breaks = cc (allows.1.whole told tells, breaks)
   broken_given settings (Checked v clauses lines) told broken allows tells breaks = cc (allows.1.whole told tells, breaks)
 
   -- a text that can't be cut into tokens spells no module
@@ -199,8 +216,12 @@ module _ (given : Option Settings) (held : List (Option Texts)) (before now : Li
   uncut (Some bytes) text refusal is cut spells =
       let same : bytes ≡ text = cc in
       let on : SpellsModule (Some text) = subst (λ b. SpellsModule (Some b)) same spells in
-      let no : None ≡ Some refusal = subst (λ ts. ReadsAs ts None) cut on in
-      cc
+      absurd (subst (λ ts. SpellIn ts on.tree) cut on.spelled)
+
+  -- a module whose commands are listed is one that the text spells
+  listed_spells : (model : Option (List ℕ)) (list : List ℕ) → ListsModule model list → SpellsModule model
+  listed_spells None list lists = absurd lists
+  listed_spells (Some text) list lists = record { tree = lists.tree; spelled = lists.spelled }
 
   -- a run that checks a proof reads no model
   no_model : (settings : Settings) (told : List Texts) (text : List ℕ) → settings.mode ≡ Lrat → model_of told settings ≡ Some text → ⊥
@@ -216,6 +237,7 @@ module _ (given : Option Settings) (held : List (Option Texts)) (before now : Li
   uncut_given settings (ReadFault name) told text refusal allows tells is cut = inr refl
   uncut_given settings (Trace bytes) told text refusal allows tells is cut = absurd (uncut (model_of told settings) text refusal is cut (allows.1.spells told tells))
   uncut_given settings (Absent bytes) told text refusal allows tells is cut = absurd (uncut (model_of told settings) text refusal is cut (allows.1.spells told tells))
+  uncut_given settings (Listed list) told text refusal allows tells is cut = absurd (uncut (model_of told settings) text refusal is cut (listed_spells (model_of told settings) list (allows.1.lists told tells)))
   uncut_given settings (Checked v clauses lines) told text refusal allows tells is cut = absurd (no_model settings told text allows.1.mode is)
 
   -- where a count has changed, the answer is a library's fault
@@ -225,12 +247,14 @@ module _ (given : Option Settings) (held : List (Option Texts)) (before now : Li
   risen_given None (ReadFault name) allows other = absurd allows
   risen_given None (Trace text) allows other = absurd allows
   risen_given None (Absent text) allows other = absurd allows
+  risen_given None (Listed list) allows other = absurd allows
   risen_given None (Checked v clauses lines) allows other = absurd allows
   risen_given (Some settings) Usage allows other = absurd allows
   risen_given (Some settings) (Refused refusal name) allows other = absurd (other allows.0)
   risen_given (Some settings) (ReadFault name) allows other = refl
   risen_given (Some settings) (Trace text) allows other = absurd (other allows.0)
   risen_given (Some settings) (Absent text) allows other = absurd (other allows.0)
+  risen_given (Some settings) (Listed list) allows other = absurd (other allows.0)
   risen_given (Some settings) (Checked v clauses lines) allows other = absurd (other allows.0)
 
   module _ (old new : Option (List ℕ)) (f g s : ℕ) where
@@ -273,7 +297,7 @@ module _ (given : Option Settings) (held : List (Option Texts)) (before now : Li
         let told = said 3 r justified finished is (λ e. omega arith) (λ e. omega arith) in
         refused_given given told.answer old new told.allowed told.has told.line
 
-    pub checked : (r : Result Answer AllocError) → Justified given held before now r → Finished r old new f g s → (s ≡ 0) ⊎ (s ≡ 1) → Checks given held old new s
+    pub checked : (r : Result Answer AllocError) → Justified given held before now r → Finished r old new f g s → (s ≡ 0) ⊎ (s ≡ 1) → Checks given held old new s ⊎ ((s ≡ 0) × Listing given held old new)
     checked r justified finished low =
         let told = said s r justified finished refl (λ e. elim low [ inl z ↦ omega arith | inr o ↦ omega arith ]) (λ e. elim low [ inl z ↦ omega arith | inr o ↦ omega arith ]) in
         checked_given given told.answer old new s told.allowed told.has low told.line

@@ -1,3 +1,4 @@
 pub mod Allowed
 pub mod Ends
 pub mod Fetched
+pub mod OnModel

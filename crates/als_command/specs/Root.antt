@@ -9,10 +9,12 @@ use Rattle.als_tree.specs.ModuleWords.{module_words}
 use Rattle.als_tree.specs.ModuleRules.{module_right}
 use Rattle.als_tree.specs.Spelling.{kinds}
 use Rattle.als_lexer.specs.Tokens.{Tokens, tokens_of}
+use Rattle.command_list.specs.Lines.{command_text}
+use Rattle.als_command.specs.declared.parsed.Root.{Root}
+use Rattle.als_command.specs.declared.parsed.Root.TheVariants as root
 
--- there is a module that the tokens spell, and it keeps the rules of the grammar within the limit of depth
-pub record SpellModule (tokens : List Token) : Type 0 where
-  pub tree : Module
+-- the tokens spell this module, and it keeps the rules of the grammar within the limit of depth
+pub record Spell (tokens : List Token) (tree : Module) : Type 0 where
   pub spells : kinds tokens ≡ module_words tree
   pub right : IsTrue (module_right TREE_DEPTH tree)
 
@@ -21,21 +23,47 @@ abbrev pub FallsUnderGrammar : Refusal → Type 0
 FallsUnderGrammar refusal = (refusal.rule ≡ Syntax) ⊎ (refusal.rule ≡ TooDeep)
 
 -- what parsing these tokens comes to
-abbrev pub ParsesAs : List Token → Option Refusal → Type 0
-ParsesAs tokens None = SpellModule tokens
-ParsesAs tokens (Some refusal) = FallsUnderGrammar refusal
+abbrev pub ParsesTo : List Token → Root → Type 0
+ParsesTo tokens (root.Module parsed) = Spell tokens parsed.tree
+ParsesTo tokens (root.Broken refusal) = FallsUnderGrammar refusal
+
+-- the text with these tokens breaks this rule at this place; for tokens without a module only the rules are known
+abbrev pub BreakIn : Tokens → Refusal → Type 0
+BreakIn (Ok tokens) refusal = FallsUnderGrammar refusal
+BreakIn (Err broken) refusal = refusal ≡ broken
+
+-- the text with these tokens spells this module
+abbrev pub SpellIn : Tokens → Module → Type 0
+SpellIn (Ok tokens) tree = Spell tokens tree
+SpellIn (Err broken) tree = ⊥
 
 -- what reading a text with these tokens comes to
-abbrev pub ReadsAs : Tokens → Option Refusal → Type 0
-ReadsAs (Ok tokens) refusal = ParsesAs tokens refusal
-ReadsAs (Err broken) refusal = refusal ≡ Some broken
+abbrev pub ReadsTo : Tokens → Root → Type 0
+ReadsTo tokens (root.Module parsed) = SpellIn tokens parsed.tree
+ReadsTo tokens (root.Broken refusal) = BreakIn tokens refusal
+
+-- the text with these tokens spells a module
+pub record SpellModule (tokens : Tokens) : Type 0 where
+  pub tree : Module
+  pub spelled : SpellIn tokens tree
+
+-- the text with these tokens spells a module with this list of commands
+pub record ListModule (tokens : Tokens) (list : List ℕ) : Type 0 where
+  pub tree : Module
+  pub spelled : SpellIn tokens tree
+  pub list_is : list ≡ command_text tree
 
 -- the text, if it is there, has tokens, and they spell a module
 abbrev pub SpellsModule : Option (List ℕ) → Type 0
 SpellsModule None = ⊥
-SpellsModule (Some text) = ReadsAs (tokens_of 0 text) None
+SpellsModule (Some text) = SpellModule (tokens_of 0 text)
 
--- the text, if it is there, breaks this rule at this place; for tokens without a module only the rules are known
+-- the text, if it is there, spells a module with this list of commands
+abbrev pub ListsModule : Option (List ℕ) → List ℕ → Type 0
+ListsModule None list = ⊥
+ListsModule (Some text) list = ListModule (tokens_of 0 text) list
+
+-- the text, if it is there, breaks this rule at this place
 abbrev pub Breaks : Option (List ℕ) → Refusal → Type 0
 Breaks None refusal = ⊥
-Breaks (Some text) refusal = ReadsAs (tokens_of 0 text) (Some refusal)
+Breaks (Some text) refusal = BreakIn (tokens_of 0 text) refusal

@@ -1,5 +1,5 @@
 -- What a run may answer, and why.
-use Rattle.std.specs.Prelude.{◌≡◌, ◌≢◌, ℕ, ◌⊎◌, ◌≤◌, List, ◌++◌, take, map, Option, Some, None, option_map, Result, Ok}
+use Rattle.std.specs.Prelude.{◌≡◌, ◌≢◌, ℕ, ◌⊎◌, ◌≤◌, IsTrue, List, ◌++◌, take, map, Option, Some, None, option_map, Result, Ok, ⊤}
 use Rattle.std.specs.declared.alloc.AllocError.{AllocError}
 use Rattle.alloy_base.specs.Causes.{Rose, SomeRose}
 use Rattle.alloy_base.specs.Texts as texts
@@ -8,17 +8,21 @@ use Rattle.alloy_base.specs.declared.place.Refusal.{Refusal}
 use Rattle.alloy_base.specs.declared.place.Rule.{Rule}
 use Rattle.alloy_base.specs.declared.place.Rule.TheVariants.{NotBuilt}
 use Rattle.command_words.specs.declared.named.Mode.{Mode}
-use Rattle.command_words.specs.declared.named.Mode.TheVariants.{Exec, Make, Lrat}
+use Rattle.command_words.specs.declared.named.Mode.TheVariants.{Exec, Commands, Make, Lrat}
 use Rattle.command_words.specs.declared.settings.Settings.{Settings}
 use Rattle.cnf_form.specs.Text.{formula_of}
 use Rattle.lrat_mode.specs.Mode as lrat
 use Rattle.lrat_mode.specs.declared.mode.Verdict.{Verdict}
 use Rattle.lrat_mode.specs.declared.mode.Verdict.TheVariants as says
+use Rattle.loading_state.specs.Causes.{IsTried}
+use Rattle.loading_state.specs.Refusals.{is_of_loading}
+use Rattle.loading_state.specs.declared.fault.LoadFault.{LoadFault}
+use Rattle.loading_state.specs.declared.fault.LoadFault.TheVariants as load
 use Rattle.als_command.specs.Answer.{text_of, status_of, refused_line, fault_line, checked_line}
 use Rattle.als_command.specs.Files.{Asked, IsAsked, asked, at_start, first_broken}
-use Rattle.als_command.specs.Root.{SpellsModule, Breaks}
+use Rattle.als_command.specs.Root.{SpellsModule, ListsModule, Breaks}
 use Rattle.als_command.specs.declared.answer.Answer.{Answer}
-use Rattle.als_command.specs.declared.answer.Answer.TheVariants.{Usage, Refused, ReadFault, Trace, Absent, Checked}
+use Rattle.als_command.specs.declared.answer.Answer.TheVariants.{Usage, Refused, ReadFault, Trace, Absent, Listed, Checked}
 
 -- the text of the model that a mode reads, if it reads one
 abbrev pub model_in : Mode → Option (List ℕ) → Option (List ℕ)
@@ -35,11 +39,16 @@ abbrev pub RefusedOn : Option (List ℕ) → Refusal → Type 0
 RefusedOn None refusal = refusal ≡ at_start NotBuilt
 RefusedOn (Some text) refusal = Breaks (Some text) refusal ⊎ ((refusal ≡ at_start NotBuilt) × SpellsModule (Some text))
 
+-- why a run whose files are whole refuses a text: the run on the model refuses it; or a run that searches loads its model, which
+-- is a module, and a text breaks a rule of loading
+abbrev pub RefusedIn : Option (List ℕ) → Settings → Refusal → List ℕ → Type 0
+RefusedIn model settings refusal name = (RefusedOn model refusal × (name ≡ settings.file) × (settings.mode ≢ Lrat)) ⊎ ((settings.mode ≡ Exec) × SpellsModule model × IsTrue (is_of_loading refusal.rule))
+
 -- why a run with these settings refuses a text: a file that it asks for breaks a rule as a whole, and it is the first of them;
--- or all are whole, and the run on the model refuses it
+-- or all are whole, and the run refuses it
 abbrev pub RefusedFor : Option (Rule × List ℕ) → Option (List ℕ) → Settings → Refusal → List ℕ → Type 0
 RefusedFor (Some broken) model settings refusal name = (refusal ≡ at_start broken.0) × (name ≡ broken.1)
-RefusedFor None model settings refusal name = RefusedOn model refusal × (name ≡ settings.file) × (settings.mode ≢ Lrat)
+RefusedFor None model settings refusal name = RefusedIn model settings refusal name
 
 -- a run that asks for these files refuses this text, where the libraries tell what they hold
 abbrev pub IsRefused : List (Option Texts) → List Asked → Settings → Refusal → List ℕ → Type 0
@@ -51,6 +60,20 @@ pub record IsSearched (held : List (Option Texts)) (files : List Asked) (setting
   pub mode : settings.mode ≡ Exec
   pub whole : (told : List Texts) → held ≡ map (λ t. Some t) told → first_broken told files ≡ None
   pub spells : (told : List Texts) → held ≡ map (λ t. Some t) told → SpellsModule (model_of told settings)
+
+-- the run lists commands, none of the files that it asks for breaks a rule as a whole, and this is the list of its model
+pub record IsListed (held : List (Option Texts)) (files : List Asked) (settings : Settings) (list : List ℕ) : Type 0 where
+  pub mode : settings.mode ≡ Commands
+  pub whole : (told : List Texts) → held ≡ map (λ t. Some t) told → first_broken told files ≡ None
+  pub lists : (told : List Texts) → held ≡ map (λ t. Some t) told → ListsModule (model_of told settings) list
+
+-- the run searches, and this is a name that is tried for a module that its model opens
+abbrev pub IsOpened : Settings → List ℕ → Type 0
+IsOpened settings name = (settings.mode ≡ Exec) × IsTried settings.file name
+
+-- a name that the run asks for: that of one of these files, or of a module
+abbrev pub IsSought : Settings → List ℕ → List Asked → Type 0
+IsSought settings name files = IsAsked name files ⊎ IsOpened settings name
 
 -- what the lines of a text come to for the clauses of another; where they refute, no assignment satisfies the clauses
 pub record IsChecked (clauses lines : List ℕ) (verdict : Verdict) : Type 0 where
@@ -84,23 +107,41 @@ pub record IsProofOf (told : List Texts) (settings : Settings) (name clauses lin
 abbrev pub AllowsFiles : List Asked → Settings → List (Option Texts) → List ℕ → List ℕ → Answer → Type 0
 AllowsFiles files settings held before now Usage = ⊥
 AllowsFiles files settings held before now (Refused refusal name) = (now ≡ before) × IsRefused held files settings refusal name
-AllowsFiles files settings held before now (ReadFault name) = IsAsked name files × SomeRose before now
+AllowsFiles files settings held before now (ReadFault name) = IsSought settings name files × SomeRose before now
 AllowsFiles files settings held before now (Trace text) = (now ≡ before) × IsSearched held files settings
 AllowsFiles files settings held before now (Absent text) = (now ≡ before) × IsSearched held files settings
+AllowsFiles files settings held before now (Listed list) = (now ≡ before) × IsListed held files settings list
 AllowsFiles files settings held before now (Checked verdict clauses lines) = (now ≡ before) × IsProof held files settings verdict clauses lines
 
 -- the same of the files that the settings ask for
 abbrev pub AllowsRun : Settings → List (Option Texts) → List ℕ → List ℕ → Answer → Type 0
 AllowsRun settings held before now answer = AllowsFiles (asked settings) settings held before now answer
 
--- an answer on the text of a model
-abbrev pub IsOnModel : Settings → List ℕ → Answer → Type 0
-IsOnModel settings text Usage = ⊥
-IsOnModel settings text (Refused refusal name) = RefusedOn (Some text) refusal × (name ≡ settings.file) × (settings.mode ≢ Lrat)
-IsOnModel settings text (ReadFault name) = ⊥
-IsOnModel settings text (Trace bytes) = (settings.mode ≡ Exec) × SpellsModule (Some text)
-IsOnModel settings text (Absent bytes) = (settings.mode ≡ Exec) × SpellsModule (Some text)
-IsOnModel settings text (Checked verdict clauses lines) = ⊥
+-- an answer on the text of a model, by the counts of faults before its modules were asked for and after that
+abbrev pub IsOnModel : Settings → List ℕ → List ℕ → List ℕ → Answer → Type 0
+IsOnModel settings text before now Usage = ⊥
+IsOnModel settings text before now (Refused refusal name) = (now ≡ before) × RefusedIn (Some text) settings refusal name
+IsOnModel settings text before now (ReadFault name) = IsOpened settings name × SomeRose before now
+IsOnModel settings text before now (Trace bytes) = (now ≡ before) × (settings.mode ≡ Exec) × SpellsModule (Some text)
+IsOnModel settings text before now (Absent bytes) = (now ≡ before) × (settings.mode ≡ Exec) × SpellsModule (Some text)
+IsOnModel settings text before now (Listed list) = (now ≡ before) × (settings.mode ≡ Commands) × ListsModule (Some text) list
+IsOnModel settings text before now (Checked verdict clauses lines) = ⊥
+
+-- the answer of a search of a module
+abbrev pub IsFound : Settings → Answer → Type 0
+IsFound settings Usage = ⊥
+IsFound settings (Refused refusal name) = (refusal ≡ at_start NotBuilt) × (name ≡ settings.file)
+IsFound settings (ReadFault name) = ⊥
+IsFound settings (Trace bytes) = ⊤
+IsFound settings (Absent bytes) = ⊤
+IsFound settings (Listed list) = ⊥
+IsFound settings (Checked verdict clauses lines) = ⊥
+
+-- the answer that says why a model could not be loaded
+abbrev pub Says : LoadFault → Answer → Type 0
+Says (load.Refused refusal name) answer = answer ≡ Refused refusal name
+Says (load.Read name) answer = answer ≡ ReadFault name
+Says load.Memory answer = ⊥
 
 -- the answer on clauses and the lines of the file `second`
 pub record IsOnProof (settings : Settings) (second clauses lines : List ℕ) (answer : Answer) : Type 0 where
@@ -115,6 +156,7 @@ Allows None held before now (Refused refusal name) = ⊥
 Allows None held before now (ReadFault name) = ⊥
 Allows None held before now (Trace text) = ⊥
 Allows None held before now (Absent text) = ⊥
+Allows None held before now (Listed list) = ⊥
 Allows None held before now (Checked verdict clauses lines) = ⊥
 Allows (Some settings) held before now answer = AllowsRun settings held before now answer
 
@@ -161,12 +203,20 @@ pub record Checks (given : Option Settings) (held : List (Option Texts)) (old ne
   pub line : Written old new (checked_line verdict clauses lines)
   pub has : status ≡ lrat.status_of verdict
 
--- some library failed in this call at a file that the run asks for, and the line that says so was written
+-- the commands of a module were listed
+pub record Listing (given : Option Settings) (held : List (Option Texts)) (old new : Option (List ℕ)) : Type 0 where
+  pub settings : Settings
+  pub list : List ℕ
+  pub fit : given ≡ Some settings
+  pub cause : IsListed held (asked settings) settings list
+  pub line : Written old new list
+
+-- some library failed in this call at a name that the run asks for, and the line that says so was written
 pub record FailsToRead (given : Option Settings) (before now : List ℕ) (old new : Option (List ℕ)) : Type 0 where
   pub settings : Settings
   pub name : List ℕ
   pub fit : given ≡ Some settings
-  pub asked_for : IsAsked name (asked settings)
+  pub asked_for : IsSought settings name (asked settings)
   pub rose : SomeRose before now
   pub line : Written old new (fault_line name)
 

@@ -19,6 +19,8 @@ pub enum Answer {
     Trace(Bytes),
     /// There is no trace; the text says so.
     Absent(Bytes),
+    /// The text lists the commands of a module.
+    Listed(Bytes),
     /// What the lines of the second file come to for the clauses of the first, and the names of the two.
     Checked(Verdict, Name, Name),
 }
@@ -34,6 +36,7 @@ impl Answer {
             Answer::ReadFault(_) => 4,
             Answer::Trace(_) => 10,
             Answer::Absent(_) => 20,
+            Answer::Listed(_) => 0,
             Answer::Checked(verdict, _, _) => verdict_status(*verdict),
         }
     }
@@ -51,6 +54,7 @@ impl Answer {
             Answer::ReadFault(name) => fault(alloc, name.text()),
             Answer::Trace(text) => Bytes::copy(alloc, text.bytes()),
             Answer::Absent(text) => Bytes::copy(alloc, text.bytes()),
+            Answer::Listed(text) => Bytes::copy(alloc, text.bytes()),
             Answer::Checked(verdict, clauses, lines) => {
                 checked(alloc, *verdict, clauses.text(), lines.text())
             }

@@ -7,6 +7,7 @@
 mod answer;
 mod deliver;
 mod files;
+mod parsed;
 mod root;
 mod run;
 mod shelves;

@@ -2,8 +2,9 @@
 ghost use Rattle.std.specs.Prelude.{◌≡◌, ◌≤◌, length, IfOk};
 ghost use Rattle.als_tree.specs.Spelling.{EndsWell};
 ghost use Rattle.als_lexer.specs.Tokens.{tokens_of};
-ghost use Rattle.als_command.specs.Root.{FallsUnderGrammar, ReadsAs, ParsesAs};
+ghost use Rattle.als_command.specs.Root.{FallsUnderGrammar, ReadsTo, ParsesTo};
 
+use crate::parsed::{Parsed, Root};
 use alloy_base::limits::MODULE_BYTES;
 use alloy_base::{Place, Refusal, Rule};
 use als_lexer::{LexFault, lex};
@@ -12,28 +13,32 @@ use expr_parser::ParseFault;
 use paragraph_parser::parse_module;
 use std::alloc::{AllocError, Global};
 
-/// The rule that the text of a root breaks, if it spells no module.
+/// What a text of a root comes to: the module that it spells, or the rule that it breaks.
 ///
 /// The text is cut into tokens as a whole before they are parsed.
-pub fn refusal_of(alloc: Global, text: &[u8]) -> Result<Option<Refusal>, AllocError>
+pub fn root_of(alloc: Global, text: &[u8]) -> Result<Root, AllocError>
     requires { length text.now ≤ MODULE_BYTES }
-    ensures { IfOk result (λ refusal. ReadsAs (tokens_of 0 text.now) refusal) }
+    ensures { IfOk result (λ root. ReadsTo (tokens_of 0 text.now) root) }
 {
     match lex(alloc, 0, text) {
-        Ok(tokens) => refusal_of_tokens(alloc, &tokens),
-        Err(LexFault::Refused(refusal)) => Ok(Some(refusal)),
+        Ok(tokens) => root_of_tokens(alloc, &tokens),
+        Err(LexFault::Refused(refusal)) => Ok(Root::Broken(refusal)),
         Err(LexFault::Memory) => Err(AllocError),
     }
 }
 
-/// The rule that these tokens break, if they spell no module.
-fn refusal_of_tokens(alloc: Global, tokens: &[Token]) -> Result<Option<Refusal>, AllocError>
+/// What these tokens come to.
+#[tactic(auto, using(loading_state::proofs::Heavy::few_literals))]
+fn root_of_tokens(alloc: Global, tokens: &[Token]) -> Result<Root, AllocError>
     requires { EndsWell tokens.now }
-    ensures { IfOk result (λ refusal. ParsesAs tokens.now refusal) }
+    ensures { IfOk result (λ root. ParsesTo tokens.now root) }
 {
     match parse_module(alloc, tokens) {
-        Ok(_) => Ok(None),
-        Err(ParseFault::Refused(refusal)) => Ok(Some(under_grammar(refusal))),
+        Ok(tree) => Ok(Root::Module(Parsed {
+            tree,
+            tokens: tokens.len(),
+        })),
+        Err(ParseFault::Refused(refusal)) => Ok(Root::Broken(under_grammar(refusal))),
         Err(ParseFault::Memory) => Err(AllocError),
     }
 }

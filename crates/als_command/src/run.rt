@@ -11,7 +11,7 @@ ghost use Rattle.lrat_mode.specs.declared.mode.Verdict.{Verdict};
 ghost use Rattle.command_words.specs.declared.settings.Settings.{Settings};
 ghost use Rattle.als_command.specs.Answer.{usage_line};
 ghost use Rattle.als_command.specs.Files.{asked, first_broken};
-ghost use Rattle.als_command.specs.Run.{model_of, Justified, Written, Refuses, Checks, FailsToRead, FailsToWrite, Searches, IsProofOf, IsStatus};
+ghost use Rattle.als_command.specs.Run.{model_of, Justified, Written, Refuses, Checks, Listing, FailsToRead, FailsToWrite, Searches, IsProofOf, IsStatus};
 
 use crate::Answer;
 use crate::deliver::finish;
@@ -41,18 +41,20 @@ pub fn run_words<S: Sink>(
     ensures usage { result ≡ 2 → (fitting (vec_len choosers) (map string_bytes words.now) ≡ None) × Written (S.got out.old) (S.got out.new) usage_line }
     ensures usage_always { fitting (vec_len choosers) (map string_bytes words.now) ≡ None → (result ≡ 2) ⊎ (result ≡ 5) ⊎ (result ≡ 6) }
 
-    // 0 and 1: a proof was checked, and the line of the verdict was written; it is the verdict on the texts of the two files.
-    ensures checked { (result ≡ 0) ⊎ (result ≡ 1) → Checks (fitting (vec_len choosers) (map string_bytes words.now)) (map holds libraries.old.items) (S.got out.old) (S.got out.new) result }
+    // 0 and 1: a proof was checked, and the line of the verdict was written; it is the verdict on the texts of the two files. Or,
+    // with 0, the commands of a module were listed.
+    ensures checked { (result ≡ 0) ⊎ (result ≡ 1) → Checks (fitting (vec_len choosers) (map string_bytes words.now)) (map holds libraries.old.items) (S.got out.old) (S.got out.new) result ⊎ ((result ≡ 0) × Listing (fitting (vec_len choosers) (map string_bytes words.now)) (map holds libraries.old.items) (S.got out.old) (S.got out.new)) }
     ensures checked_always { (settings : Settings) (told : List Texts) (second clauses lines : List ℕ) (verdict : Verdict) → fitting (vec_len choosers) (map string_bytes words.now) ≡ Some settings → map holds libraries.old.items ≡ map Some told → IsProofOf told settings second clauses lines verdict → (result ≡ lrat.status_of verdict) ⊎ (result ≡ 4) ⊎ (result ≡ 5) ⊎ (result ≡ 6) }
 
     // 3: a text breaks a rule, and its line was written. Where a file is absent or too large, it is the line of the first;
-    // and else, where the text of the model that the mode reads can't be cut into tokens, it is the line of its first break.
+    // and else, where the text of the model that the mode reads can't be cut into tokens, it is the line of its first break. Where
+    // a search loads a model that is a module, it is the line of a rule of loading.
     ensures refused { result ≡ 3 → Refuses (fitting (vec_len choosers) (map string_bytes words.now)) (map holds libraries.old.items) (S.got out.old) (S.got out.new) ⊎ Checks (fitting (vec_len choosers) (map string_bytes words.now)) (map holds libraries.old.items) (S.got out.old) (S.got out.new) 3 }
     ensures refused_always { (settings : Settings) (told : List Texts) (broken : Rule × List ℕ) → fitting (vec_len choosers) (map string_bytes words.now) ≡ Some settings → map holds libraries.old.items ≡ map Some told → first_broken told (asked settings) ≡ Some broken → (result ≡ 3) ⊎ (result ≡ 4) ⊎ (result ≡ 5) ⊎ (result ≡ 6) }
 
     ensures uncut_always { (settings : Settings) (told : List Texts) (text : List ℕ) (refusal : Refusal) → fitting (vec_len choosers) (map string_bytes words.now) ≡ Some settings → map holds libraries.old.items ≡ map Some told → model_of told settings ≡ Some text → tokens_of 0 text ≡ Err refusal → (result ≡ 3) ⊎ (result ≡ 4) ⊎ (result ≡ 5) ⊎ (result ≡ 6) }
 
-    // 4: a library failed in this call, and the line says at which file.
+    // 4: a library failed in this call, and the line says at which name: that of a file, or in a search that of a module.
     ensures read_fault { result ≡ 4 → FailsToRead (fitting (vec_len choosers) (map string_bytes words.now)) (map faults libraries.old.items) (map faults libraries.new.items) (S.got out.old) (S.got out.new) }
     ensures read_fault_always { map faults libraries.new.items ≢ map faults libraries.old.items → (result ≡ 4) ⊎ (result ≡ 5) ⊎ (result ≡ 6) }
 

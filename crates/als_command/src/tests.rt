@@ -155,6 +155,43 @@ fn a_tree_that_is_too_deep(rt: HostRuntime) -> Result<(), Fail> {
 }
 
 #[test]
+fn listed_commands(rt: HostRuntime) -> Result<(), Fail> {
+    let alloc = rt.alloc();
+    let text = "open gone\nrun {} for 9\nx: check { no none }\npred p {}\n  run p\n";
+    let list = "0 run 2:1 -\n1 check 3:4 x\n2 run 5:3 p\n";
+    for (text, list) in [(text, list), ("sig A {}", "")] {
+        let files = [("m.als", text)];
+        assert!(rt; gives(alloc, "alloyc commands m.als", &plain(&files), 0, list)?);
+    }
+    Ok(())
+}
+
+#[test]
+fn models_that_cannot_be_loaded(rt: HostRuntime) -> Result<(), Fail> {
+    let alloc = rt.alloc();
+    for (text, bytes) in [
+        ("open gone\nrun {}\n", "refused S20 m.als:1:6\n"),
+        ("open m\nrun {}\n", "refused S21 m.als:1:6\n"),
+        ("open util/ordering\nrun {}\n", "refused S22 m.als:1:6\n"),
+        ("open b\nrun {}\n", "refused S10 b.als:1:5\n"),
+    ] {
+        let files = [("m.als", text), ("b.als", "sig sig\n")];
+        assert!(rt;
+            gives(alloc, "alloyc exec m.als", &plain(&files), 3, bytes)?,
+            "{text}"
+        );
+    }
+    let files = [("m.als", SOME)];
+    let second = Setting {
+        failing_reads: &[2],
+        ..plain(&files)
+    };
+    let fault = "fault read util/integer.als\n";
+    assert!(rt; gives(alloc, "alloyc exec m.als", &second, 4, fault)?);
+    Ok(())
+}
+
+#[test]
 fn words_that_do_not_fit(rt: HostRuntime) -> Result<(), Fail> {
     let alloc = rt.alloc();
     let files = [("m.als", SOME)];

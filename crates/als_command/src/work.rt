@@ -4,19 +4,25 @@ ghost use Rattle.alloy_base.specs.Causes.{NoneFell};
 ghost use Rattle.command_words.specs.Settings.{fitting, has_second};
 ghost use Rattle.alloy_base.specs.Texts.{Texts, text_of};
 ghost use Rattle.als_command.specs.Files.{asked, at_start, second_asked};
-ghost use Rattle.als_command.specs.Root.{SpellsModule};
-ghost use Rattle.als_command.specs.Run.{Justified, AllowsFiles, AllowsRun, IsOnModel, IsOnProof};
+ghost use Rattle.als_lexer.specs.Tokens.{tokens_of};
+ghost use Rattle.command_list.specs.Lines.{command_text};
+ghost use Rattle.als_command.specs.Root.{SpellIn};
+ghost use Rattle.als_command.specs.Run.{Justified, AllowsFiles, AllowsRun, IsOnModel, IsOnProof, IsFound, Says};
 ghost use Rattle.std.specs.Prelude.{◌∷◌, []};
 ghost use Rattle.command_words.specs.declared.named.Mode.TheVariants.{Exec, Lrat};
 
 use crate::Answer;
 use crate::files::{File, at_start, whole_file};
-use crate::root::refusal_of;
+use crate::parsed::{Parsed, Root};
+use crate::root::root_of;
 use crate::small::{Decision, decide};
 use alloy_base::limits::{FILE_BYTES, MODULE_BYTES};
-use alloy_base::{Libraries, Name, Refusal, Rule};
+use alloy_base::{Bytes, Libraries, Name, Refusal, Rule};
+use als_tree::Module;
+use command_list::command_text;
 use command_words::{Mode, Settings, fits, settings_of_words};
 use lrat_mode::{Verdict, check_texts};
+use module_loader::{LoadFault, load_tree};
 use std::alloc::{AllocError, Global};
 
 /// The answer to these words, where there are so many choosers.
@@ -89,46 +95,103 @@ fn model<L: Libraries>(
 {
     let name = settings.file.text();
     match whole_file(alloc, libraries, name, MODULE_BYTES)? {
-        File::Whole(text) => on_model(alloc, settings, &text),
+        File::Whole(text) => on_model(alloc, settings, &text, libraries),
         File::Broken(rule) => refused(alloc, rule, name),
         File::Failed => read_fault(alloc, name),
     }
 }
 
 /// The answer of a run on the text of a model.
-fn on_model(alloc: Global, settings: &Settings, text: &[u8]) -> Result<Answer, AllocError>
+#[tactic(auto, using(crate::proofs::OnModel::broken_on))]
+fn on_model<L: Libraries>(
+    alloc: Global,
+    settings: &Settings,
+    text: &[u8],
+    libraries: &mut L,
+) -> Result<Answer, AllocError>
     requires mode { settings.now.mode ≢ Lrat }
     requires short { length text.now ≤ MODULE_BYTES }
-    ensures { IfOk result (λ answer. IsOnModel settings.now text.now answer) }
+    ensures keeps { L.told libraries.new ≡ L.told libraries.old }
+    ensures later { NoneFell (L.counts libraries.old) (L.counts libraries.new) }
+    ensures on { IfOk result (λ answer. IsOnModel settings.now text.now (L.counts libraries.old) (L.counts libraries.new) answer) }
 {
-    match refusal_of(alloc, text)? {
-        None => on_module(alloc, settings, text),
-        Some(refusal) => refused_at(alloc, refusal, settings.file.text()),
+    match root_of(alloc, text)? {
+        Root::Module(parsed) => on_module(alloc, settings, text, parsed, libraries),
+        Root::Broken(refusal) => refused_at(alloc, refusal, settings.file.text()),
     }
 }
 
 /// The answer of a run on the text of a module.
-fn on_module(alloc: Global, settings: &Settings, text: &[u8]) -> Result<Answer, AllocError>
+#[tactic(auto, using(crate::proofs::OnModel::listed_on, crate::proofs::OnModel::unbuilt_on))]
+fn on_module<L: Libraries>(
+    alloc: Global,
+    settings: &Settings,
+    text: &[u8],
+    parsed: Parsed,
+    libraries: &mut L,
+) -> Result<Answer, AllocError>
     requires mode { settings.now.mode ≢ Lrat }
-    requires spells { SpellsModule (Some text.now) }
-    ensures { IfOk result (λ answer. IsOnModel settings.now text.now answer) }
+    requires spells { SpellIn (tokens_of 0 text.now) parsed.tree }
+    ensures keeps { L.told libraries.new ≡ L.told libraries.old }
+    ensures later { NoneFell (L.counts libraries.old) (L.counts libraries.new) }
+    ensures on { IfOk result (λ answer. IsOnModel settings.now text.now (L.counts libraries.old) (L.counts libraries.new) answer) }
 {
     match settings.mode {
-        Mode::Exec => search(alloc, settings, text),
+        Mode::Exec => search(alloc, settings, text, parsed, libraries),
+        Mode::Commands => listed(alloc, &parsed.tree),
         _ => unbuilt(alloc, settings),
     }
 }
 
-/// The answer of a search on the text of a module.
-fn search(alloc: Global, settings: &Settings, text: &[u8]) -> Result<Answer, AllocError>
+/// The list of a module's commands.
+fn listed(alloc: Global, tree: &Module) -> Result<Answer, AllocError>
+    ensures { IfOk result (λ answer. answer ≡ Answer.Listed (command_text tree.now)) }
+{
+    let list = command_text(alloc, tree)?;
+    Ok(Answer::Listed(Bytes::copy(alloc, &list)?))
+}
+
+/// The answer of a search on the text of a module, whose model is loaded first.
+#[tactic(auto, using(crate::proofs::OnModel::found_on, crate::proofs::OnModel::fault_on, crate::proofs::OnModel::later_of))]
+fn search<L: Libraries>(
+    alloc: Global,
+    settings: &Settings,
+    text: &[u8],
+    parsed: Parsed,
+    libraries: &mut L,
+) -> Result<Answer, AllocError>
     requires mode { settings.now.mode ≡ Exec }
-    requires spells { SpellsModule (Some text.now) }
-    ensures { IfOk result (λ answer. IsOnModel settings.now text.now answer) }
+    requires spells { SpellIn (tokens_of 0 text.now) parsed.tree }
+    ensures keeps { L.told libraries.new ≡ L.told libraries.old }
+    ensures later { NoneFell (L.counts libraries.old) (L.counts libraries.new) }
+    ensures on { IfOk result (λ answer. IsOnModel settings.now text.now (L.counts libraries.old) (L.counts libraries.new) answer) }
+{
+    let name = settings.file.text();
+    match load_tree(alloc, libraries, name, parsed.tree, parsed.tokens) {
+        Ok(_) => decided(alloc, settings, text),
+        Err(fault) => not_loaded(fault),
+    }
+}
+
+/// The answer of a search on a small text.
+fn decided(alloc: Global, settings: &Settings, text: &[u8]) -> Result<Answer, AllocError>
+    ensures { IfOk result (λ answer. IsFound settings.now answer) }
 {
     match decide(alloc, text)? {
         Decision::Trace(text) => Ok(Answer::Trace(text)),
         Decision::Absent(text) => Ok(Answer::Absent(text)),
         Decision::NotSmall => unbuilt(alloc, settings),
+    }
+}
+
+/// The answer where a model could not be loaded.
+fn not_loaded(fault: LoadFault) -> Result<Answer, AllocError>
+    ensures { IfOk result (λ answer. Says fault answer) }
+{
+    match fault {
+        LoadFault::Refused(refusal, name) => Ok(Answer::Refused(refusal, name)),
+        LoadFault::Read(name) => Ok(Answer::ReadFault(name)),
+        LoadFault::Memory => Err(AllocError),
     }
 }
 

@@ -2,20 +2,25 @@ use Rattle.std.proofs.Common.{◌∙◌, ◌∷◌, [], ap, sym, subst}
 use Rattle.alloy_base.specs.declared.limits.TheConstants.{MODULE_BYTES}
 use Rattle.als_command.specs.Files.{asked, IsFile}
 use Rattle.als_command.specs.declared.files.File.TheVariants.{Whole, Broken, Failed}
-use Rattle.als_command.proofs.Allowed.{whole_allows, broken_allows, failed_allows}
+use Rattle.als_command.proofs.Allowed.{whole_allows, then_later, broken_allows, failed_allows}
 use Rattle.als_command.proofs.work.model.Goals as goal
 
 pub on_model-requires-clause-short : goal.on_model-requires-clause-short
 on_model-requires-clause-short g c = rw c.deref.ensures.value (c.whole_file.ensures.short c.in-Whole.text (cc (c.in_ok-text.was, c.in-Whole.is)))
 
+pub returns-in-Whole-clause-later : goal.returns-in-Whole-clause-later
+returns-in-Whole-clause-later g c =
+    let file = c.whole_file.ensures.file (Whole c.in-Whole.text) (cc (c.in_ok-text.was, c.in-Whole.is)) in
+    then_later (g.L.Libraries.counts c.args.libraries.now) (g.L.Libraries.counts c.whole_file.new.libraries) (g.L.Libraries.counts c.on_model.new.libraries) file.0 c.on_model.ensures.later
+
 pub returns-in-Whole-clause-allowed : goal.returns-in-Whole-clause-allowed
 returns-in-Whole-clause-allowed g c answer is =
     let told = g.L.Libraries.told c.args.libraries.now in
     let before = g.L.Libraries.counts c.args.libraries.now in
-    let now = g.L.Libraries.counts c.whole_file.new.libraries in
+    let mid = g.L.Libraries.counts c.whole_file.new.libraries in
     let file = c.whole_file.ensures.file (Whole c.in-Whole.text) (cc (c.in_ok-text.was, c.in-Whole.is)) in
-    whole_allows c.args.settings.now told before now c.requires.asks c.requires.mode c.on_model.result answer is c.in-Whole.text
-    (subst (λ n. IsFile told n MODULE_BYTES before now (Whole c.in-Whole.text)) c.text-name.ensures file) (rw c.deref.ensures.value at c.on_model.ensures)
+    whole_allows c.args.settings.now told before mid (g.L.Libraries.counts c.on_model.new.libraries) c.requires.asks c.requires.mode c.on_model.result answer is c.in-Whole.text
+    (subst (λ n. IsFile told n MODULE_BYTES before mid (Whole c.in-Whole.text)) c.text-name.ensures file) (rw c.deref.ensures.value at c.on_model.ensures.on)
 
 pub returns-in-Broken-clause-allowed : goal.returns-in-Broken-clause-allowed
 returns-in-Broken-clause-allowed g c answer is =
