@@ -1,0 +1,9 @@
+//! Tests of loading on small models.
+#![tactic(auto)]
+
+#[cfg(test)]
+mod answers;
+#[cfg(test)]
+mod refusals;
+#[cfg(test)]
+mod shelf;
