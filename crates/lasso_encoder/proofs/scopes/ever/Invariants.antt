@@ -1,0 +1,11 @@
+use Rattle.gate_trait.specs.Built.{Keeps}
+use Rattle.lasso_encoder.proofs.scopes.ever.Given as goal
+
+abbrev pub invariant-loop-state : goal.invariant-loop-state
+invariant-loop-state g l =
+    let belongs = g.G.Gates.belongs in
+    let value = g.G.Gates.node_value in
+    record {
+      keeps : Keeps belongs value l.initial.gates l.gates;
+      belong : belongs l.gates l.any;
+    }
