@@ -1,0 +1,2 @@
+pub mod IntLaws
+pub mod MemberLaw
