@@ -1,0 +1,8 @@
+use Rattle.std.proofs.Common.{subst}
+use Rattle.target_search.specs.Found as target
+use Rattle.analyser.proofs.search.searched.Goals as goal
+
+pub returns : goal.returns
+returns g c =
+    let spent = subst (target.IsFound c.args.budget) c.in-Spent.is c.in_ok-lasso.ensures in
+    record { found = (spent.0, (spent.1, spent.2)) }

@@ -1,0 +1,19 @@
+//! The analysis of a model: from its texts to a trace, or to clauses that no lasso of the model satisfies with lines that
+//! refute them.
+//!
+//! [`prepare`] loads and resolves a model and makes what a search needs; [`analyse`] searches.
+#![tactic(auto)]
+
+mod answer;
+mod fault;
+mod ready;
+mod search;
+mod settings;
+
+pub use answer::Answer;
+pub use fault::AnalyseFault;
+pub use ready::{Prepared, prepare, prepare_loaded};
+pub use search::{analyse, analyse_loaded};
+pub use settings::{Root, Settings};
+pub use target_forms::{Part, PartList};
+pub use variable_table::table;

@@ -1,0 +1,151 @@
+// A model made ready for a search.
+
+ghost use Rattle.std.specs.Prelude.{◌≡◌, IfErr};
+ghost use Rattle.analyser.specs.Found.{IsLoadedFault};
+
+use crate::fault::{AnalyseFault, of_loading, refused_in};
+use crate::settings::{Root, Settings};
+use alloy_base::{Libraries, Place};
+use als_tree::Loaded;
+use bounds_builder::{Bounds, BoundsFault, bounds};
+use core_meaning::{Scopes, Target};
+use core_tree::Model;
+use module_loader::{load, load_text};
+use relation_params::open_params;
+use scope_rules::{ScopeFault, scopes};
+use std::alloc::{AllocError, Global};
+use target_forms::{PartList, parts_of, target_of};
+use trace_form::{Labels, make_labels};
+use type_resolver::{ResolveFault, resolve};
+
+/// A model and a command, made ready for a search.
+#[derive(Drop)]
+pub struct Prepared {
+    pub loaded: Loaded,
+    pub model: Model,
+    pub scopes: Scopes,
+    pub bounds: Bounds,
+    pub labels: Labels,
+    pub target: Target,
+    /// The facts and the command as they were resolved.
+    pub parts: PartList,
+    /// How many formulas of the target say what the declarations do; those of the facts follow.
+    pub first_fact: u32,
+}
+
+/// Loads the model of a root.
+pub fn load_root<L: Libraries>(
+    alloc: Global,
+    libraries: &mut L,
+    root: &Root,
+) -> Result<Loaded, AnalyseFault>
+    ensures keeps { L.told libraries.new ≡ L.told libraries.old }
+{
+    let loaded = match root {
+        Root::Named(name) => load(alloc, libraries, name.text()),
+        Root::Text(name, text) => load_text(alloc, libraries, name.text(), text.bytes()),
+    };
+    match loaded {
+        Ok(loaded) => Ok(loaded),
+        Err(fault) => Err(of_loading(fault)),
+    }
+}
+
+/// The model of what is loaded.
+fn model_of(alloc: Global, loaded: &Loaded) -> Result<Model, AnalyseFault>
+    ensures { IfErr result IsLoadedFault }
+{
+    match resolve(alloc, loaded) {
+        Ok(model) => Ok(model),
+        Err(ResolveFault::Refused(refusal)) => Err(refused_in(alloc, loaded, refusal)),
+        Err(ResolveFault::Memory) => Err(AnalyseFault::Memory),
+    }
+}
+
+/// The scopes of a command of the model.
+fn scopes_of(
+    alloc: Global,
+    loaded: &Loaded,
+    model: &Model,
+    command: u32,
+) -> Result<Scopes, AnalyseFault>
+    ensures { IfErr result IsLoadedFault }
+{
+    match scopes(alloc, model, command) {
+        Ok(scopes) => Ok(scopes),
+        Err(ScopeFault::Refused(refusal)) => Err(refused_in(alloc, loaded, refusal)),
+        Err(ScopeFault::Memory) => Err(AnalyseFault::Memory),
+    }
+}
+
+/// The upper bounds of the model's relations.
+fn bounds_of(
+    alloc: Global,
+    loaded: &Loaded,
+    model: &Model,
+    scopes: &Scopes,
+    keyword: Place,
+) -> Result<Bounds, AnalyseFault>
+    ensures { IfErr result IsLoadedFault }
+{
+    match bounds(alloc, model, scopes, keyword) {
+        Ok(bounds) => Ok(bounds),
+        Err(BoundsFault::Refused(refusal)) => Err(refused_in(alloc, loaded, refusal)),
+        Err(BoundsFault::Memory) => Err(AnalyseFault::Memory),
+    }
+}
+
+/// The labels of the model's relations and atoms.
+fn labels_of(alloc: Global, model: &Model, scopes: &Scopes) -> Result<Labels, AllocError> {
+    let relations = model.sigs.len().saturating_add(model.fields.len());
+    if relations > u32::MAX as usize || scopes.numbers.len() != model.sigs.len() {
+        return Err(AllocError);
+    }
+    if scopes.bits < 1 || scopes.bits > 12 {
+        return Err(AllocError);
+    }
+    make_labels(alloc, model, scopes)
+}
+
+/// Loads, resolves and bounds a model and writes its formulas in the kernel of the language.
+///
+/// A refusal is the first broken rule: of loading, then on names, sigs, fields and readings, then of the command and its
+/// scopes, with the name of the text that has its place.
+pub fn prepare<L: Libraries>(
+    alloc: Global,
+    libraries: &mut L,
+    settings: &Settings,
+) -> Result<Prepared, AnalyseFault>
+    ensures keeps { L.told libraries.new ≡ L.told libraries.old }
+{
+    let loaded = load_root(alloc, libraries, &settings.root)?;
+    prepare_loaded(alloc, loaded, settings.command)
+}
+
+/// The same for a model that is loaded.
+pub fn prepare_loaded(alloc: Global, loaded: Loaded, command: u32) -> Result<Prepared, AnalyseFault>
+    ensures { IfErr result IsLoadedFault }
+{
+    let resolved = model_of(alloc, &loaded)?;
+    let model = open_params(alloc, resolved, command)?;
+    let scopes = scopes_of(alloc, &loaded, &model, command)?;
+    if command as usize >= model.commands.len() {
+        // The scopes are refused then.
+        return Err(AnalyseFault::Memory);
+    }
+    let chosen = model.commands.get(command as usize);
+    let bounds = bounds_of(alloc, &loaded, &model, &scopes, chosen.keyword)?;
+    let labels = labels_of(alloc, &model, &scopes)?;
+    let (target, first_fact) = target_of(alloc, &model, &scopes, chosen)?;
+    let parts = parts_of(alloc, &model, chosen)?;
+    Ok(Prepared {
+        loaded,
+        model,
+        scopes,
+        bounds,
+        labels,
+        target,
+        parts,
+        first_fact,
+    })
+}
