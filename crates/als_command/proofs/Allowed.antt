@@ -12,10 +12,10 @@ use Rattle.command_words.specs.Named.{takes_second}
 use Rattle.command_words.specs.Settings.{has_second}
 use Rattle.command_words.specs.declared.settings.Settings.{Settings}
 use Rattle.als_command.specs.Files.{Asked, IsFile, asked, asked_in, second_asked, at_start, file_rule, first_broken, first_of}
-use Rattle.als_command.specs.Run.{AllowsFiles, IsOnModel, IsOnProof, IsCheckedIn, RefusedFor, RefusedIn, model_in, model_of}
+use Rattle.als_command.specs.Run.{AllowsFiles, IsOnModel, IsOnRing, IsOnProof, IsCheckedIn, RefusedFor, RefusedIn, model_in, model_of}
 use Rattle.als_command.specs.Root.{SpellsModule, ListsModule}
 use Rattle.als_command.specs.declared.answer.Answer.{Answer}
-use Rattle.als_command.specs.declared.answer.Answer.TheVariants.{Usage, Refused, ReadFault, Trace, Absent, Listed, Checked}
+use Rattle.als_command.specs.declared.answer.Answer.TheVariants.{Usage, Refused, ReadFault, Trace, Absent, Unknown, Made, Listed, Checked}
 use Rattle.als_command.specs.declared.files.File.TheVariants.{Whole, Broken}
 
 module _ (settings : Settings) (held : List (Option Texts)) (before now : List ℕ) where
@@ -26,7 +26,9 @@ module _ (settings : Settings) (held : List (Option Texts)) (before now : List �
   on_model text is (Refused refusal name) h = (h.0, λ told tells. subst (λ o. RefusedIn o settings refusal name) (sym (is told tells)) h.1)
   on_model text is (ReadFault name) h = (inr h.0, h.1)
   on_model text is (Trace bytes) h = (h.0, record { mode = h.1; whole = λ told tells. refl; spells = λ told tells. subst (λ o. SpellsModule o) (sym (is told tells)) h.2 })
-  on_model text is (Absent bytes) h = (h.0, record { mode = h.1; whole = λ told tells. refl; spells = λ told tells. subst (λ o. SpellsModule o) (sym (is told tells)) h.2 })
+  on_model text is (Absent bytes) h = (h.0, record { mode = h.1; whole = λ told tells. refl; spells = λ told tells. subst (λ o. SpellsModule o) (sym (is told tells)) h.2 }, h.3)
+  on_model text is (Unknown bytes) h = (h.0, record { mode = h.1; whole = λ told tells. refl; spells = λ told tells. subst (λ o. SpellsModule o) (sym (is told tells)) h.2 }, h.3)
+  on_model text is (Made bytes) h = absurd h
   on_model text is (Listed list) h = (h.0, record { mode = h.1; whole = λ told tells. refl; lists = λ told tells. subst (λ o. ListsModule o list) (sym (is told tells)) h.2 })
   on_model text is (Checked verdict clauses lines) h = absurd h
 
@@ -57,7 +59,14 @@ module _ (settings : Settings) (held : List (Option Texts)) (before now : List �
   on_whole name most files (Absent text) whole h = (
     h.0,
     record { mode = h.1.mode; whole = λ told tells. ap (λ o. first_of o name (first_broken told files)) (whole told tells) ∙ h.1.whole told tells; spells = h.1.spells },
+    h.2,
   )
+  on_whole name most files (Unknown text) whole h = (
+    h.0,
+    record { mode = h.1.mode; whole = λ told tells. ap (λ o. first_of o name (first_broken told files)) (whole told tells) ∙ h.1.whole told tells; spells = h.1.spells },
+    h.2,
+  )
+  on_whole name most files (Made text) whole h = h
   on_whole name most files (Listed list) whole h = (
     h.0,
     record { mode = h.1.mode; whole = λ told tells. ap (λ o. first_of o name (first_broken told files)) (whole told tells) ∙ h.1.whole told tells; lists = h.1.lists },
@@ -164,3 +173,22 @@ proof_allows settings held before now name most mode second clauses tells text f
 -- a mode that takes a second file has one
 pub has_one : (settings : Settings) → settings.mode ≡ Lrat → has_second settings ≡ true → is_some settings.second ≡ true
 has_one settings mode has = subst (λ m. cond (takes_second m) (is_some settings.second) (not (is_some settings.second)) ≡ true) mode has
+
+-- the answer on a model that is made
+ring_one : (settings : Settings) (held : List (Option Texts)) (before now : List ℕ) → settings.mode ≡ Make → (a : Answer) → IsOnRing before now a → AllowsFiles [] settings held before now a
+ring_one settings held before now mode Usage h = absurd h
+ring_one settings held before now mode (Refused refusal name) h = (h, λ told tells. inr (inr mode))
+ring_one settings held before now mode (ReadFault name) h = (inr (inr (mode, h.0)), h.1)
+ring_one settings held before now mode (Trace text) h = absurd h
+ring_one settings held before now mode (Absent text) h = absurd h
+ring_one settings held before now mode (Unknown text) h = absurd h
+ring_one settings held before now mode (Made text) h = (h, mode)
+ring_one settings held before now mode (Listed list) h = absurd h
+ring_one settings held before now mode (Checked verdict clauses lines) h = absurd h
+
+pub ring_allows : (settings : Settings) (held : List (Option Texts)) (before now : List ℕ) → settings.mode ≡ Make → (r : Result Answer AllocError) (answer : Answer) → r ≡ Ok answer →
+    IfOk r (IsOnRing before now) → AllowsFiles (asked settings) settings held before now answer
+ring_allows settings held before now mode r answer is on =
+    let none : asked settings ≡ [] = ap (λ m. asked_in m settings.file settings.second) mode in
+    subst (λ fs. AllowsFiles fs settings held before now answer) (sym none)
+    (ring_one settings held before now mode answer (if_ok (IsOnRing before now) r answer on is))

@@ -10,15 +10,15 @@ use Rattle.lrat_mode.specs.Mode as lrat
 use Rattle.lrat_mode.specs.declared.mode.Verdict.{Verdict}
 use Rattle.lrat_mode.specs.declared.mode.Verdict.TheVariants as says
 use Rattle.als_command.specs.Answer.{text_of, status_of, usage_line}
-use Rattle.als_command.specs.Files.{asked, first_broken}
-use Rattle.als_command.specs.Run.{Allows, Written, written, no_memory, write_fault, Finished, delivered, gave_up, Justified, Refuses, Checks, Listing, FailsToRead, FailsToWrite, Searches, IsStatus, IsProofOf, IsCheckedIn, RefusedFor, model_in, model_of}
+use Rattle.als_command.specs.Files.{asked, asked_in, first_broken}
+use Rattle.als_command.specs.Run.{Allows, Written, written, no_memory, write_fault, Finished, delivered, gave_up, Justified, Refuses, Checks, Listing, Making, FailsToRead, FailsToWrite, Searches, FindsNone, LeavesOpen, IsStatus, IsProofOf, IsCheckedIn, RefusedFor, model_in, model_of}
 use Rattle.als_command.specs.Root.{SpellsModule, ListsModule, SpellIn}
 use Rattle.als_lexer.specs.Tokens.{tokens_of}
 use Rattle.alloy_base.specs.declared.place.Refusal.{Refusal}
-use Rattle.command_words.specs.declared.named.Mode.TheVariants.{Lrat}
+use Rattle.command_words.specs.declared.named.Mode.TheVariants.{Lrat, Make}
 use Rattle.verdict_laws.proofs.Verdicts.{one_verdict}
 use Rattle.als_command.specs.declared.answer.Answer.{Answer}
-use Rattle.als_command.specs.declared.answer.Answer.TheVariants.{Usage, Refused, ReadFault, Trace, Absent, Listed, Checked}
+use Rattle.als_command.specs.declared.answer.Answer.TheVariants.{Usage, Refused, ReadFault, Trace, Absent, Unknown, Made, Listed, Checked}
 
 -- an empty text is written by no call
 pub nothing_written : (old : Option (List ℕ)) → Written old old []
@@ -46,6 +46,8 @@ not_five (Refused refusal name) is = omega arith
 not_five (ReadFault name) is = omega arith
 not_five (Trace text) is = omega arith
 not_five (Absent text) is = omega arith
+not_five (Unknown text) is = omega arith
+not_five (Made text) is = omega arith
 not_five (Listed list) is = omega arith
 not_five (Checked v clauses lines) is = other_status v 5 (λ e. omega arith) (λ e. omega arith) (λ e. omega arith) is
 
@@ -55,6 +57,8 @@ not_six (Refused refusal name) is = omega arith
 not_six (ReadFault name) is = omega arith
 not_six (Trace text) is = omega arith
 not_six (Absent text) is = omega arith
+not_six (Unknown text) is = omega arith
+not_six (Made text) is = omega arith
 not_six (Listed list) is = omega arith
 not_six (Checked v clauses lines) is = other_status v 6 (λ e. omega arith) (λ e. omega arith) (λ e. omega arith) is
 
@@ -63,7 +67,9 @@ answer_status Usage = inr (inr (inl refl))
 answer_status (Refused refusal name) = inr (inr (inr (inl refl)))
 answer_status (ReadFault name) = inr (inr (inr (inr (inl refl))))
 answer_status (Trace text) = inr (inr (inr (inr (inr (inr (inr (inl refl)))))))
-answer_status (Absent text) = inr (inr (inr (inr (inr (inr (inr (inr (refl))))))))
+answer_status (Absent text) = inr (inr (inr (inr (inr (inr (inr (inr (inl refl))))))))
+answer_status (Unknown text) = inr (inr (inr (inr (inr (inr (inr (inr (inr refl))))))))
+answer_status (Made text) = inl refl
 answer_status (Listed list) = inl refl
 answer_status (Checked v clauses lines) = elim (verdict_status v) [
   | inl e ↦ inl e
@@ -90,6 +96,8 @@ module _ (given : Option Settings) (held : List (Option Texts)) (before now : Li
   usage_given None (ReadFault name) allows is = absurd allows
   usage_given None (Trace text) allows is = absurd allows
   usage_given None (Absent text) allows is = absurd allows
+  usage_given None (Unknown text) allows is = absurd allows
+  usage_given None (Made text) allows is = absurd allows
   usage_given None (Listed list) allows is = absurd allows
   usage_given None (Checked v clauses lines) allows is = absurd allows
   usage_given (Some settings) Usage allows is = absurd allows
@@ -97,6 +105,8 @@ module _ (given : Option Settings) (held : List (Option Texts)) (before now : Li
   usage_given (Some settings) (ReadFault name) allows is = absurd (omega arith)
   usage_given (Some settings) (Trace text) allows is = absurd (omega arith)
   usage_given (Some settings) (Absent text) allows is = absurd (omega arith)
+  usage_given (Some settings) (Unknown text) allows is = absurd (omega arith)
+  usage_given (Some settings) (Made text) allows is = absurd (omega arith)
   usage_given (Some settings) (Listed list) allows is = absurd (omega arith)
   usage_given (Some settings) (Checked v clauses lines) allows is = absurd (other_status v 2 (λ e. omega arith) (λ e. omega arith) (λ e. omega arith) is)
 
@@ -106,6 +116,8 @@ module _ (given : Option Settings) (held : List (Option Texts)) (before now : Li
   usage_where_none (ReadFault name) allows = absurd allows
   usage_where_none (Trace text) allows = absurd allows
   usage_where_none (Absent text) allows = absurd allows
+  usage_where_none (Unknown text) allows = absurd allows
+  usage_where_none (Made text) allows = absurd allows
   usage_where_none (Listed list) allows = absurd allows
   usage_where_none (Checked v clauses lines) allows = absurd allows
 
@@ -115,6 +127,8 @@ module _ (given : Option Settings) (held : List (Option Texts)) (before now : Li
   refused_given None (ReadFault name) old new allows is line = absurd allows
   refused_given None (Trace text) old new allows is line = absurd allows
   refused_given None (Absent text) old new allows is line = absurd allows
+  refused_given None (Unknown text) old new allows is line = absurd allows
+  refused_given None (Made text) old new allows is line = absurd allows
   refused_given None (Listed list) old new allows is line = absurd allows
   refused_given None (Checked v clauses lines) old new allows is line = absurd allows
   refused_given (Some settings) Usage old new allows is line = absurd allows
@@ -123,16 +137,20 @@ module _ (given : Option Settings) (held : List (Option Texts)) (before now : Li
   refused_given (Some settings) (ReadFault name) old new allows is line = absurd (omega arith)
   refused_given (Some settings) (Trace text) old new allows is line = absurd (omega arith)
   refused_given (Some settings) (Absent text) old new allows is line = absurd (omega arith)
+  refused_given (Some settings) (Unknown text) old new allows is line = absurd (omega arith)
+  refused_given (Some settings) (Made text) old new allows is line = absurd (omega arith)
   refused_given (Some settings) (Listed list) old new allows is line = absurd (omega arith)
   refused_given (Some settings) (Checked v clauses lines) old new allows is line =
       inr (record { settings = settings; verdict = v; clauses = clauses; lines = lines; fit = refl; cause = allows.1; line = line; has = sym is })
 
-  checked_given : (o : Option Settings) (a : Answer) (old new : Option (List ℕ)) (n : ℕ) → Allows o held before now a → status_of a ≡ n → (n ≡ 0) ⊎ (n ≡ 1) → Written old new (text_of a) → Checks o held old new n ⊎ ((n ≡ 0) × Listing o held old new)
+  checked_given : (o : Option Settings) (a : Answer) (old new : Option (List ℕ)) (n : ℕ) → Allows o held before now a → status_of a ≡ n → (n ≡ 0) ⊎ (n ≡ 1) → Written old new (text_of a) → Checks o held old new n ⊎ ((n ≡ 0) × (Listing o held old new ⊎ Making o))
   checked_given None Usage old new n allows is low line = elim low [ inl e ↦ absurd (omega arith) | inr e ↦ absurd (omega arith) ]
   checked_given None (Refused refusal name) old new n allows is low line = absurd allows
   checked_given None (ReadFault name) old new n allows is low line = absurd allows
   checked_given None (Trace text) old new n allows is low line = absurd allows
   checked_given None (Absent text) old new n allows is low line = absurd allows
+  checked_given None (Unknown text) old new n allows is low line = absurd allows
+  checked_given None (Made text) old new n allows is low line = absurd allows
   checked_given None (Listed list) old new n allows is low line = absurd allows
   checked_given None (Checked v clauses lines) old new n allows is low line = absurd allows
   checked_given (Some settings) Usage old new n allows is low line = absurd allows
@@ -140,8 +158,10 @@ module _ (given : Option Settings) (held : List (Option Texts)) (before now : Li
   checked_given (Some settings) (ReadFault name) old new n allows is low line = elim low [ inl e ↦ absurd (omega arith) | inr e ↦ absurd (omega arith) ]
   checked_given (Some settings) (Trace text) old new n allows is low line = elim low [ inl e ↦ absurd (omega arith) | inr e ↦ absurd (omega arith) ]
   checked_given (Some settings) (Absent text) old new n allows is low line = elim low [ inl e ↦ absurd (omega arith) | inr e ↦ absurd (omega arith) ]
+  checked_given (Some settings) (Unknown text) old new n allows is low line = elim low [ inl e ↦ absurd (omega arith) | inr e ↦ absurd (omega arith) ]
+  checked_given (Some settings) (Made text) old new n allows is low line = inr (sym is, inr (record { settings = settings; fit = refl; mode = allows.1 }))
   checked_given (Some settings) (Listed list) old new n allows is low line =
-      inr (sym is, record { settings = settings; list = list; fit = refl; cause = allows.1; line = line })
+      inr (sym is, inl (record { settings = settings; list = list; fit = refl; cause = allows.1; line = line }))
   checked_given (Some settings) (Checked v clauses lines) old new n allows is low line =
       inl (record { settings = settings; verdict = v; clauses = clauses; lines = lines; fit = refl; cause = allows.1; line = line; has = sym is })
 
@@ -151,10 +171,15 @@ module _ (given : Option Settings) (held : List (Option Texts)) (before now : Li
   proof_given settings Usage told name clauses lines verdict allows tells is = absurd allows
   proof_given settings (Refused refusal n) told name clauses lines verdict allows tells is =
       let why : RefusedFor None (model_of told settings) settings refusal n = subst (λ o. RefusedFor o (model_of told settings) settings refusal n) is.whole (allows.1 told tells) in
-      elim why [ inl one ↦ absurd (one.2 is.mode) | inr loads ↦ cc (loads.0, is.mode) ]
+      elim why [
+        | inl one ↦ absurd (one.2 is.mode)
+        | inr other ↦ elim other [ inl searches ↦ cc (searches.0, is.mode) | inr makes ↦ cc (makes, is.mode) ]
+      ]
   proof_given settings (ReadFault n) told name clauses lines verdict allows tells is = inr refl
   proof_given settings (Trace text) told name clauses lines verdict allows tells is = cc (allows.1.mode, is.mode)
   proof_given settings (Absent text) told name clauses lines verdict allows tells is = cc (allows.1.mode, is.mode)
+  proof_given settings (Unknown text) told name clauses lines verdict allows tells is = cc (allows.1.mode, is.mode)
+  proof_given settings (Made text) told name clauses lines verdict allows tells is = cc (allows.1, is.mode)
   proof_given settings (Listed list) told name clauses lines verdict allows tells is = cc (allows.1.mode, is.mode)
   proof_given settings (Checked v first second) told name clauses lines verdict allows tells is =
       let named : second ≡ name = cc (allows.1.second, is.second) in
@@ -169,6 +194,8 @@ module _ (given : Option Settings) (held : List (Option Texts)) (before now : Li
   read_fault_given None (ReadFault name) old new allows is line = absurd allows
   read_fault_given None (Trace text) old new allows is line = absurd allows
   read_fault_given None (Absent text) old new allows is line = absurd allows
+  read_fault_given None (Unknown text) old new allows is line = absurd allows
+  read_fault_given None (Made text) old new allows is line = absurd allows
   read_fault_given None (Listed list) old new allows is line = absurd allows
   read_fault_given None (Checked v clauses lines) old new allows is line = absurd allows
   read_fault_given (Some settings) Usage old new allows is line = absurd allows
@@ -177,27 +204,70 @@ module _ (given : Option Settings) (held : List (Option Texts)) (before now : Li
       record { settings = settings; name = name; fit = refl; asked_for = allows.0; rose = allows.1; line = line }
   read_fault_given (Some settings) (Trace text) old new allows is line = absurd (omega arith)
   read_fault_given (Some settings) (Absent text) old new allows is line = absurd (omega arith)
+  read_fault_given (Some settings) (Unknown text) old new allows is line = absurd (omega arith)
+  read_fault_given (Some settings) (Made text) old new allows is line = absurd (omega arith)
   read_fault_given (Some settings) (Listed list) old new allows is line = absurd (omega arith)
   read_fault_given (Some settings) (Checked v clauses lines) old new allows is line = absurd (other_status v 4 (λ e. omega arith) (λ e. omega arith) (λ e. omega arith) is)
 
-  searched_given : (o : Option Settings) (a : Answer) → Allows o held before now a → (status_of a ≡ 10) ⊎ (status_of a ≡ 20) → Searches o held
-  searched_given None Usage allows is = elim is [ inl e ↦ absurd (omega arith) | inr e ↦ absurd (omega arith) ]
+  searched_given : (o : Option Settings) (a : Answer) → Allows o held before now a → status_of a ≡ 10 → Searches o held
+  searched_given None Usage allows is = absurd (omega arith)
   searched_given None (Refused refusal name) allows is = absurd allows
   searched_given None (ReadFault name) allows is = absurd allows
   searched_given None (Trace text) allows is = absurd allows
   searched_given None (Absent text) allows is = absurd allows
+  searched_given None (Unknown text) allows is = absurd allows
+  searched_given None (Made text) allows is = absurd allows
   searched_given None (Listed list) allows is = absurd allows
   searched_given None (Checked v clauses lines) allows is = absurd allows
   searched_given (Some settings) Usage allows is = absurd allows
-  searched_given (Some settings) (Refused refusal name) allows is = elim is [ inl e ↦ absurd (omega arith) | inr e ↦ absurd (omega arith) ]
-  searched_given (Some settings) (ReadFault name) allows is = elim is [ inl e ↦ absurd (omega arith) | inr e ↦ absurd (omega arith) ]
+  searched_given (Some settings) (Refused refusal name) allows is = absurd (omega arith)
+  searched_given (Some settings) (ReadFault name) allows is = absurd (omega arith)
   searched_given (Some settings) (Trace text) allows is = record { settings = settings; fit = refl; searched = allows.1 }
-  searched_given (Some settings) (Absent text) allows is = record { settings = settings; fit = refl; searched = allows.1 }
-  searched_given (Some settings) (Listed list) allows is = elim is [ inl e ↦ absurd (omega arith) | inr e ↦ absurd (omega arith) ]
-  searched_given (Some settings) (Checked v clauses lines) allows is = elim is [
-    | inl e ↦ absurd (other_status v 10 (λ z. omega arith) (λ z. omega arith) (λ z. omega arith) e)
-    | inr e ↦ absurd (other_status v 20 (λ z. omega arith) (λ z. omega arith) (λ z. omega arith) e)
-  ]
+  searched_given (Some settings) (Absent text) allows is = absurd (omega arith)
+  searched_given (Some settings) (Unknown text) allows is = absurd (omega arith)
+  searched_given (Some settings) (Made text) allows is = absurd (omega arith)
+  searched_given (Some settings) (Listed list) allows is = absurd (omega arith)
+  searched_given (Some settings) (Checked v clauses lines) allows is = absurd (other_status v 10 (λ e. omega arith) (λ e. omega arith) (λ e. omega arith) is)
+
+  absent_given : (o : Option Settings) (a : Answer) (old new : Option (List ℕ)) → Allows o held before now a → status_of a ≡ 20 → Written old new (text_of a) → FindsNone o held old new
+  absent_given None Usage old new allows is line = absurd (omega arith)
+  absent_given None (Refused refusal name) old new allows is line = absurd allows
+  absent_given None (ReadFault name) old new allows is line = absurd allows
+  absent_given None (Trace text) old new allows is line = absurd allows
+  absent_given None (Absent text) old new allows is line = absurd allows
+  absent_given None (Unknown text) old new allows is line = absurd allows
+  absent_given None (Made text) old new allows is line = absurd allows
+  absent_given None (Listed list) old new allows is line = absurd allows
+  absent_given None (Checked v clauses lines) old new allows is line = absurd allows
+  absent_given (Some settings) Usage old new allows is line = absurd allows
+  absent_given (Some settings) (Refused refusal name) old new allows is line = absurd (omega arith)
+  absent_given (Some settings) (ReadFault name) old new allows is line = absurd (omega arith)
+  absent_given (Some settings) (Trace text) old new allows is line = absurd (omega arith)
+  absent_given (Some settings) (Absent text) old new allows is line = record { settings = settings; text = text; fit = refl; searched = allows.1; absent = allows.2; line = line }
+  absent_given (Some settings) (Unknown text) old new allows is line = absurd (omega arith)
+  absent_given (Some settings) (Made text) old new allows is line = absurd (omega arith)
+  absent_given (Some settings) (Listed list) old new allows is line = absurd (omega arith)
+  absent_given (Some settings) (Checked v clauses lines) old new allows is line = absurd (other_status v 20 (λ e. omega arith) (λ e. omega arith) (λ e. omega arith) is)
+
+  unknown_given : (o : Option Settings) (a : Answer) (old new : Option (List ℕ)) → Allows o held before now a → status_of a ≡ 30 → Written old new (text_of a) → LeavesOpen o held old new
+  unknown_given None Usage old new allows is line = absurd (omega arith)
+  unknown_given None (Refused refusal name) old new allows is line = absurd allows
+  unknown_given None (ReadFault name) old new allows is line = absurd allows
+  unknown_given None (Trace text) old new allows is line = absurd allows
+  unknown_given None (Absent text) old new allows is line = absurd allows
+  unknown_given None (Unknown text) old new allows is line = absurd allows
+  unknown_given None (Made text) old new allows is line = absurd allows
+  unknown_given None (Listed list) old new allows is line = absurd allows
+  unknown_given None (Checked v clauses lines) old new allows is line = absurd allows
+  unknown_given (Some settings) Usage old new allows is line = absurd allows
+  unknown_given (Some settings) (Refused refusal name) old new allows is line = absurd (omega arith)
+  unknown_given (Some settings) (ReadFault name) old new allows is line = absurd (omega arith)
+  unknown_given (Some settings) (Trace text) old new allows is line = absurd (omega arith)
+  unknown_given (Some settings) (Absent text) old new allows is line = absurd (omega arith)
+  unknown_given (Some settings) (Unknown text) old new allows is line = record { settings = settings; text = text; fit = refl; searched = allows.1; open_at = allows.2; line = line }
+  unknown_given (Some settings) (Made text) old new allows is line = absurd (omega arith)
+  unknown_given (Some settings) (Listed list) old new allows is line = absurd (omega arith)
+  unknown_given (Some settings) (Checked v clauses lines) old new allows is line = absurd (other_status v 30 (λ e. omega arith) (λ e. omega arith) (λ e. omega arith) is)
 
   -- where a file breaks a rule as a whole, the answer is a refusal or a library's fault
   broken_given : (settings : Settings) (a : Answer) (told : List Texts) (broken : Rule × List ℕ) → Allows (Some settings) held before now a → held ≡ map (λ t. Some t) told →
@@ -207,6 +277,10 @@ module _ (given : Option Settings) (held : List (Option Texts)) (before now : Li
   broken_given settings (ReadFault name) told broken allows tells breaks = inr refl
   broken_given settings (Trace text) told broken allows tells breaks = cc (allows.1.whole told tells, breaks)
   broken_given settings (Absent text) told broken allows tells breaks = cc (allows.1.whole told tells, breaks)
+  broken_given settings (Unknown text) told broken allows tells breaks = cc (allows.1.whole told tells, breaks)
+  broken_given settings (Made text) told broken allows tells breaks =
+      let none : asked settings ≡ [] = ap (λ m. asked_in m settings.file settings.second) allows.1 in
+      cc (ap (first_broken told) none, breaks)
   broken_given settings (Listed list) told broken allows tells breaks = cc (allows.1.whole told tells, breaks)
   broken_given settings (Checked v clauses lines) told broken allows tells breaks = cc (allows.1.whole told tells, breaks)
 
@@ -223,6 +297,12 @@ module _ (given : Option Settings) (held : List (Option Texts)) (before now : Li
   listed_spells None list lists = absurd lists
   listed_spells (Some text) list lists = record { tree = lists.tree; spelled = lists.spelled }
 
+  -- a run that makes a model reads none
+  no_model_made : (settings : Settings) (told : List Texts) (text : List ℕ) → settings.mode ≡ Make → model_of told settings ≡ Some text → ⊥
+  no_model_made settings told text mode is =
+      let none : model_of told settings ≡ None = ap (λ m. model_in m (texts.text_of told settings.file)) mode in
+      cc
+
   -- a run that checks a proof reads no model
   no_model : (settings : Settings) (told : List Texts) (text : List ℕ) → settings.mode ≡ Lrat → model_of told settings ≡ Some text → ⊥
   no_model settings told text mode is =
@@ -237,6 +317,8 @@ module _ (given : Option Settings) (held : List (Option Texts)) (before now : Li
   uncut_given settings (ReadFault name) told text refusal allows tells is cut = inr refl
   uncut_given settings (Trace bytes) told text refusal allows tells is cut = absurd (uncut (model_of told settings) text refusal is cut (allows.1.spells told tells))
   uncut_given settings (Absent bytes) told text refusal allows tells is cut = absurd (uncut (model_of told settings) text refusal is cut (allows.1.spells told tells))
+  uncut_given settings (Unknown bytes) told text refusal allows tells is cut = absurd (uncut (model_of told settings) text refusal is cut (allows.1.spells told tells))
+  uncut_given settings (Made bytes) told text refusal allows tells is cut = absurd (no_model_made settings told text allows.1 is)
   uncut_given settings (Listed list) told text refusal allows tells is cut = absurd (uncut (model_of told settings) text refusal is cut (listed_spells (model_of told settings) list (allows.1.lists told tells)))
   uncut_given settings (Checked v clauses lines) told text refusal allows tells is cut = absurd (no_model settings told text allows.1.mode is)
 
@@ -247,6 +329,8 @@ module _ (given : Option Settings) (held : List (Option Texts)) (before now : Li
   risen_given None (ReadFault name) allows other = absurd allows
   risen_given None (Trace text) allows other = absurd allows
   risen_given None (Absent text) allows other = absurd allows
+  risen_given None (Unknown text) allows other = absurd allows
+  risen_given None (Made text) allows other = absurd allows
   risen_given None (Listed list) allows other = absurd allows
   risen_given None (Checked v clauses lines) allows other = absurd allows
   risen_given (Some settings) Usage allows other = absurd allows
@@ -254,6 +338,8 @@ module _ (given : Option Settings) (held : List (Option Texts)) (before now : Li
   risen_given (Some settings) (ReadFault name) allows other = refl
   risen_given (Some settings) (Trace text) allows other = absurd (other allows.0)
   risen_given (Some settings) (Absent text) allows other = absurd (other allows.0)
+  risen_given (Some settings) (Unknown text) allows other = absurd (other allows.0)
+  risen_given (Some settings) (Made text) allows other = absurd (other allows.0)
   risen_given (Some settings) (Listed list) allows other = absurd (other allows.0)
   risen_given (Some settings) (Checked v clauses lines) allows other = absurd (other allows.0)
 
@@ -297,7 +383,7 @@ module _ (given : Option Settings) (held : List (Option Texts)) (before now : Li
         let told = said 3 r justified finished is (λ e. omega arith) (λ e. omega arith) in
         refused_given given told.answer old new told.allowed told.has told.line
 
-    pub checked : (r : Result Answer AllocError) → Justified given held before now r → Finished r old new f g s → (s ≡ 0) ⊎ (s ≡ 1) → Checks given held old new s ⊎ ((s ≡ 0) × Listing given held old new)
+    pub checked : (r : Result Answer AllocError) → Justified given held before now r → Finished r old new f g s → (s ≡ 0) ⊎ (s ≡ 1) → Checks given held old new s ⊎ ((s ≡ 0) × (Listing given held old new ⊎ Making given))
     checked r justified finished low =
         let told = said s r justified finished refl (λ e. elim low [ inl z ↦ omega arith | inr o ↦ omega arith ]) (λ e. elim low [ inl z ↦ omega arith | inr o ↦ omega arith ]) in
         checked_given given told.answer old new s told.allowed told.has low told.line
@@ -341,12 +427,17 @@ module _ (given : Option Settings) (held : List (Option Texts)) (before now : Li
     pub trace : (r : Result Answer AllocError) → Justified given held before now r → Finished r old new f g s → s ≡ 10 → Searches given held
     trace r justified finished is =
         let told = said 10 r justified finished is (λ e. omega arith) (λ e. omega arith) in
-        searched_given given told.answer told.allowed (inl told.has)
+        searched_given given told.answer told.allowed told.has
 
-    pub absent : (r : Result Answer AllocError) → Justified given held before now r → Finished r old new f g s → s ≡ 20 → Searches given held
+    pub absent : (r : Result Answer AllocError) → Justified given held before now r → Finished r old new f g s → s ≡ 20 → FindsNone given held old new
     absent r justified finished is =
         let told = said 20 r justified finished is (λ e. omega arith) (λ e. omega arith) in
-        searched_given given told.answer told.allowed (inr told.has)
+        absent_given given told.answer old new told.allowed told.has told.line
+
+    pub unknown : (r : Result Answer AllocError) → Justified given held before now r → Finished r old new f g s → s ≡ 30 → LeavesOpen given held old new
+    unknown r justified finished is =
+        let told = said 30 r justified finished is (λ e. omega arith) (λ e. omega arith) in
+        unknown_given given told.answer old new told.allowed told.has told.line
 
     pub sink_fault : (r : Result Answer AllocError) → Justified given held before now r → Finished r old new f g s → s ≡ 6 → Rose f g × FailsToWrite given held before now old new
     sink_fault r justified (delivered a built (written is whole same)) six = absurd (not_six a (sym is ∙ six))

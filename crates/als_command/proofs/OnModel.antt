@@ -1,5 +1,5 @@
 -- The answers on the text of a model.
-use Rattle.std.proofs.Common.{◌≡◌, ◌≢◌, ℕ, List, Result, Ok, Err, IfOk, IsTrue, Some, refl, sym, ap, subst, inl, inr}
+use Rattle.std.proofs.Common.{◌≡◌, ◌≢◌, ℕ, List, Result, Ok, Err, IfOk, IsTrue, Some, refl, sym, ap, subst, inl, inr, codes}
 use Rattle.std.specs.declared.alloc.AllocError.{AllocError}
 use Rattle.alloy_base.proofs.Counts.{none_fell_same}
 use Rattle.alloy_base.specs.Causes.{NoneFell, SomeRose}
@@ -16,9 +16,9 @@ use Rattle.loading_state.specs.declared.fault.LoadFault.{LoadFault}
 use Rattle.loading_state.specs.declared.fault.LoadFault.TheVariants as load
 use Rattle.als_command.specs.Files.{at_start}
 use Rattle.als_command.specs.Root.{SpellIn, BreakIn}
-use Rattle.als_command.specs.Run.{IsOnModel, IsFound, Says}
+use Rattle.als_command.specs.Run.{IsOnModel, IsOnRing, IsFound, IsMade, Says}
 use Rattle.als_command.specs.declared.answer.Answer.{Answer}
-use Rattle.als_command.specs.declared.answer.Answer.TheVariants.{Usage, Refused, ReadFault, Trace, Absent, Listed, Checked}
+use Rattle.als_command.specs.declared.answer.Answer.TheVariants.{Usage, Refused, ReadFault, Trace, Absent, Unknown, Made, Listed, Checked}
 
 -- the counts after loading haven't fallen
 pub later_of : {T : Type 0} (root before now : List ℕ) (r : Result T LoadFault) → Causes root before now r → NoneFell before now
@@ -49,30 +49,29 @@ module _ (settings : Settings) (text before now : List ℕ) where
       subst (λ x. IsOnModel settings text before now x) (sym is) (same, mode, record { tree = tree; spelled = spells; list_is = refl })
   listed_on (Err e) tree same spells mode is = tt
 
-  found_one : (a : Answer) (tree : Module) → now ≡ before → SpellIn (tokens_of 0 text) tree → settings.mode ≡ Exec → settings.mode ≢ Lrat → IsFound settings a → IsOnModel settings text before now a
-  found_one Usage tree same spells mode lrat is = absurd is
-  found_one (Refused refusal name) tree same spells mode lrat is = (same, inl (inr (is.0, record { tree = tree; spelled = spells }), is.1, lrat))
-  found_one (ReadFault name) tree same spells mode lrat is = absurd is
-  found_one (Trace bytes) tree same spells mode lrat is = (same, mode, record { tree = tree; spelled = spells })
-  found_one (Absent bytes) tree same spells mode lrat is = (same, mode, record { tree = tree; spelled = spells })
-  found_one (Listed list) tree same spells mode lrat is = absurd is
-  found_one (Checked verdict clauses lines) tree same spells mode lrat is = absurd is
-
-  not_lrat : settings.mode ≡ Exec → settings.mode ≢ Lrat
-  not_lrat mode other = cc
+  found_one : (a : Answer) (tree : Module) → now ≡ before → SpellIn (tokens_of 0 text) tree → settings.mode ≡ Exec → IsFound settings a → IsOnModel settings text before now a
+  found_one Usage tree same spells mode is = absurd is
+  found_one (Refused refusal name) tree same spells mode is = (same, inr (inl (mode, record { tree = tree; spelled = spells })))
+  found_one (ReadFault name) tree same spells mode is = absurd is
+  found_one (Trace bytes) tree same spells mode is = (same, mode, record { tree = tree; spelled = spells })
+  found_one (Absent bytes) tree same spells mode is = (same, mode, record { tree = tree; spelled = spells }, is)
+  found_one (Unknown bytes) tree same spells mode is = (same, mode, record { tree = tree; spelled = spells }, is)
+  found_one (Made bytes) tree same spells mode is = absurd is
+  found_one (Listed list) tree same spells mode is = absurd is
+  found_one (Checked verdict clauses lines) tree same spells mode is = absurd is
 
   -- a search that was made
   pub found_on : (r : Result Answer AllocError) (tree : Module) → now ≡ before → SpellIn (tokens_of 0 text) tree → settings.mode ≡ Exec →
       IfOk r (IsFound settings) → IfOk r (IsOnModel settings text before now)
-  found_on (Ok a) tree same spells mode is = found_one a tree same spells mode (not_lrat mode) is
+  found_on (Ok a) tree same spells mode is = found_one a tree same spells mode is
   found_on (Err e) tree same spells mode is = tt
 
   fault_one : (a : Answer) (fault : LoadFault) (tree : Module) → FaultCause settings.file before now fault → SpellIn (tokens_of 0 text) tree → settings.mode ≡ Exec → Says fault a →
       IsOnModel settings text before now a
   unfolding FaultCause
   fault_one a (load.Refused refusal name) tree cause spells mode is =
-      subst (λ x. IsOnModel settings text before now x) (sym is) (cause.0, inr (mode, record { tree = tree; spelled = spells }, cause.1))
-  fault_one a (load.Read name) tree cause spells mode is = subst (λ x. IsOnModel settings text before now x) (sym is) ((mode, cause.0), cause.2)
+      subst (λ x. IsOnModel settings text before now x) (sym is) (cause.0, inr (inl (mode, record { tree = tree; spelled = spells })))
+  fault_one a (load.Read name) tree cause spells mode is = subst (λ x. IsOnModel settings text before now x) (sym is) (inl (mode, cause.0), cause.2)
   fault_one a load.Memory tree cause spells mode is = absurd is
 
   -- a model that could not be loaded
@@ -80,3 +79,31 @@ module _ (settings : Settings) (text before now : List ℕ) where
       SpellIn (tokens_of 0 text) tree → settings.mode ≡ Exec → IfOk r (Says fault) → IfOk r (IsOnModel settings text before now)
   fault_on (Ok a) fault root tree at cause spells mode is = fault_one a fault tree (subst (λ n. FaultCause n before now fault) at cause) spells mode is
   fault_on (Err e) fault root tree at cause spells mode is = tt
+
+-- a model that was made and analysed
+made_one : (before now : List ℕ) (a : Answer) → now ≡ before → IsMade a → IsOnRing before now a
+made_one before now Usage same is = absurd is
+made_one before now (Refused refusal name) same is = same
+made_one before now (ReadFault name) same is = absurd is
+made_one before now (Trace bytes) same is = absurd is
+made_one before now (Absent bytes) same is = absurd is
+made_one before now (Unknown bytes) same is = absurd is
+made_one before now (Made bytes) same is = same
+made_one before now (Listed list) same is = absurd is
+made_one before now (Checked verdict clauses lines) same is = absurd is
+
+pub made_on : (before now : List ℕ) (r : Result Answer AllocError) → now ≡ before → IfOk r IsMade → IfOk r (IsOnRing before now)
+made_on before now (Ok a) same is = made_one before now a same is
+made_on before now (Err e) same is = tt
+
+ring_fault_one : (before now : List ℕ) (a : Answer) (fault : LoadFault) → FaultCause (codes "make") before now fault → Says fault a → IsOnRing before now a
+unfolding FaultCause
+ring_fault_one before now a (load.Refused refusal name) cause is = subst (λ x. IsOnRing before now x) (sym is) cause.0
+ring_fault_one before now a (load.Read name) cause is = subst (λ x. IsOnRing before now x) (sym is) (cause.0, cause.2)
+ring_fault_one before now a load.Memory cause is = absurd is
+
+-- a model that was made and could not be loaded
+pub ring_fault_on : (before now : List ℕ) (r : Result Answer AllocError) (fault : LoadFault) (root : List ℕ) → root ≡ codes "make" → FaultCause root before now fault → IfOk r (Says fault) →
+    IfOk r (IsOnRing before now)
+ring_fault_on before now (Ok a) fault root at cause is = ring_fault_one before now a fault (subst (λ n. FaultCause n before now fault) at cause) is
+ring_fault_on before now (Err e) fault root at cause is = tt

@@ -6,7 +6,7 @@ use Rattle.alloy_base.specs.declared.place.Refusal.{Refusal}
 use Rattle.lrat_mode.specs.Mode as lrat
 use Rattle.lrat_mode.specs.declared.mode.Verdict.{Verdict}
 use Rattle.als_command.specs.declared.answer.Answer.{Answer}
-use Rattle.als_command.specs.declared.answer.Answer.TheVariants.{Usage, Refused, ReadFault, Trace, Absent, Listed, Checked}
+use Rattle.als_command.specs.declared.answer.Answer.TheVariants.{Usage, Refused, ReadFault, Trace, Absent, Unknown, Made, Listed, Checked}
 
 abbrev pub usage_line : List ℕ
 usage_line = codes "usage: alloyc MODE FILE [SECOND] [--command N] [--conflicts N] [--part PART] [--chooser N] [--expr E] [--at N]" ++ 10 ∷ []
@@ -31,6 +31,8 @@ text_of (Refused refusal name) = refused_line refusal name
 text_of (ReadFault name) = fault_line name
 text_of (Trace text) = text
 text_of (Absent text) = text
+text_of (Unknown text) = text
+text_of (Made text) = text
 text_of (Listed text) = text
 text_of (Checked verdict clauses lines) = checked_line verdict clauses lines
 
@@ -40,5 +42,7 @@ status_of (Refused refusal name) = 3
 status_of (ReadFault name) = 4
 status_of (Trace text) = 10
 status_of (Absent text) = 20
+status_of (Unknown text) = 30
+status_of (Made text) = 0
 status_of (Listed text) = 0
 status_of (Checked verdict clauses lines) = lrat.status_of verdict

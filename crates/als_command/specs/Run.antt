@@ -1,5 +1,5 @@
 -- What a run may answer, and why.
-use Rattle.std.specs.Prelude.{◌≡◌, ◌≢◌, ℕ, ◌⊎◌, ◌≤◌, IsTrue, List, ◌++◌, take, map, Option, Some, None, option_map, Result, Ok, ⊤}
+use Rattle.std.specs.Prelude.{◌≡◌, ◌≢◌, ℕ, ◌⊎◌, ◌≤◌, List, ◌++◌, length, take, map, codes, Option, Some, None, option_map, Result, Ok, ⊤}
 use Rattle.std.specs.declared.alloc.AllocError.{AllocError}
 use Rattle.alloy_base.specs.Causes.{Rose, SomeRose}
 use Rattle.alloy_base.specs.Texts as texts
@@ -10,19 +10,23 @@ use Rattle.alloy_base.specs.declared.place.Rule.TheVariants.{NotBuilt}
 use Rattle.command_words.specs.declared.named.Mode.{Mode}
 use Rattle.command_words.specs.declared.named.Mode.TheVariants.{Exec, Commands, Make, Lrat}
 use Rattle.command_words.specs.declared.settings.Settings.{Settings}
+use Rattle.answer_texts.specs.Answers.{absent_text, unknown_text}
 use Rattle.cnf_form.specs.Text.{formula_of}
+use Rattle.cnf_form.specs.declared.cnf.Cnf.{Cnf}
+use Rattle.lemma_log.specs.Outcome.{AreLemmas}
+use Rattle.lrat_form.specs.Step.{State, start, Refutes}
+use Rattle.lrat_form.specs.declared.line.Line.{Line}
 use Rattle.lrat_mode.specs.Mode as lrat
 use Rattle.lrat_mode.specs.declared.mode.Verdict.{Verdict}
 use Rattle.lrat_mode.specs.declared.mode.Verdict.TheVariants as says
 use Rattle.loading_state.specs.Causes.{IsTried}
-use Rattle.loading_state.specs.Refusals.{is_of_loading}
 use Rattle.loading_state.specs.declared.fault.LoadFault.{LoadFault}
 use Rattle.loading_state.specs.declared.fault.LoadFault.TheVariants as load
 use Rattle.als_command.specs.Answer.{text_of, status_of, refused_line, fault_line, checked_line}
 use Rattle.als_command.specs.Files.{Asked, IsAsked, asked, at_start, first_broken}
 use Rattle.als_command.specs.Root.{SpellsModule, ListsModule, Breaks}
 use Rattle.als_command.specs.declared.answer.Answer.{Answer}
-use Rattle.als_command.specs.declared.answer.Answer.TheVariants.{Usage, Refused, ReadFault, Trace, Absent, Listed, Checked}
+use Rattle.als_command.specs.declared.answer.Answer.TheVariants.{Usage, Refused, ReadFault, Trace, Absent, Unknown, Made, Listed, Checked}
 
 -- the text of the model that a mode reads, if it reads one
 abbrev pub model_in : Mode → Option (List ℕ) → Option (List ℕ)
@@ -36,13 +40,13 @@ model_of told settings = model_in settings.mode (texts.text_of told settings.fil
 -- why a run on this model, if there is one, refuses its text: the text breaks a rule; or it spells a module, and what is asked
 -- for isn't built yet
 abbrev pub RefusedOn : Option (List ℕ) → Refusal → Type 0
-RefusedOn None refusal = refusal ≡ at_start NotBuilt
+RefusedOn None refusal = ⊥
 RefusedOn (Some text) refusal = Breaks (Some text) refusal ⊎ ((refusal ≡ at_start NotBuilt) × SpellsModule (Some text))
 
--- why a run whose files are whole refuses a text: the run on the model refuses it; or a run that searches loads its model, which
--- is a module, and a text breaks a rule of loading
+-- why a run whose files are whole refuses a text: the run on the model refuses it; or a run searches, its model is a module, and
+-- a text breaks a rule while the model is loaded and analysed; or a model is made
 abbrev pub RefusedIn : Option (List ℕ) → Settings → Refusal → List ℕ → Type 0
-RefusedIn model settings refusal name = (RefusedOn model refusal × (name ≡ settings.file) × (settings.mode ≢ Lrat)) ⊎ ((settings.mode ≡ Exec) × SpellsModule model × IsTrue (is_of_loading refusal.rule))
+RefusedIn model settings refusal name = (RefusedOn model refusal × (name ≡ settings.file) × (settings.mode ≢ Lrat)) ⊎ (((settings.mode ≡ Exec) × SpellsModule model) ⊎ (settings.mode ≡ Make))
 
 -- why a run with these settings refuses a text: a file that it asks for breaks a rule as a whole, and it is the first of them;
 -- or all are whole, and the run refuses it
@@ -67,9 +71,27 @@ pub record IsListed (held : List (Option Texts)) (files : List Asked) (settings 
   pub whole : (told : List Texts) → held ≡ map (λ t. Some t) told → first_broken told files ≡ None
   pub lists : (told : List Texts) → held ≡ map (λ t. Some t) told → ListsModule (model_of told settings) list
 
--- the run searches, and this is a name that is tried for a module that its model opens
+-- the run searches, and this is a name that is tried for a module that its model opens; or the same of a model that is made
 abbrev pub IsOpened : Settings → List ℕ → Type 0
-IsOpened settings name = (settings.mode ≡ Exec) × IsTried settings.file name
+IsOpened settings name = ((settings.mode ≡ Exec) × IsTried settings.file name) ⊎ ((settings.mode ≡ Make) × IsTried (codes "make") name)
+
+-- what is written where there is no trace: the part that is asked for, of clauses and lines that refute them
+pub record IsAbsent (settings : Settings) (text : List ℕ) : Type 0 where
+  pub states : ℕ
+  pub table : List (List ℕ)
+  pub cnf : Cnf
+  pub lines : List Line
+  pub refutes : Refutes cnf.clauses lines
+  pub text_is : text ≡ absent_text settings.part states table cnf lines
+
+-- what is written where the budget is spent: clauses, and as many lemmas as it has, each of which passes
+pub record IsUnknown (settings : Settings) (text : List ℕ) : Type 0 where
+  pub table : List (List ℕ)
+  pub cnf : Cnf
+  pub lines : List Line
+  pub spent : settings.conflicts ≡ Some (length lines)
+  pub lemmas : (end : State) × AreLemmas (start cnf.clauses) lines end
+  pub text_is : text ≡ unknown_text (length lines) table cnf lines
 
 -- a name that the run asks for: that of one of these files, or of a module
 abbrev pub IsSought : Settings → List ℕ → List Asked → Type 0
@@ -109,7 +131,9 @@ AllowsFiles files settings held before now Usage = ⊥
 AllowsFiles files settings held before now (Refused refusal name) = (now ≡ before) × IsRefused held files settings refusal name
 AllowsFiles files settings held before now (ReadFault name) = IsSought settings name files × SomeRose before now
 AllowsFiles files settings held before now (Trace text) = (now ≡ before) × IsSearched held files settings
-AllowsFiles files settings held before now (Absent text) = (now ≡ before) × IsSearched held files settings
+AllowsFiles files settings held before now (Absent text) = (now ≡ before) × IsSearched held files settings × IsAbsent settings text
+AllowsFiles files settings held before now (Unknown text) = (now ≡ before) × IsSearched held files settings × IsUnknown settings text
+AllowsFiles files settings held before now (Made text) = (now ≡ before) × (settings.mode ≡ Make)
 AllowsFiles files settings held before now (Listed list) = (now ≡ before) × IsListed held files settings list
 AllowsFiles files settings held before now (Checked verdict clauses lines) = (now ≡ before) × IsProof held files settings verdict clauses lines
 
@@ -123,19 +147,47 @@ IsOnModel settings text before now Usage = ⊥
 IsOnModel settings text before now (Refused refusal name) = (now ≡ before) × RefusedIn (Some text) settings refusal name
 IsOnModel settings text before now (ReadFault name) = IsOpened settings name × SomeRose before now
 IsOnModel settings text before now (Trace bytes) = (now ≡ before) × (settings.mode ≡ Exec) × SpellsModule (Some text)
-IsOnModel settings text before now (Absent bytes) = (now ≡ before) × (settings.mode ≡ Exec) × SpellsModule (Some text)
+IsOnModel settings text before now (Absent bytes) = (now ≡ before) × (settings.mode ≡ Exec) × SpellsModule (Some text) × IsAbsent settings bytes
+IsOnModel settings text before now (Unknown bytes) = (now ≡ before) × (settings.mode ≡ Exec) × SpellsModule (Some text) × IsUnknown settings bytes
+IsOnModel settings text before now (Made bytes) = ⊥
 IsOnModel settings text before now (Listed list) = (now ≡ before) × (settings.mode ≡ Commands) × ListsModule (Some text) list
 IsOnModel settings text before now (Checked verdict clauses lines) = ⊥
 
--- the answer of a search of a module
+-- the answer of an analysis of a loaded model
 abbrev pub IsFound : Settings → Answer → Type 0
 IsFound settings Usage = ⊥
-IsFound settings (Refused refusal name) = (refusal ≡ at_start NotBuilt) × (name ≡ settings.file)
+IsFound settings (Refused refusal name) = ⊤
 IsFound settings (ReadFault name) = ⊥
 IsFound settings (Trace bytes) = ⊤
-IsFound settings (Absent bytes) = ⊤
+IsFound settings (Absent bytes) = IsAbsent settings bytes
+IsFound settings (Unknown bytes) = IsUnknown settings bytes
+IsFound settings (Made bytes) = ⊥
 IsFound settings (Listed list) = ⊥
 IsFound settings (Checked verdict clauses lines) = ⊥
+
+-- the answer on a model that is made
+abbrev pub IsMade : Answer → Type 0
+IsMade Usage = ⊥
+IsMade (Refused refusal name) = ⊤
+IsMade (ReadFault name) = ⊥
+IsMade (Trace bytes) = ⊥
+IsMade (Absent bytes) = ⊥
+IsMade (Unknown bytes) = ⊥
+IsMade (Made bytes) = ⊤
+IsMade (Listed list) = ⊥
+IsMade (Checked verdict clauses lines) = ⊥
+
+-- the same by the counts of faults before its modules were asked for and after that
+abbrev pub IsOnRing : List ℕ → List ℕ → Answer → Type 0
+IsOnRing before now Usage = ⊥
+IsOnRing before now (Refused refusal name) = now ≡ before
+IsOnRing before now (ReadFault name) = IsTried (codes "make") name × SomeRose before now
+IsOnRing before now (Trace bytes) = ⊥
+IsOnRing before now (Absent bytes) = ⊥
+IsOnRing before now (Unknown bytes) = ⊥
+IsOnRing before now (Made bytes) = now ≡ before
+IsOnRing before now (Listed list) = ⊥
+IsOnRing before now (Checked verdict clauses lines) = ⊥
 
 -- the answer that says why a model could not be loaded
 abbrev pub Says : LoadFault → Answer → Type 0
@@ -156,6 +208,8 @@ Allows None held before now (Refused refusal name) = ⊥
 Allows None held before now (ReadFault name) = ⊥
 Allows None held before now (Trace text) = ⊥
 Allows None held before now (Absent text) = ⊥
+Allows None held before now (Unknown text) = ⊥
+Allows None held before now (Made text) = ⊥
 Allows None held before now (Listed list) = ⊥
 Allows None held before now (Checked verdict clauses lines) = ⊥
 Allows (Some settings) held before now answer = AllowsRun settings held before now answer
@@ -226,6 +280,30 @@ pub record Searches (given : Option Settings) (held : List (Option Texts)) : Typ
   pub fit : given ≡ Some settings
   pub searched : IsSearched held (asked settings) settings
 
+-- the same, and what was written says that there is no trace
+pub record FindsNone (given : Option Settings) (held : List (Option Texts)) (old new : Option (List ℕ)) : Type 0 where
+  pub settings : Settings
+  pub text : List ℕ
+  pub fit : given ≡ Some settings
+  pub searched : IsSearched held (asked settings) settings
+  pub absent : IsAbsent settings text
+  pub line : Written old new text
+
+-- the same, and what was written says that the budget is spent
+pub record LeavesOpen (given : Option Settings) (held : List (Option Texts)) (old new : Option (List ℕ)) : Type 0 where
+  pub settings : Settings
+  pub text : List ℕ
+  pub fit : given ≡ Some settings
+  pub searched : IsSearched held (asked settings) settings
+  pub open_at : IsUnknown settings text
+  pub line : Written old new text
+
+-- the run made a model and analysed it
+pub record Making (given : Option Settings) : Type 0 where
+  pub settings : Settings
+  pub fit : given ≡ Some settings
+  pub mode : settings.mode ≡ Make
+
 -- a part from the front of an answer was written that the words and the libraries allow
 pub record FailsToWrite (given : Option Settings) (held : List (Option Texts)) (before now : List ℕ) (old new : Option (List ℕ)) : Type 0 where
   pub answer : Answer
@@ -234,4 +312,4 @@ pub record FailsToWrite (given : Option Settings) (held : List (Option Texts)) (
 
 -- the statuses of the table
 abbrev pub IsStatus : ℕ → Type 0
-IsStatus status = (status ≡ 0) ⊎ (status ≡ 1) ⊎ (status ≡ 2) ⊎ (status ≡ 3) ⊎ (status ≡ 4) ⊎ (status ≡ 5) ⊎ (status ≡ 6) ⊎ (status ≡ 10) ⊎ (status ≡ 20)
+IsStatus status = (status ≡ 0) ⊎ (status ≡ 1) ⊎ (status ≡ 2) ⊎ (status ≡ 3) ⊎ (status ≡ 4) ⊎ (status ≡ 5) ⊎ (status ≡ 6) ⊎ (status ≡ 10) ⊎ (status ≡ 20) ⊎ (status ≡ 30)

@@ -19,6 +19,10 @@ pub enum Answer {
     Trace(Bytes),
     /// There is no trace; the text says so.
     Absent(Bytes),
+    /// The budget of a search is spent; the text shows it.
+    Unknown(Bytes),
+    /// The text sums up what was found on a model that was made.
+    Made(Bytes),
     /// The text lists the commands of a module.
     Listed(Bytes),
     /// What the lines of the second file come to for the clauses of the first, and the names of the two.
@@ -36,6 +40,8 @@ impl Answer {
             Answer::ReadFault(_) => 4,
             Answer::Trace(_) => 10,
             Answer::Absent(_) => 20,
+            Answer::Unknown(_) => 30,
+            Answer::Made(_) => 0,
             Answer::Listed(_) => 0,
             Answer::Checked(verdict, _, _) => verdict_status(*verdict),
         }
@@ -54,6 +60,8 @@ impl Answer {
             Answer::ReadFault(name) => fault(alloc, name.text()),
             Answer::Trace(text) => Bytes::copy(alloc, text.bytes()),
             Answer::Absent(text) => Bytes::copy(alloc, text.bytes()),
+            Answer::Unknown(text) => Bytes::copy(alloc, text.bytes()),
+            Answer::Made(text) => Bytes::copy(alloc, text.bytes()),
             Answer::Listed(text) => Bytes::copy(alloc, text.bytes()),
             Answer::Checked(verdict, clauses, lines) => {
                 checked(alloc, *verdict, clauses.text(), lines.text())

@@ -4,6 +4,7 @@
 //! the answer, and writes it by one call. Its clauses say why each status comes.
 #![tactic(auto)]
 
+mod analysis;
 mod answer;
 mod deliver;
 mod files;
@@ -11,7 +12,6 @@ mod parsed;
 mod root;
 mod run;
 mod shelves;
-mod small;
 mod work;
 
 pub use answer::Answer;

@@ -11,7 +11,7 @@ ghost use Rattle.lrat_mode.specs.declared.mode.Verdict.{Verdict};
 ghost use Rattle.command_words.specs.declared.settings.Settings.{Settings};
 ghost use Rattle.als_command.specs.Answer.{usage_line};
 ghost use Rattle.als_command.specs.Files.{asked, first_broken};
-ghost use Rattle.als_command.specs.Run.{model_of, Justified, Written, Refuses, Checks, Listing, FailsToRead, FailsToWrite, Searches, IsProofOf, IsStatus};
+ghost use Rattle.als_command.specs.Run.{model_of, Justified, Written, Refuses, Checks, Listing, Making, FailsToRead, FailsToWrite, Searches, FindsNone, LeavesOpen, IsProofOf, IsStatus};
 
 use crate::Answer;
 use crate::deliver::finish;
@@ -42,8 +42,8 @@ pub fn run_words<S: Sink>(
     ensures usage_always { fitting (vec_len choosers) (map string_bytes words.now) ≡ None → (result ≡ 2) ⊎ (result ≡ 5) ⊎ (result ≡ 6) }
 
     // 0 and 1: a proof was checked, and the line of the verdict was written; it is the verdict on the texts of the two files. Or,
-    // with 0, the commands of a module were listed.
-    ensures checked { (result ≡ 0) ⊎ (result ≡ 1) → Checks (fitting (vec_len choosers) (map string_bytes words.now)) (map holds libraries.old.items) (S.got out.old) (S.got out.new) result ⊎ ((result ≡ 0) × Listing (fitting (vec_len choosers) (map string_bytes words.now)) (map holds libraries.old.items) (S.got out.old) (S.got out.new)) }
+    // with 0, the commands of a module were listed, or the model of a ring was analysed.
+    ensures checked { (result ≡ 0) ⊎ (result ≡ 1) → Checks (fitting (vec_len choosers) (map string_bytes words.now)) (map holds libraries.old.items) (S.got out.old) (S.got out.new) result ⊎ ((result ≡ 0) × (Listing (fitting (vec_len choosers) (map string_bytes words.now)) (map holds libraries.old.items) (S.got out.old) (S.got out.new) ⊎ Making (fitting (vec_len choosers) (map string_bytes words.now)))) }
     ensures checked_always { (settings : Settings) (told : List Texts) (second clauses lines : List ℕ) (verdict : Verdict) → fitting (vec_len choosers) (map string_bytes words.now) ≡ Some settings → map holds libraries.old.items ≡ map Some told → IsProofOf told settings second clauses lines verdict → (result ≡ lrat.status_of verdict) ⊎ (result ≡ 4) ⊎ (result ≡ 5) ⊎ (result ≡ 6) }
 
     // 3: a text breaks a rule, and its line was written. Where a file is absent or too large, it is the line of the first;
@@ -58,9 +58,12 @@ pub fn run_words<S: Sink>(
     ensures read_fault { result ≡ 4 → FailsToRead (fitting (vec_len choosers) (map string_bytes words.now)) (map faults libraries.old.items) (map faults libraries.new.items) (S.got out.old) (S.got out.new) }
     ensures read_fault_always { map faults libraries.new.items ≢ map faults libraries.old.items → (result ≡ 4) ⊎ (result ≡ 5) ⊎ (result ≡ 6) }
 
-    // 10 and 20: the words ask for a search, and no file breaks a rule as a whole, and the text of the model spells a module.
+    // 10, 20 and 30: the words ask for a search, and no file breaks a rule as a whole, and the text of the model spells a module.
+    // With 20 the part that is asked for was written of clauses and lines that refute them; with 30 the budget is spent, and
+    // clauses were written with as many lemmas as it has.
     ensures trace { result ≡ 10 → Searches (fitting (vec_len choosers) (map string_bytes words.now)) (map holds libraries.old.items) }
-    ensures absent { result ≡ 20 → Searches (fitting (vec_len choosers) (map string_bytes words.now)) (map holds libraries.old.items) }
+    ensures absent { result ≡ 20 → FindsNone (fitting (vec_len choosers) (map string_bytes words.now)) (map holds libraries.old.items) (S.got out.old) (S.got out.new) }
+    ensures unknown { result ≡ 30 → LeavesOpen (fitting (vec_len choosers) (map string_bytes words.now)) (map holds libraries.old.items) (S.got out.old) (S.got out.new) }
 
     // 5: there was no memory, and nothing was written.
     ensures memory { result ≡ 5 → S.got out.new ≡ S.got out.old }
@@ -72,25 +75,26 @@ pub fn run_words<S: Sink>(
     // There is no other status.
     ensures status { IsStatus result }
 {
-    let answered = answer_from_boxes(alloc, words, choosers.len(), libraries);
+    let answered = answer_from_boxes(alloc, words, choosers.len(), choosers, libraries);
     finish(alloc, answered, out)
 }
 
-/// The answer to these words from boxed libraries.
+/// The answer to these words from boxed libraries, where there are so many choosers.
 fn answer_from_boxes(
     alloc: Global,
     words: &[String],
-    choosers: usize,
+    count: usize,
+    choosers: Vec<Box<dyn Chooser>>,
     libraries: &mut Vec<Box<dyn Library>>,
 ) -> Result<Answer, AllocError>
     ensures keeps { map holds libraries.new.items ≡ map holds libraries.old.items }
     ensures later { NoneFell (map faults libraries.old.items) (map faults libraries.new.items) }
-    ensures allowed { Justified (fitting choosers (map string_bytes words.now)) (map holds libraries.old.items) (map faults libraries.old.items) (map faults libraries.new.items) result }
+    ensures allowed { Justified (fitting count (map string_bytes words.now)) (map holds libraries.old.items) (map faults libraries.old.items) (map faults libraries.new.items) result }
 {
     let mut shelves = Shelves {
         list: mem::replace(libraries, Vec::new(alloc)),
     };
-    let answered = answer(alloc, words, choosers, &mut shelves);
+    let answered = answer(alloc, words, count, choosers, &mut shelves);
     *libraries = shelves.list;
     answered
 }

@@ -88,32 +88,28 @@ fn gives(
 fn small_models(rt: HostRuntime) -> Result<(), Fail> {
     let alloc = rt.alloc();
     let empty = "trace states 1 loop 0\nstate 0\nA =\nend\n";
-    let both = "trace states 1 loop 0\nstate 0\nA = A$0\nB =\nend\n";
-    let unbuilt = "refused S00 m.als:1:1\n";
+    let none = "none states 1\n";
     let rows = [
         (SOME, 10, TRACE),
         ("sig A {}\nrun { no A } for 0\n", 10, empty),
-        ("sig A {}\nrun { some A } for 0\n", 20, "none states 1\n"),
+        ("sig A {}\nrun { some A } for 0\n", 20, none),
+        ("sig A {}\nrun { some A and not some A }\n", 20, none),
         (
-            "sig A {} sig B{}run{not no A and not some B some A}",
+            "run {} for 9\n",
             10,
-            both,
+            "trace states 1 loop 0\nstate 0\nend\n",
         ),
-        (
-            "sig A {}\nrun { some A and not some A }\n",
-            20,
-            "none states 1\n",
-        ),
-        ("sig A {}\nrun { some B }\n", 3, unbuilt),
-        ("sig A {}\nsig A {}\nrun {}\n", 3, unbuilt),
-        ("run {} for 9\n", 3, unbuilt),
-        ("sig A {}\n", 3, unbuilt),
-        ("", 3, unbuilt),
+        ("sig A {}\nrun { some B }\n", 3, "refused S40 m.als:2:12\n"),
+        ("sig A {}\nsig A {}\nrun {}\n", 3, "refused S30 m.als:2:5\n"),
+        ("", 3, "refused S60 m.als:1:1\n"),
     ];
     for (text, status, bytes) in rows {
         let files = [("m.als", text)];
-        let right = gives(alloc, "alloyc exec m.als", &plain(&files), status, bytes)?;
-        assert!(rt; right, "{text}");
+        let line = "alloyc exec m.als --part answer";
+        assert!(rt;
+            gives(alloc, line, &plain(&files), status, bytes)?,
+            "{text}"
+        );
     }
     Ok(())
 }
@@ -218,10 +214,10 @@ fn files_that_are_refused(rt: HostRuntime) -> Result<(), Fail> {
         ("alloyc lrat n.cnf p.lrat", "refused S20 n.cnf:1:1\n"),
         ("alloyc lrat f.cnf p.lrat", "refused S20 p.lrat:1:1\n"),
         ("alloyc least m.als", "refused S00 m.als:1:1\n"),
-        ("alloyc make 3", "refused S00 3:1:1\n"),
+        ("alloyc make 3 --command 1", "refused S60 make:1:1\n"),
         (
             "alloyc exec util/integer.als",
-            "refused S00 util/integer.als:1:1\n",
+            "refused S60 util/integer.als:1:1\n",
         ),
     ] {
         assert!(rt; gives(alloc, line, &plain(&files), 3, bytes)?, "{line}");

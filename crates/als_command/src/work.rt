@@ -7,38 +7,39 @@ ghost use Rattle.als_command.specs.Files.{asked, at_start, second_asked};
 ghost use Rattle.als_lexer.specs.Tokens.{tokens_of};
 ghost use Rattle.command_list.specs.Lines.{command_text};
 ghost use Rattle.als_command.specs.Root.{SpellIn};
-ghost use Rattle.als_command.specs.Run.{Justified, AllowsFiles, AllowsRun, IsOnModel, IsOnProof, IsFound, Says};
+ghost use Rattle.als_command.specs.Run.{Justified, AllowsFiles, AllowsRun, IsOnModel, IsOnProof};
 ghost use Rattle.std.specs.Prelude.{◌∷◌, []};
-ghost use Rattle.command_words.specs.declared.named.Mode.TheVariants.{Exec, Lrat};
+ghost use Rattle.command_words.specs.declared.named.Mode.TheVariants.{Lrat};
 
 use crate::Answer;
+use crate::analysis::{make, search};
 use crate::files::{File, at_start, whole_file};
 use crate::parsed::{Parsed, Root};
 use crate::root::root_of;
-use crate::small::{Decision, decide};
 use alloy_base::limits::{FILE_BYTES, MODULE_BYTES};
 use alloy_base::{Bytes, Libraries, Name, Refusal, Rule};
 use als_tree::Module;
+use chooser_box::Chooser;
 use command_list::command_text;
 use command_words::{Mode, Settings, fits, settings_of_words};
 use lrat_mode::{Verdict, check_texts};
-use module_loader::{LoadFault, load_tree};
 use std::alloc::{AllocError, Global};
 
 /// The answer to these words, where there are so many choosers.
 pub fn answer<L: Libraries>(
     alloc: Global,
     words: &[String],
-    choosers: usize,
+    count: usize,
+    choosers: Vec<Box<dyn Chooser>>,
     libraries: &mut L,
 ) -> Result<Answer, AllocError>
     ensures keeps { L.told libraries.new ≡ L.told libraries.old }
     ensures later { NoneFell (L.counts libraries.old) (L.counts libraries.new) }
-    ensures allowed { Justified (fitting choosers (map string_bytes words.now)) (L.told libraries.old) (L.counts libraries.old) (L.counts libraries.new) result }
+    ensures allowed { Justified (fitting count (map string_bytes words.now)) (L.told libraries.old) (L.counts libraries.old) (L.counts libraries.new) result }
 {
-    match fitting_settings(alloc, words, choosers)? {
+    match fitting_settings(alloc, words, count)? {
         None => Ok(Answer::Usage),
-        Some(settings) => work(alloc, &settings, libraries),
+        Some(settings) => work(alloc, &settings, choosers, libraries),
     }
 }
 
@@ -67,6 +68,7 @@ fn fitting_settings(
 fn work<L: Libraries>(
     alloc: Global,
     settings: &Settings,
+    choosers: Vec<Box<dyn Chooser>>,
     libraries: &mut L,
 ) -> Result<Answer, AllocError>
     requires { has_second settings.now ≡ true }
@@ -75,9 +77,9 @@ fn work<L: Libraries>(
     ensures allowed { (answer : _) → result ≡ Ok answer → AllowsRun settings.now (L.told libraries.old) (L.counts libraries.old) (L.counts libraries.new) answer }
 {
     match settings.mode {
-        Mode::Make => unbuilt(alloc, settings),
+        Mode::Make => make(alloc, settings, choosers, libraries),
         Mode::Lrat => refutation(alloc, settings, libraries),
-        _ => model(alloc, settings, libraries),
+        _ => model(alloc, settings, choosers, libraries),
     }
 }
 
@@ -85,6 +87,7 @@ fn work<L: Libraries>(
 fn model<L: Libraries>(
     alloc: Global,
     settings: &Settings,
+    choosers: Vec<Box<dyn Chooser>>,
     libraries: &mut L,
 ) -> Result<Answer, AllocError>
     requires asks { asked settings.now ≡ (settings.now.file, MODULE_BYTES) ∷ [] }
@@ -95,7 +98,7 @@ fn model<L: Libraries>(
 {
     let name = settings.file.text();
     match whole_file(alloc, libraries, name, MODULE_BYTES)? {
-        File::Whole(text) => on_model(alloc, settings, &text, libraries),
+        File::Whole(text) => on_model(alloc, settings, &text, choosers, libraries),
         File::Broken(rule) => refused(alloc, rule, name),
         File::Failed => read_fault(alloc, name),
     }
@@ -107,6 +110,7 @@ fn on_model<L: Libraries>(
     alloc: Global,
     settings: &Settings,
     text: &[u8],
+    choosers: Vec<Box<dyn Chooser>>,
     libraries: &mut L,
 ) -> Result<Answer, AllocError>
     requires mode { settings.now.mode ≢ Lrat }
@@ -116,7 +120,7 @@ fn on_model<L: Libraries>(
     ensures on { IfOk result (λ answer. IsOnModel settings.now text.now (L.counts libraries.old) (L.counts libraries.new) answer) }
 {
     match root_of(alloc, text)? {
-        Root::Module(parsed) => on_module(alloc, settings, text, parsed, libraries),
+        Root::Module(parsed) => on_module(alloc, settings, text, parsed, choosers, libraries),
         Root::Broken(refusal) => refused_at(alloc, refusal, settings.file.text()),
     }
 }
@@ -128,6 +132,7 @@ fn on_module<L: Libraries>(
     settings: &Settings,
     text: &[u8],
     parsed: Parsed,
+    choosers: Vec<Box<dyn Chooser>>,
     libraries: &mut L,
 ) -> Result<Answer, AllocError>
     requires mode { settings.now.mode ≢ Lrat }
@@ -137,7 +142,7 @@ fn on_module<L: Libraries>(
     ensures on { IfOk result (λ answer. IsOnModel settings.now text.now (L.counts libraries.old) (L.counts libraries.new) answer) }
 {
     match settings.mode {
-        Mode::Exec => search(alloc, settings, text, parsed, libraries),
+        Mode::Exec => search(alloc, settings, text, parsed, choosers, libraries),
         Mode::Commands => listed(alloc, &parsed.tree),
         _ => unbuilt(alloc, settings),
     }
@@ -149,50 +154,6 @@ fn listed(alloc: Global, tree: &Module) -> Result<Answer, AllocError>
 {
     let list = command_text(alloc, tree)?;
     Ok(Answer::Listed(Bytes::copy(alloc, &list)?))
-}
-
-/// The answer of a search on the text of a module, whose model is loaded first.
-#[tactic(auto, using(crate::proofs::OnModel::found_on, crate::proofs::OnModel::fault_on, crate::proofs::OnModel::later_of))]
-fn search<L: Libraries>(
-    alloc: Global,
-    settings: &Settings,
-    text: &[u8],
-    parsed: Parsed,
-    libraries: &mut L,
-) -> Result<Answer, AllocError>
-    requires mode { settings.now.mode ≡ Exec }
-    requires spells { SpellIn (tokens_of 0 text.now) parsed.tree }
-    ensures keeps { L.told libraries.new ≡ L.told libraries.old }
-    ensures later { NoneFell (L.counts libraries.old) (L.counts libraries.new) }
-    ensures on { IfOk result (λ answer. IsOnModel settings.now text.now (L.counts libraries.old) (L.counts libraries.new) answer) }
-{
-    let name = settings.file.text();
-    match load_tree(alloc, libraries, name, parsed.tree, parsed.tokens) {
-        Ok(_) => decided(alloc, settings, text),
-        Err(fault) => not_loaded(fault),
-    }
-}
-
-/// The answer of a search on a small text.
-fn decided(alloc: Global, settings: &Settings, text: &[u8]) -> Result<Answer, AllocError>
-    ensures { IfOk result (λ answer. IsFound settings.now answer) }
-{
-    match decide(alloc, text)? {
-        Decision::Trace(text) => Ok(Answer::Trace(text)),
-        Decision::Absent(text) => Ok(Answer::Absent(text)),
-        Decision::NotSmall => unbuilt(alloc, settings),
-    }
-}
-
-/// The answer where a model could not be loaded.
-fn not_loaded(fault: LoadFault) -> Result<Answer, AllocError>
-    ensures { IfOk result (λ answer. Says fault answer) }
-{
-    match fault {
-        LoadFault::Refused(refusal, name) => Ok(Answer::Refused(refusal, name)),
-        LoadFault::Read(name) => Ok(Answer::ReadFault(name)),
-        LoadFault::Memory => Err(AllocError),
-    }
 }
 
 /// The answer of a run on clauses and a proof.

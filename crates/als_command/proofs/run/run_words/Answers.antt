@@ -45,3 +45,6 @@ returns-clause-checked_always g c = let justified = rw c.len.ensures at c.answer
 
 pub returns-clause-uncut_always : goal.returns-clause-uncut_always
 returns-clause-uncut_always g c = let justified = rw c.len.ensures at c.answer_from_boxes-answered.ensures.allowed in ends.uncut_always _ _ _ _ _ _ _ _ _ _ justified c.finish.ensures
+
+pub returns-clause-unknown : goal.returns-clause-unknown
+returns-clause-unknown g c = let justified = rw c.len.ensures at c.answer_from_boxes-answered.ensures.allowed in ends.unknown _ _ _ _ _ _ _ _ _ _ justified c.finish.ensures
