@@ -1,5 +1,0 @@
-//! Tests of names, hierarchy and readings on texts.
-#![tactic(auto)]
-
-#[cfg(test)]
-mod tests;
