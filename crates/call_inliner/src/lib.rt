@@ -9,6 +9,3 @@ pub mod given;
 pub mod writing;
 
 pub use writing::inline;
-
-#[cfg(test)]
-mod tests;

@@ -10,6 +10,3 @@ pub use asked::{always_true, check_formula, denied, run_formula};
 pub use found::{asserts_named, predicates_named};
 pub use scope::scope_of;
 pub use words::{label_of, name_place};
-
-#[cfg(test)]
-mod tests;

@@ -8,6 +8,3 @@ pub mod fields;
 pub mod sigs;
 
 pub use declarations::implied;
-
-#[cfg(test)]
-mod tests;

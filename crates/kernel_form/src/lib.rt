@@ -7,6 +7,3 @@ pub mod forms;
 pub mod variables;
 
 pub use forms::kernel;
-
-#[cfg(test)]
-mod tests;

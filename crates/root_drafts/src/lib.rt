@@ -12,6 +12,3 @@ pub use built::{Built, CallSite, Pending};
 pub use decided::{Reading, Settled, settle};
 pub use draft::{Candidate, Draft, Target};
 pub use part::part_of;
-
-#[cfg(test)]
-mod tests;

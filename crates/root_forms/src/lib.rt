@@ -8,5 +8,3 @@ pub mod formulas;
 pub mod locals;
 pub mod meanings;
 pub mod places;
-#[cfg(test)]
-mod tests;

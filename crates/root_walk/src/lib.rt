@@ -8,6 +8,3 @@ pub mod roots;
 
 pub use root_forms::{faults, forms, locals, places};
 pub use root_names::{candidates, known, state};
-
-#[cfg(test)]
-mod tests;

@@ -14,6 +14,3 @@ pub use fields::{FieldWords, field_group, field_label, words_of};
 pub use labels::sig_label;
 pub use said::all_vars;
 pub use sigs::model_sigs;
-
-#[cfg(test)]
-mod tests;

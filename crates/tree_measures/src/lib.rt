@@ -11,6 +11,3 @@ pub use bodies::summaries;
 pub use literal::Reach;
 pub use measure::{Measure, Summary, expr_depth, formula_depth};
 pub use spot::earliest;
-
-#[cfg(test)]
-mod tests;
