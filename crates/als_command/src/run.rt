@@ -48,7 +48,7 @@ pub fn run_words<S: Sink>(
 
     // 3: a text breaks a rule, and its line was written. Where a file is absent or too large, it is the line of the first;
     // and else, where the text of the model that the mode reads can't be cut into tokens, it is the line of its first break. Where
-    // a search loads a model that is a module, it is the line of a rule of loading.
+    // the root spells a module, it may be the line of any rule at any place.
     ensures refused { result ≡ 3 → Refuses (fitting (vec_len choosers) (map string_bytes words.now)) (map holds libraries.old.items) (S.got out.old) (S.got out.new) ⊎ Checks (fitting (vec_len choosers) (map string_bytes words.now)) (map holds libraries.old.items) (S.got out.old) (S.got out.new) 3 }
     ensures refused_always { (settings : Settings) (told : List Texts) (broken : Rule × List ℕ) → fitting (vec_len choosers) (map string_bytes words.now) ≡ Some settings → map holds libraries.old.items ≡ map Some told → first_broken told (asked settings) ≡ Some broken → (result ≡ 3) ⊎ (result ≡ 4) ⊎ (result ≡ 5) ⊎ (result ≡ 6) }
 
