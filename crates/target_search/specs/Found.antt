@@ -1,17 +1,27 @@
 -- What a search may come to.
-use Rattle.std.specs.Prelude.{◌≡◌, ℕ, length, ⊤, Option, Some}
+use Rattle.std.specs.Prelude.{◌≡◌, ◌≤◌, ℕ, length, Option, Some}
 use Rattle.lrat_form.specs.Step.{State, start, Refutes}
+use Rattle.lrat_form.specs.declared.line.Proof.{Proof}
 use Rattle.lemma_log.specs.Outcome.{AreLemmas}
-use Rattle.target_search.specs.declared.found.Proof.{Proof}
 use Rattle.target_search.specs.declared.found.Found.{Found}
 use Rattle.target_search.specs.declared.found.Found.TheVariants.{Lasso, Refuted, Spent}
 
--- the lines are just as many lemmas as the budget has, none of them empty, and each passes
-abbrev pub Spends : Option ℕ → Proof → Type 0
-Spends budget proof = (budget ≡ Some (length proof.lines)) × (end : State) × AreLemmas (start proof.cnf.clauses) proof.lines end
+-- lines that refute clauses over so many states
+abbrev pub IsRefuted : ℕ → Proof → Type 0
+IsRefuted states proof = (proof.states ≡ states) × Refutes proof.cnf.clauses proof.lines
 
--- where there is no lasso the lines refute the clauses, and only a budget that is spent leaves it open
-abbrev pub IsFound : Option ℕ → Found → Type 0
-IsFound budget (Lasso lasso) = ⊤
-IsFound budget (Refuted proof) = Refutes proof.cnf.clauses proof.lines
-IsFound budget (Spent proof) = Spends budget proof
+-- on clauses over so many states just as many lemmas as the budget has, none of them empty, and each passes
+abbrev pub IsSpent : ℕ → Option ℕ → Proof → Type 0
+IsSpent states budget proof = (proof.states ≡ states) × ((budget ≡ Some (length proof.lines)) × ((end : State) × AreLemmas (start proof.cnf.clauses) proof.lines end))
+
+-- A lasso of so many states; where there is none the lines refute the clauses, and only a budget that is spent leaves it open.
+abbrev pub IsFound : ℕ → Option ℕ → Found → Type 0
+IsFound states budget (Lasso lasso) = length lasso.states ≡ states
+IsFound states budget (Refuted proof) = IsRefuted states proof
+IsFound states budget (Spent proof) = IsSpent states budget proof
+
+-- The same, where the lasso may have fewer states.
+abbrev pub IsFoundWithin : ℕ → Option ℕ → Found → Type 0
+IsFoundWithin states budget (Lasso lasso) = length lasso.states ≤ states
+IsFoundWithin states budget (Refuted proof) = IsRefuted states proof
+IsFoundWithin states budget (Spent proof) = IsSpent states budget proof

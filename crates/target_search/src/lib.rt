@@ -2,9 +2,15 @@
 #![tactic(auto)]
 
 mod found;
+mod limits;
 mod search;
 mod written;
 
-pub use found::{Found, Proof};
-pub use search::search_target;
+pub use found::Found;
+pub use limits::limits_of;
+pub use lrat_form::Proof;
+pub use search::{search_lasso, search_target};
 pub use written::clauses_of;
+
+#[cfg(test)]
+mod tests;

@@ -1,31 +1,32 @@
 // The search for a lasso.
 
-ghost use Rattle.std.specs.Prelude.{IfOk};
-ghost use Rattle.target_search.specs.Found.{IsFound};
+ghost use Rattle.std.specs.Prelude.{◌≡◌, IfOk, length};
+ghost use Rattle.target_search.specs.Found.{IsFound, IsFoundWithin};
 
-use crate::found::{Found, Proof};
+use crate::found::Found;
 use crate::written::clauses_of;
 use alloy_base::Assignment;
 use bounds_builder::{Bounds, decode, shortest};
-use cdcl_solver::solve;
+use cdcl_solver::solve_with;
 use chooser_box::Chooser;
 use core_meaning::{Lasso, Target};
-use lrat_form::Outcome;
+use lrat_form::{Outcome, Proof};
 use std::alloc::{AllocError, Global};
 
-/// Searches for a lasso of the target within the bounds, whose number of states it has. The only error is want of memory.
-pub fn search_target(
+/// Searches for a lasso of the target within the bounds, of just as many states as these have. The only error is want of
+/// memory.
+pub fn search_lasso<C: Chooser>(
     alloc: Global,
     target: &Target,
     bounds: &Bounds,
-    chooser: Box<dyn Chooser>,
+    chooser: &mut C,
     budget: Option<u64>,
 ) -> Result<Found, AllocError>
-    ensures { IfOk result (λ found. IsFound budget found) }
+    ensures { IfOk result (IsFound bounds.now.states budget) }
 {
     let states = bounds.states;
     let cnf = clauses_of(alloc, target, bounds)?;
-    match solve(alloc, &cnf, chooser, budget)? {
+    match solve_with(alloc, &cnf, chooser, budget)? {
         Outcome::Assignment(assignment) => {
             let lasso = lasso_of(alloc, bounds, &assignment)?;
             Ok(Found::Lasso(lasso))
@@ -35,12 +36,31 @@ pub fn search_target(
     }
 }
 
-/// The lasso for which an assignment of the table's variables stands, as short as its sequence allows.
-fn lasso_of(alloc: Global, bounds: &Bounds, assignment: &Assignment) -> Result<Lasso, AllocError> {
+/// Searches as `search_lasso` does, and cuts the lasso to as few states as its sequence allows. The only error is want of
+/// memory.
+pub fn search_target<C: Chooser>(
+    alloc: Global,
+    target: &Target,
+    bounds: &Bounds,
+    chooser: &mut C,
+    budget: Option<u64>,
+) -> Result<Found, AllocError>
+    ensures { IfOk result (IsFoundWithin bounds.now.states budget) }
+{
+    match search_lasso(alloc, target, bounds, chooser, budget)? {
+        Found::Lasso(lasso) => Ok(Found::Lasso(shortest(alloc, &lasso)?)),
+        Found::Refuted(proof) => Ok(Found::Refuted(proof)),
+        Found::Spent(proof) => Ok(Found::Spent(proof)),
+    }
+}
+
+/// The lasso for which an assignment of the table's variables stands.
+fn lasso_of(alloc: Global, bounds: &Bounds, assignment: &Assignment) -> Result<Lasso, AllocError>
+    ensures { IfOk result (λ lasso. length lasso.states ≡ bounds.now.states) }
+{
     if bounds.states == 0 {
         // Bounds have at least one state.
         return Err(AllocError);
     }
-    let lasso = decode(alloc, bounds, assignment)?;
-    shortest(alloc, &lasso)
+    decode(alloc, bounds, assignment)
 }

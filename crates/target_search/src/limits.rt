@@ -1,0 +1,31 @@
+// The bounds of a target.
+
+ghost use Rattle.std.specs.Prelude.{◌≡◌, IfOk};
+
+use alloy_base::Place;
+use bounds_builder::{Bounds, bounds};
+use core_meaning::Scopes;
+use core_tree::Model;
+use std::alloc::{AllocError, Global};
+
+/// The bounds of a model under scopes that aren't refused. The only error is want of memory.
+pub fn limits_of(alloc: Global, model: &Model, scopes: &Scopes) -> Result<Bounds, AllocError>
+    ensures { IfOk result (λ bounds. bounds.states ≡ scopes.now.states) }
+{
+    let keyword = Place {
+        module: 0,
+        line: 1,
+        column: 1,
+    };
+    match bounds(alloc, model, scopes, keyword) {
+        // The relations' bounds are the same for every number of states.
+        Ok(Bounds {
+            relations,
+            states: _,
+        }) => Ok(Bounds {
+            relations,
+            states: scopes.states,
+        }),
+        Err(_) => Err(AllocError),
+    }
+}
