@@ -5,6 +5,7 @@
 //! analysis and the chooser do.
 #![tactic(auto)]
 
+mod lent;
 mod load;
 mod pace;
 mod round;
@@ -12,4 +13,4 @@ mod search;
 #[cfg(test)]
 mod tests;
 
-pub use search::{solve, solve_by};
+pub use search::{solve, solve_by, solve_with};

@@ -32,7 +32,7 @@ pub(crate) enum Turn {
 }
 
 /// Raises the weights of the variables of false literals that a conflict came from.
-fn bump_all(chooser: &mut Box<dyn Chooser>, literals: &[i64]) {
+fn bump_all<C: Chooser>(chooser: &mut C, literals: &[i64]) {
     for literal in literals {
         if let Some(its_negation) = literal.checked_neg() {
             chooser.bump(its_negation);
@@ -59,7 +59,7 @@ fn can_assign(trail: &Trail, literal: i64) -> bool
 }
 
 /// Makes a free literal true, if there is one.
-fn decide(trail: &mut Trail, chooser: &mut Box<dyn Chooser>) -> Turn
+fn decide<C: Chooser>(trail: &mut Trail, chooser: &mut C) -> Turn
     ensures variables { trail.new.variables ≡ trail.old.variables }
     ensures turn { (formula : List (List ℤ)) (budget : Option ℕ) (lines : List Line) (state : State) → AreLemmas (start formula) lines state → IsTurn formula budget result lines state }
 {
@@ -122,12 +122,12 @@ fn keep(
 }
 
 /// Learns from a false clause, unless the budget is spent.
-fn take_conflict(
+fn take_conflict<C: Chooser>(
     alloc: Global,
     log: &mut LemmaLog,
     trail: &mut Trail,
     analysis: &mut Analysis,
-    chooser: &mut Box<dyn Chooser>,
+    chooser: &mut C,
     budget: Option<u64>,
     conflict: u64,
 ) -> Result<Turn, AllocError>
@@ -148,7 +148,7 @@ fn take_conflict(
 }
 
 /// Lets the conflict count: old weights count less, and the trail goes back to level 0, where these are due.
-fn count_conflict(trail: &mut Trail, chooser: &mut Box<dyn Chooser>, pace: &mut Pace)
+fn count_conflict<C: Chooser>(trail: &mut Trail, chooser: &mut C, pace: &mut Pace)
     ensures { trail.new.variables ≡ trail.old.variables }
 {
     if pace.is_decay_due() {
@@ -160,12 +160,12 @@ fn count_conflict(trail: &mut Trail, chooser: &mut Box<dyn Chooser>, pace: &mut 
 }
 
 /// Propagates, and learns or decides.
-pub(crate) fn take_turn(
+pub(crate) fn take_turn<C: Chooser>(
     alloc: Global,
     log: &mut LemmaLog,
     trail: &mut Trail,
     analysis: &mut Analysis,
-    chooser: &mut Box<dyn Chooser>,
+    chooser: &mut C,
     pace: &mut Pace,
     budget: Option<u64>,
 ) -> Result<Turn, AllocError>

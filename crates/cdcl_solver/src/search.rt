@@ -2,6 +2,7 @@ ghost use Rattle.std.specs.Prelude.{ℕ, Option, IfOk, IfSome, IsTrue};
 ghost use Rattle.cnf_form.specs.Literal.{IsSolution};
 ghost use Rattle.lemma_log.specs.Outcome.{IsAnswer};
 
+use crate::lent::Lent;
 use crate::load::values_of;
 use crate::pace::Pace;
 use crate::round::{Turn, take_turn};
@@ -38,10 +39,10 @@ fn answer(alloc: Global, cnf: &Cnf, trail: &Trail) -> Result<Option<Outcome>, Al
 }
 
 /// Searches over the trail, and gives an answer or has lost its way.
-fn run(
+fn run<C: Chooser>(
     alloc: Global,
     cnf: &Cnf,
-    chooser: &mut Box<dyn Chooser>,
+    chooser: &mut C,
     budget: Option<u64>,
 ) -> Result<Option<Outcome>, AllocError>
     ensures { IfOk result (λ found. IfSome found (IsAnswer cnf.now.variables cnf.now.clauses budget)) }
@@ -81,10 +82,10 @@ fn run(
 /// there are so many lemmas and one more could be learnt.
 ///
 /// The chooser picks what is tried; `start` is called on it once. The only error is want of memory.
-pub fn solve_by(
+pub fn solve_with<C: Chooser>(
     alloc: Global,
     cnf: &Cnf,
-    chooser: &mut Box<dyn Chooser>,
+    chooser: &mut C,
     budget: Option<u64>,
 ) -> Result<Outcome, AllocError>
     ensures { IfOk result (IsAnswer cnf.now.variables cnf.now.clauses budget) }
@@ -93,6 +94,19 @@ pub fn solve_by(
         return Ok(outcome);
     }
     split(alloc, cnf)
+}
+
+/// Searches as `solve_with` does, by a boxed chooser.
+pub fn solve_by(
+    alloc: Global,
+    cnf: &Cnf,
+    chooser: &mut Box<dyn Chooser>,
+    budget: Option<u64>,
+) -> Result<Outcome, AllocError>
+    ensures { IfOk result (IsAnswer cnf.now.variables cnf.now.clauses budget) }
+{
+    let mut lent = Lent { chooser };
+    solve_with(alloc, cnf, &mut lent, budget)
 }
 
 /// Searches as `solve_by` does, and drops the chooser.

@@ -3,7 +3,7 @@ use Rattle.lrat_form.specs.declared.outcome.Outcome.{Outcome}
 use Rattle.lrat_form.specs.declared.outcome.Outcome.TheVariants.{Assignment, Refutation, Spent}
 use Rattle.lrat_form.specs.Outcome.{Answers}
 use Rattle.lemma_log.specs.Outcome.{IsAnswer}
-use Rattle.cdcl_solver.proofs.search.solve_by.Goals as goal
+use Rattle.cdcl_solver.proofs.search.solve_with.Goals as goal
 
 -- an answer that spends no budget is one under every budget
 answer_under : (variables : ℕ) (formula : List (List ℤ)) (budget : Option ℕ) (outcome : Outcome) → Answers variables formula None outcome → IsAnswer variables formula budget outcome
