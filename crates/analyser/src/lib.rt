@@ -6,6 +6,7 @@
 
 mod answer;
 mod fault;
+mod owned;
 mod ready;
 mod search;
 mod settings;

@@ -5,6 +5,7 @@ ghost use Rattle.analyser.specs.Found.{IsFound, IsLoadedFault};
 
 use crate::answer::Answer;
 use crate::fault::AnalyseFault;
+use crate::owned::Owned;
 use crate::ready::{Prepared, load_root, prepare_loaded};
 use crate::settings::Settings;
 use alloy_base::Libraries;
@@ -69,7 +70,8 @@ fn searched(
         parts: _,
         first_fact: _,
     } = prepared;
-    match search_target(alloc, &target, &bounds, chooser, budget)? {
+    let mut owned = Owned { chooser };
+    match search_target(alloc, &target, &bounds, &mut owned, budget)? {
         Found::Lasso(lasso) => Ok(Answer::Trace { labels, lasso }),
         Found::Refuted(proof) => {
             let table = table(alloc, &labels, &bounds)?;

@@ -4,5 +4,5 @@ use Rattle.analyser.proofs.search.searched.Goals as goal
 
 pub returns : goal.returns
 returns g c =
-    let spent = subst (target.IsFound c.args.budget) c.in-Spent.is c.in_ok-lasso.ensures in
-    record { found = (spent.0, (spent.1, spent.2)) }
+    let spent = subst (target.IsFoundWithin c.args.prepared.bounds.states c.args.budget) c.in-Spent.is c.in_ok-lasso.ensures in
+    record { found = spent.1 }
