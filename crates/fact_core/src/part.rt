@@ -42,6 +42,7 @@ pub fn part_of(
 }
 
 /// The numbers of the facts that are kept.
+#[tactic(auto, using(crate::proofs::Rising::rises_push, crate::proofs::Rising::below_push, crate::proofs::Rising::below_more))]
 pub fn kept_facts(alloc: Global, facts: u32, dropped: &[bool]) -> Result<NumberList, AllocError>
     ensures { IfOk result (AreKept facts) }
 {

@@ -10,9 +10,13 @@ use Rattle.target_search.specs.declared.found.Found.TheVariants.{Lasso, Refuted,
 abbrev pub IsRefuted : ℕ → Proof → Type 0
 IsRefuted states proof = (proof.states ≡ states) × Refutes proof.cnf.clauses proof.lines
 
--- on clauses over so many states just as many lemmas as the budget has, none of them empty, and each passes
+-- just as many lemmas as the budget has, none of them empty, and each passes
+abbrev pub Spends : Option ℕ → Proof → Type 0
+Spends budget proof = (budget ≡ Some (length proof.lines)) × (end : State) × AreLemmas (start proof.cnf.clauses) proof.lines end
+
+-- lemmas that spend a budget on clauses over so many states
 abbrev pub IsSpent : ℕ → Option ℕ → Proof → Type 0
-IsSpent states budget proof = (proof.states ≡ states) × ((budget ≡ Some (length proof.lines)) × ((end : State) × AreLemmas (start proof.cnf.clauses) proof.lines end))
+IsSpent states budget proof = (proof.states ≡ states) × Spends budget proof
 
 -- A lasso of so many states; where there is none the lines refute the clauses, and only a budget that is spent leaves it open.
 abbrev pub IsFound : ℕ → Option ℕ → Found → Type 0

@@ -5,4 +5,5 @@ use Rattle.analyser.proofs.search.searched.Goals as goal
 pub returns : goal.returns
 returns g c =
     let spent = subst (target.IsFoundWithin c.args.prepared.bounds.states c.args.budget) c.in-Spent.is c.in_ok-lasso.ensures in
-    record { found = spent.1 }
+    let spends = spent.1 in
+    record { found = (spends.0, (spends.1, spends.2)) }
