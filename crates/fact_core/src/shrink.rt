@@ -16,6 +16,7 @@ use std::alloc::{AllocError, Global};
 use target_search::{Found, limits_of, search_target};
 
 /// What is searched, but for the facts.
+#[derive(Clone, Copy)]
 struct Question<'a> {
     target: &'a Target,
     /// The place of the first fact's formula.
@@ -39,12 +40,14 @@ fn search<C: Chooser>(
 }
 
 /// Facts that are left out, with a refutation of the clauses for the others.
+#[derive(Drop)]
 struct Left {
     dropped: Vec<bool>,
     proof: Proof,
 }
 
 /// What one more search leaves.
+#[derive(Drop)]
 enum Tried {
     Left(Left),
     Spent(Proof),

@@ -2,5 +2,5 @@ use Rattle.std.proofs.Common.{ℕ, ◌+◌}
 use Rattle.least_trace.specs.Least.{IsBelow}
 use Rattle.least_trace.proofs.search.find_least.Given as goal
 
-pub invariant-loop-fewer : goal.invariant-loop-fewer
+abbrev pub invariant-loop-fewer : goal.invariant-loop-fewer
 invariant-loop-fewer g l = IsBelow (l.fewer + 1) l.below
