@@ -33,7 +33,7 @@ fn search<C: Chooser>(
     dropped: &[bool],
     chooser: &mut C,
 ) -> Result<Found, AllocError>
-    ensures { IfOk result (IsFoundWithin question.now.limits.states question.now.budget) }
+    ensures { IfOk result (IsFoundWithin question.now.limits.now.states question.now.budget) }
 {
     let part = part_of(alloc, question.target, question.first, dropped)?;
     search_target(alloc, &part, question.limits, chooser, question.budget)
@@ -60,8 +60,8 @@ fn trim<C: Chooser>(
     proof: Proof,
     chooser: &mut C,
 ) -> Result<Tried, AllocError>
-    requires { IsRefuted question.now.limits.states proof }
-    ensures { IfOk result (IsTried question.now.limits.states question.now.budget) }
+    requires { IsRefuted question.now.limits.now.states proof }
+    ensures { IfOk result (IsTried question.now.limits.now.states question.now.budget) }
 {
     let mut dropped = vec![in alloc; false; question.facts as usize]?;
     if !drop_unreached(alloc, &proof, &mut dropped)? {
@@ -85,8 +85,8 @@ fn shrink<C: Chooser>(
     left: Left,
     chooser: &mut C,
 ) -> Result<Core, AllocError>
-    requires { IsRefuted question.now.limits.states left.proof }
-    ensures { IfOk result (IsCore question.now.limits.states question.now.facts question.now.budget) }
+    requires { IsRefuted question.now.limits.now.states left.proof }
+    ensures { IfOk result (IsCore question.now.limits.now.states question.now.facts question.now.budget) }
 {
     let Left { mut dropped, mut proof } = left;
     for fact in 0..question.facts as usize {
