@@ -88,7 +88,10 @@ fn shrink<C: Chooser>(
     requires { IsRefuted question.now.limits.now.states left.proof }
     ensures { IfOk result (IsCore question.now.limits.now.states question.now.facts question.now.budget) }
 {
-    let Left { mut dropped, mut proof } = left;
+    let Left {
+        mut dropped,
+        mut proof,
+    } = left;
     for fact in 0..question.facts as usize {
         if !is_dropped(&dropped, fact) {
             set_dropped(&mut dropped, fact, true);

@@ -37,10 +37,7 @@ fn model(alloc: Global) -> Result<Model, AllocError> {
 /// That there is at most one atom, that there is some, and that there is none.
 fn facts(alloc: Global) -> Result<FormulaList, AllocError> {
     let mut formulas = FormulaList::new(alloc);
-    formulas.push(Formula::Test(
-        Quantity::Lone,
-        Box::new(alloc, Expr::Sig(0))?,
-    ))?;
+    formulas.push(Formula::Test(Quantity::Lone, Box::new(alloc, Expr::Sig(0))?))?;
     let some = Formula::Test(Quantity::Some, Box::new(alloc, Expr::Sig(0))?);
     let none = Formula::Not(Box::new(alloc, some.copy(alloc)?)?);
     formulas.push(some)?;

@@ -80,6 +80,9 @@ fn told(
 fn fewest_states(rt: HostRuntime) -> Result<(), Fail> {
     assert_eq!(rt; told(rt.alloc(), TemporalUnary::After, None)?, (10, 2, 1));
     assert_eq!(rt; told(rt.alloc(), TemporalUnary::Before, None)?, (20, 3, 0));
-    assert_eq!(rt; told(rt.alloc(), TemporalUnary::Before, Some(0))?, (30, 1, 0));
+    assert_eq!(rt;
+        told(rt.alloc(), TemporalUnary::Before, Some(0))?,
+        (30, 1, 0)
+    );
     Ok(())
 }

@@ -18,14 +18,15 @@ pub fn limits_of(alloc: Global, model: &Model, scopes: &Scopes) -> Result<Bounds
         column: 1,
     };
     match bounds(alloc, model, scopes, keyword) {
-        // The relations' bounds are the same for every number of states.
-        Ok(Bounds {
-            relations,
-            states: _,
-        }) => Ok(Bounds {
-            relations,
-            states: scopes.states,
-        }),
+        Ok(found) => {
+            // The relations' bounds are the same for every number of states.
+            let Bounds {
+                relations,
+                states: _,
+            } = found;
+            let states = scopes.states;
+            Ok(Bounds { relations, states })
+        }
         Err(_) => Err(AllocError),
     }
 }

@@ -1,4 +1,4 @@
-use Rattle.std.proofs.Common.{ℕ, ◌+◌}
+use Rattle.std.proofs.Common.{◌+◌}
 use Rattle.least_trace.specs.Least.{IsBelow}
 use Rattle.least_trace.proofs.search.find_least.Given as goal
 
