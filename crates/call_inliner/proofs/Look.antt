@@ -1,13 +1,13 @@
 -- What is found for a name is what the names say of it.
-use Rattle.std.proofs.Common.{◌≡◌, ◌≢◌, ◌↔◌, ◌⊎◌, ℕ, zero, suc, ◌-◌, ◌<◌, ◌≤◌, Bool, true, false, eqb, List, [], ◌∷◌, map, Option, Some, None, sym, subst, ap, inl, inr, arith, length, get_or, Bor}
-use Rattle.std.proofs.lemmas.Bool.{eqb-true, eq-eqb}
+use Rattle.std.proofs.Common.{◌≡◌, ◌≢◌, ◌↔◌, ℕ, zero, suc, ◌-◌, ◌<◌, ◌≤◌, false, eqb, List, [], ◌∷◌, map, Option, sym, subst, inl, inr, arith, length, get_or, Bor}
+use Rattle.std.proofs.lemmas.Bool.{eq-eqb}
 use Rattle.std.proofs.lemmas.Bool.Decides.{eqb_tells}
 use Rattle.core_tree.specs.declared.model.Body.{Body}
 use Rattle.core_tree.specs.declared.tree.Expr.{Expr}
-use Rattle.core_tree.specs.Trees.{Term, term_of, term_list}
+use Rattle.core_tree.specs.Trees.{term_of, term_list}
 use Rattle.core_meaning.specs.World.{World}
 use Rattle.core_meaning.specs.Operators.{Tuples}
-use Rattle.core_meaning.specs.Meaning.{Names, Bodies, one_of, with_name, InTerm, passed}
+use Rattle.core_meaning.specs.Meaning.{Names, Bodies, one_of, InTerm, passed}
 use Rattle.core_meaning.specs.Called.{called}
 use Rattle.past_window.specs.Same.{same_trans}
 use Rattle.call_inliner.specs.declared.given.Given.{Given}

@@ -1,8 +1,7 @@
 -- Each form says the same written out where its parts do.
-use Rattle.std.proofs.Common.{◌≡◌, ◌↔◌, ◌⊎◌, ℕ, zero, suc, ◌+◌, ◌-◌, ◌<◌, ◌≤◌, Bool, true, false, eqb, if◌then◌else◌, List, [], ◌∷◌, ◌++◌, map, Option, Some, None, ℤ, refl, sym, ◌∙◌, ap, subst, inl, inr, arith}
+use Rattle.std.proofs.Common.{◌≡◌, ◌↔◌, ℕ, ◌+◌, ◌-◌, ◌<◌, Bool, true, false, eqb, if◌then◌else◌, List, [], ◌∷◌, ◌++◌, map, Option, Some, ℤ, refl, sym, ap, subst, arith}
 use Rattle.std.proofs.lemmas.Bool.{eqb-true, eq-eqb}
 use Rattle.core_tree.specs.declared.operators.Multiplicity.{Multiplicity}
-use Rattle.core_tree.specs.declared.operators.Multiplicity.TheVariants.{Set}
 use Rattle.core_tree.specs.declared.operators.Quantity.{Quantity}
 use Rattle.core_tree.specs.declared.operators.Comparison.{Comparison}
 use Rattle.core_tree.specs.declared.operators.Connective.{Connective}
@@ -14,15 +13,15 @@ use Rattle.core_tree.specs.declared.operators.TemporalUnary.TheVariants.{After, 
 use Rattle.core_tree.specs.declared.operators.TemporalBinary.{TemporalBinary}
 use Rattle.core_tree.specs.declared.operators.TemporalBinary.TheVariants.{Until, Releases, Since, Triggered, Then}
 use Rattle.core_tree.specs.declared.model.Body.{Body}
-use Rattle.core_tree.specs.Trees.{Term, Claim, Binder, combine, product, unary, prime, choose_term, comprehension, count, arithmetic, sum_over, let_term, inside, equal, within, test, compare, negation, every, connect, choose_claim, for_all, counted, temporal, temporal_pair, let_claim, term_of, claim_of, term_list, claim_list, variable_list}
+use Rattle.core_tree.specs.Trees.{Term, Claim, Binder, combine, product, unary, prime, choose_term, comprehension, count, arithmetic, sum_over, let_term, inside, equal, within, test, compare, negation, connect, choose_claim, for_all, counted, temporal, temporal_pair, let_claim, term_of, term_list, variable_list}
 use Rattle.core_meaning.specs.World.{World}
 use Rattle.core_meaning.specs.Operators.{HasMultiplicity, Tuples, Times, SomeLater, SomeEarlier, UntilAt, SinceAt, Happens, HappenBoth, IsNumber}
-use Rattle.core_meaning.specs.Meaning.{Names, Bodies, one_of, with_name, atom, InTerm, Picked, ForEach, Fits, Holds, HoldEach, passed}
+use Rattle.core_meaning.specs.Meaning.{Names, Bodies, one_of, with_name, atom, InTerm, Picked, ForEach, Fits, Holds, passed}
 use Rattle.core_meaning.specs.Called.{no_bodies, called}
-use Rattle.past_window.specs.Same.{SameTuples, turn, both_same, either_same, not_same, combined_same, product_same, unary_same, inside_same, equal_same, quantity_same, multiplicity_same, quantified_same, count_same, number_same, sum_same, compare_same, connects_same, chooses_same}
+use Rattle.past_window.specs.Same.{SameTuples, both_same, either_same, not_same, combined_same, product_same, unary_same, inside_same, equal_same, quantity_same, multiplicity_same, quantified_same, count_same, number_same, sum_same, compare_same, connects_same, chooses_same}
 use Rattle.call_inliner.specs.declared.given.Given.{Given}
 use Rattle.call_inliner.specs.declared.given.Given.TheVariants.{Empty, Level', Written', Passed'}
-use Rattle.call_inliner.specs.Written.{atom_or_none, atoms, given_names, IsBelow, IsPlain, IsNoArrow, SameTerm, SameClaim, SameClaims, SameBound, bound_arrow, bound_leaf, Binds, under_none, under_more}
+use Rattle.call_inliner.specs.Written.{atom_or_none, atoms, given_names, IsBelow, IsPlain, IsNoArrow, SameTerm, SameClaim, SameBound, bound_arrow, bound_leaf, Binds, under_none, under_more}
 
 pub still : {P : Type 0} → P ↔ P
 still = ((λ x. x), (λ x. x))

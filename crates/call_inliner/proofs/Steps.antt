@@ -1,21 +1,20 @@
 -- What a step of the writing gives, in the words of its clauses.
-use Rattle.std.proofs.Common.{◌≡◌, ◌↔◌, ℕ, zero, suc, ◌+◌, ◌-◌, ◌<◌, ◌≤◌, List, [], ◌∷◌, ◌++◌, map, take, length, get_or, slice_get, Option, Some, None, Result, Ok, Err, IfOk, refl, sym, ◌∙◌, ap, subst, arith, append_assoc, Vec, Box, Bor, Global}
+use Rattle.std.proofs.Common.{◌≡◌, ◌↔◌, ℕ, ◌+◌, List, [], ◌∷◌, ◌++◌, map, Option, Result, Ok, Err, IfOk, sym, ◌∙◌, ap, subst, append_assoc, Vec, Box, Bor, Global}
 use Rattle.std.proofs.lemmas.List.{append-nil}
 use Rattle.core_tree.specs.declared.operators.Quantity.{Quantity}
-use Rattle.core_tree.specs.declared.operators.Multiplicity.{Multiplicity}
 use Rattle.core_tree.specs.declared.model.Body.{Body}
 use Rattle.core_tree.specs.declared.tree.Variable.{Variable}
 use Rattle.core_tree.specs.declared.tree.Formula.{Formula, Every, ForAll, Counted, Let as LetFormula, Call as CallFormula}
 use Rattle.core_tree.specs.declared.tree.Expr.{Expr, Comprehension, Sum, Let as LetExpr, Call as CallExpr}
-use Rattle.core_tree.specs.Trees.{Term, Claim, Binder, name, empty, every, for_all, counted, comprehension, sum_over, call_claim, call_term, let_claim, let_term, test, term_of, claim_of, variable_of, term_list, claim_list, variable_list}
+use Rattle.core_tree.specs.Trees.{Term, Claim, Binder, name, empty, every, for_all, counted, comprehension, sum_over, call_claim, call_term, let_claim, let_term, term_of, claim_of, variable_of, term_list, claim_list, variable_list}
 use Rattle.core_tree.specs.Rows.{every_is, for_all_is, counted_is, comprehension_is, sum_over_is, call_claim_is, call_term_is}
 use Rattle.core_meaning.specs.World.{World}
-use Rattle.core_meaning.specs.Meaning.{Names, InTerm, Holds, HoldEach, passed}
+use Rattle.core_meaning.specs.Meaning.{Names, InTerm, Holds, HoldEach}
 use Rattle.core_meaning.specs.Called.{no_bodies, called}
 use Rattle.past_window.specs.Same.{both_same, same_trans}
 use Rattle.call_inliner.specs.declared.given.Given.{Given}
-use Rattle.call_inliner.specs.declared.given.Given.TheVariants.{Level, Written, Passed}
-use Rattle.call_inliner.specs.Written.{atoms, given_names, IsBelow, SameTerm, SameClaim, SameClaims, Binds, BindsTo, under_none, under_more}
+use Rattle.call_inliner.specs.declared.given.Given.TheVariants.{Level, Written}
+use Rattle.call_inliner.specs.Written.{atoms, given_names, IsBelow, SameTerm, SameClaim, SameClaims, BindsTo, under_none, under_more}
 use Rattle.call_inliner.proofs.Same.{still, for_all_same, counted_same, comprehension_same, sum_over_same}
 
 pub if_ok_to : {X E : Type 0} (P Q : X → Type 0) → ((x : X) → P x → Q x) → (r : Result X E) → IfOk r P → IfOk r Q

@@ -1,9 +1,8 @@
 -- What calls, lists and variables give, in the words of the clauses.
-use Rattle.std.proofs.Common.{◌≡◌, ◌≢◌, ◌↔◌, ℕ, zero, suc, ◌+◌, ◌-◌, ◌<◌, ◌≤◌, List, [], ◌∷◌, ◌++◌, map, take, length, get_or, slice_get, Option, Some, None, Result, Ok, Err, IfOk, refl, sym, ◌∙◌, ap, subst, arith, Box, Bor, Global, ℤ}
+use Rattle.std.proofs.Common.{◌≡◌, ◌≢◌, ◌↔◌, ℕ, zero, suc, ◌+◌, ◌<◌, ◌≤◌, List, [], ◌∷◌, ◌++◌, map, take, length, get_or, slice_get, Option, Some, None, Result, Ok, Err, IfOk, refl, sym, ◌∙◌, ap, subst, arith, Box, Bor, Global, ℤ}
 use Rattle.std.proofs.Math.Seq.{take-suc}
 use Rattle.std.proofs.lemmas.List.{map-append}
 use Rattle.std.proofs.lemmas.Option.{slice_get-get_or}
-use Rattle.core_tree.specs.declared.operators.Quantity.{Quantity}
 use Rattle.core_tree.specs.declared.operators.Quantity.TheVariants.{Some as SomeOf}
 use Rattle.core_tree.specs.declared.operators.Multiplicity.{Multiplicity}
 use Rattle.alloy_base.specs.declared.place.Place.{Place}
@@ -13,10 +12,9 @@ use Rattle.core_tree.specs.declared.model.BodyForm.TheVariants.{Test, Term as Va
 use Rattle.core_tree.specs.declared.tree.Variable.{Variable}
 use Rattle.core_tree.specs.declared.tree.Formula.{Formula}
 use Rattle.core_tree.specs.declared.tree.Expr.{Expr, Number, Product, Product'}
-use Rattle.core_tree.specs.Trees.{Term, Terms, Claim, Binder, number, empty, call_claim, call_term, test, term_of, claim_of, variable_of, term_list}
+use Rattle.core_tree.specs.Trees.{Term, Terms, Claim, number, empty, call_claim, call_term, test, term_of, claim_of, variable_of, term_list}
 use Rattle.core_meaning.specs.World.{World}
-use Rattle.core_meaning.specs.Operators.{HasQuantity}
-use Rattle.core_meaning.specs.Meaning.{Names, Bodies, no_names, InTerm, Holds, passed}
+use Rattle.core_meaning.specs.Meaning.{Names, no_names, InTerm, Holds, passed}
 use Rattle.core_meaning.specs.Called.{no_bodies, bodies_of, InForm, FormHolds, InBody, BodyHolds, called}
 use Rattle.call_inliner.specs.declared.given.Given.{Given}
 use Rattle.call_inliner.specs.declared.given.Given.TheVariants.{Empty, Level, Passed}

@@ -1,4 +1,3 @@
-use Rattle.std.proofs.Common.{rules, arith, ap, ◌∙◌, sym}
 use Rattle.core_meaning.specs.Called.{called}
 use Rattle.call_inliner.specs.declared.given.Given.TheVariants.{Level, Written}
 use Rattle.call_inliner.specs.Written.{given_names}

@@ -1,5 +1,4 @@
-use Rattle.std.proofs.Common.{rules, arith, refl, sym}
-use Rattle.std.proofs.lemmas.Int.{to_z-of_z}
+use Rattle.std.proofs.Common.{rules, arith, refl}
 use Rattle.call_inliner.proofs.Lists.{more_claims_free, more_variables_free, every_free, for_all_free, counted_free, comprehension_free, sum_free}
 use Rattle.call_inliner.proofs.Tails.{number_tail, number_says, formulas_more, formulas_all, leaf_tail, no_arrow, under_tail, under_end, called_claim_tail, called_term_tail, never_at_zero, never_there, never_a_test, empty_at_zero, empty_there, empty_a_term, there, not_there}
 use Rattle.call_inliner.specs.CallFree.{IsCallFreeTerm}
@@ -7,7 +6,7 @@ use Rattle.call_inliner.specs.Written.{IsPlain, SameClaim, SameTerm, bound_arrow
 use Rattle.core_tree.specs.Trees.{term_of, claim_of}
 use Rattle.call_inliner.proofs.Same.{still, below_at, inside_claim_same, equal_claim_same, compare_claim_same, within_claim_same, test_claim_same, negation_same, connect_same, choose_claim_same, temporal_same, temporal_pair_same, combine_same, arrow_same, unary_term_same, prime_same, choose_term_same, count_term_same, arithmetic_same}
 use Rattle.core_tree.specs.declared.operators.Multiplicity.TheVariants.{Set}
-use Rattle.call_inliner.proofs.Steps.{let_claim_tail, let_term_tail, call_claim_tail, call_term_tail, name_tail, nothing_same, every_says, for_all_says, counted_says, comprehension_says, sum_says, more_claims, no_claims_yet, binds_more, binds_none}
+use Rattle.call_inliner.proofs.Steps.{let_claim_tail, let_term_tail, call_claim_tail, call_term_tail, name_tail, nothing_same, every_says, for_all_says, counted_says, comprehension_says, sum_says, no_claims_yet}
 use Rattle.call_inliner.proofs.writing.+inline.Goals as goal
 
 pub written_formula-returns-in_ok-boxed_expr-in-Inside-2-clause-same : goal.written_formula-returns-in_ok-boxed_expr-in-Inside-2-clause-same
