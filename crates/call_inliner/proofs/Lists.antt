@@ -1,12 +1,12 @@
 -- Trees over lists whose parts call nothing.
-use Rattle.std.proofs.Common.{◌≡◌, ℕ, zero, suc, List, [], ◌∷◌, ◌++◌, map, All, subst, sym, ◌∙◌, ap, arith, Vec, Box, Global}
+use Rattle.std.proofs.Common.{zero, suc, List, [], ◌∷◌, ◌++◌, map, All, subst, sym, arith, Vec, Box, Global}
 use Rattle.std.proofs.lemmas.List.{map-append}
 use Rattle.std.proofs.lemmas.List.Elements.{All-append}
 use Rattle.core_tree.specs.declared.operators.Quantity.{Quantity}
 use Rattle.core_tree.specs.declared.tree.Variable.{Variable}
 use Rattle.core_tree.specs.declared.tree.Formula.{Formula, Every, ForAll, Counted}
 use Rattle.core_tree.specs.declared.tree.Expr.{Expr, Comprehension, Sum}
-use Rattle.core_tree.specs.Trees.{Term, Claim, Binder, every, for_all, counted, comprehension, sum_over, term_of, claim_of, variable_of, claim_list, variable_list}
+use Rattle.core_tree.specs.Trees.{Claim, Binder, term_of, claim_of, variable_of, claim_list, variable_list}
 use Rattle.core_tree.specs.Rows.{every_is, for_all_is, counted_is, comprehension_is, sum_over_is}
 use Rattle.call_inliner.specs.CallFree.{IsCallFree, IsCallFreeTerm, AreCallFree, AreCallFreeVariables, HasCallFreeBound}
 

@@ -1,1 +1,2 @@
 pub mod CallFree
+pub mod Written

@@ -1,5 +1,9 @@
 // What the names of a formula stand for while it is written out.
 
+ghost use Rattle.core_tree.specs.declared.model.Body.{Body};
+ghost use Rattle.std.specs.Prelude.{List, ℕ};
+ghost use Rattle.call_inliner.specs.Written.{IsBelow, MeansName};
+
 use core_tree::Expr;
 
 /// What names stand for. A later name hides an earlier one.
@@ -9,11 +13,12 @@ pub enum Given<'a> {
     Empty,
     /// A variable: its name, the name of its binder in the result, and the other names.
     Level(u32, u32, &'a Given<'a>),
-    /// A `let` name and its expression, and the other names, with which that was written.
-    Written(u32, &'a Expr, &'a Given<'a>),
-    /// The parameters 0, 1 and on of a called body: their arguments, and the names with which those
-    /// were written. A body sees its parameters alone.
-    Passed(&'a [Expr], &'a Given<'a>),
+    /// A `let` name, how deep calls may still nest where its expression was written, that expression, and the other
+    /// names, with which it was written.
+    Written(u32, usize, &'a Expr, &'a Given<'a>),
+    /// The parameters 0, 1 and on of a called body: how deep calls may still nest where the arguments were written, the
+    /// arguments, and the names with which those were written. A body sees its parameters alone.
+    Passed(usize, &'a [Expr], &'a Given<'a>),
 }
 
 /// What one name stands for.
@@ -23,12 +28,14 @@ pub enum Meant<'a> {
     Nothing,
     /// The variable of the result with this name.
     Level(u32),
-    /// An expression, with the names with which it was written.
-    Written(&'a Expr, &'a Given<'a>),
+    /// An expression, how deep calls may nest in it, and the names with which it was written.
+    Written(usize, &'a Expr, &'a Given<'a>),
 }
 
 /// What a name stands for.
-pub fn look_up<'a>(given: &Given<'a>, name: u32) -> Meant<'a> {
+pub fn look_up<'a>(given: &Given<'a>, name: u32) -> Meant<'a>
+    ensures { (bodies : List Body) (level : ℕ) → IsBelow given.now level → MeansName bodies given.now level name result }
+{
     match given {
         Given::Empty => Meant::Nothing,
         Given::Level(other, level, rest) => {
@@ -38,15 +45,15 @@ pub fn look_up<'a>(given: &Given<'a>, name: u32) -> Meant<'a> {
                 look_up(rest, name)
             }
         }
-        Given::Written(other, value, rest) => {
+        Given::Written(other, calls, value, rest) => {
             if *other == name {
-                Meant::Written(value, rest)
+                Meant::Written(*calls, value, rest)
             } else {
                 look_up(rest, name)
             }
         }
-        Given::Passed(arguments, outer) => match arguments.get(name as usize) {
-            Some(argument) => Meant::Written(argument, outer),
+        Given::Passed(calls, arguments, outer) => match arguments.get(name as usize) {
+            Some(argument) => Meant::Written(*calls, argument, outer),
             None => Meant::Nothing,
         },
     }

@@ -6,6 +6,8 @@
 #![tactic(auto)]
 
 pub mod given;
+#[cfg(test)]
+mod tests;
 pub mod writing;
 
 pub use writing::inline;

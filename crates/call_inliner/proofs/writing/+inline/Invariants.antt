@@ -1,6 +1,7 @@
-use Rattle.std.proofs.Common.{◌+◌, ◌*◌, ◌-◌, ◌^◌, map, All}
+use Rattle.std.proofs.Common.{◌+◌, ◌*◌, ◌-◌, ◌^◌, map, take, All}
 use Rattle.core_tree.specs.Trees.{claim_of}
 use Rattle.call_inliner.specs.CallFree.{IsCallFree}
+use Rattle.call_inliner.specs.Written.{SameClaims}
 use Rattle.call_inliner.proofs.writing.+inline.Given as goal
 
 abbrev pub decreases-written_formula : goal.decreases-written_formula
@@ -14,6 +15,12 @@ decreases-boxed l = 3 * (2 ^ 32 - l.level)
 
 abbrev pub decreases-boxed_expr : goal.decreases-boxed_expr
 decreases-boxed_expr l = 3 * (2 ^ 32 - l.level)
+
+abbrev pub decreases-written_bound : goal.decreases-written_bound
+decreases-written_bound l = 3 * (2 ^ 32 - l.level) + 1
+
+abbrev pub decreases-boxed_bound : goal.decreases-boxed_bound
+decreases-boxed_bound l = 3 * (2 ^ 32 - l.level)
 
 abbrev pub decreases-formulas : goal.decreases-formulas
 decreases-formulas l = 3 * (2 ^ 32 - l.level)
@@ -31,4 +38,7 @@ abbrev pub decreases-called_expr : goal.decreases-called_expr
 decreases-called_expr l = 3 * (2 ^ 32 - l.level) + 1
 
 abbrev pub invariant-formulas-loop-formula : goal.invariant-formulas-loop-formula
-invariant-formulas-loop-formula l = All IsCallFree (map claim_of l.all.items)
+invariant-formulas-loop-formula l = record {
+  free : All IsCallFree (map claim_of l.all.items);
+  same : SameClaims l.bodies (map claim_of l.all.items) (map claim_of (take l.formula-index l.list)) l.given l.calls;
+}
