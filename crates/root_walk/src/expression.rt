@@ -49,7 +49,7 @@ pub fn prepare(
         Tree::Block(_, items) => block(alloc, setting, state, items.as_slice()),
         Tree::Comprehension(_, _, _, _) => comprehension(alloc, setting, state, root, tree),
         Tree::Quantified(_, quantifier, _, _, _) => match quantifier {
-            Quantifier::Sum => sum(alloc, setting, state, root, tree),
+            Quantifier::Sum => sum(alloc, setting, state, tree),
             _ => quantified(alloc, setting, state, tree),
         },
         Tree::Let(_, _, _, _) => bound(alloc, setting, state, root, wants, tree),
@@ -156,7 +156,7 @@ fn comprehension(
             let bound = variables(alloc, setting, state, decls.as_slice())?;
             let formula = formula_in(alloc, setting, state, body.get())?;
             keep_locals(state, count);
-            let draft = comprehended(alloc, setting, root, bound, formula)?;
+            let draft = comprehended(alloc, root, bound, formula)?;
             Ok(Piece::Part(draft))
         }
         _ => Ok(Piece::Claim(None)),
@@ -169,7 +169,6 @@ fn sum(
     alloc: Global,
     setting: &Setting<'_>,
     state: &mut State,
-    root: &mut Root,
     tree: &Tree,
 ) -> Result<Piece, AllocError> {
     match tree {
@@ -181,7 +180,7 @@ fn sum(
             let start = first_place(body.get());
             let value = settle_sum(alloc, setting, state, inner, start, draft)?;
             keep_locals(state, count);
-            let draft = summed(alloc, setting, root, bound, value)?;
+            let draft = summed(alloc, bound, value)?;
             Ok(Piece::Part(draft))
         }
         _ => Ok(Piece::Claim(None)),
@@ -295,7 +294,7 @@ fn choice(
             let c = formula_in(alloc, setting, state, condition.get())?;
             let a = draft_in(alloc, setting, state, root, consequence.get())?;
             let b = draft_in(alloc, setting, state, root, other.get())?;
-            Ok(Piece::Part(chosen_draft(alloc, setting, root, c, a, b)?))
+            Ok(Piece::Part(chosen_draft(alloc, c, a, b)?))
         }
         _ => implication(alloc, setting, state, tree),
     }

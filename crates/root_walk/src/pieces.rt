@@ -104,39 +104,18 @@ pub fn add_variables(
     Ok(())
 }
 
-/// Marks a root in which a nested root was refused; where types alone are wanted, none was.
-fn spoil(setting: &Setting<'_>, root: &mut Root) {
-    if !setting.is_quiet {
-        root.is_spoilt = true;
-    }
-}
-
-/// The condition of an expression; where it was refused the root is spoilt.
-fn condition_of(
-    alloc: Global,
-    setting: &Setting<'_>,
-    root: &mut Root,
-    condition: Option<Formula>,
-) -> Formula {
-    match condition {
-        Some(condition) => condition,
-        None => {
-            spoil(setting, root);
-            Formula::Every(Vec::new(alloc))
-        }
-    }
-}
-
-/// `=>` with `else` between expressions.
+/// `=>` with `else` between expressions. The condition has roots of its own: where it was refused, the
+/// root is judged all the same.
 pub fn chosen_draft(
     alloc: Global,
-    setting: &Setting<'_>,
-    root: &mut Root,
     condition: Option<Formula>,
     left: Draft,
     right: Draft,
 ) -> Result<Draft, AllocError> {
-    let condition = condition_of(alloc, setting, root, condition);
+    let condition = match condition {
+        Some(condition) => condition,
+        None => Formula::Every(Vec::new(alloc)),
+    };
     let left = Box::new(alloc, left)?;
     let right = Box::new(alloc, right)?;
     Ok(Draft::Choose(condition, left, right))
@@ -235,10 +214,9 @@ pub fn quantified_formula(
     }
 }
 
-/// A comprehension; where something in it was refused the root is spoilt.
+/// A comprehension; where a bound was refused the root is spoilt, since its type is that of the bounds.
 pub fn comprehended(
     alloc: Global,
-    setting: &Setting<'_>,
     root: &mut Root,
     bound: Bound,
     body: Option<Formula>,
@@ -253,32 +231,21 @@ pub fn comprehended(
     }
     let meaning = set_meaning(columns, false);
     let Some(body) = body else {
-        spoil(setting, root);
         return Ok(Draft::Known(meaning, Expr::Empty));
     };
     let body = Box::new(alloc, body)?;
     Ok(Draft::Known(meaning, Expr::Comprehension(variables, body)))
 }
 
-/// A `sum`; where something in it was refused the root is spoilt.
-pub fn summed(
-    alloc: Global,
-    setting: &Setting<'_>,
-    root: &mut Root,
-    bound: Bound,
-    body: Option<Resolved>,
-) -> Result<Draft, AllocError> {
+/// A `sum`, which is an integer whatever was refused in it.
+pub fn summed(alloc: Global, bound: Bound, body: Option<Resolved>) -> Result<Draft, AllocError> {
     let Bound {
         variables,
         columns: _,
-        is_right,
+        is_right: _,
     } = bound;
-    if !is_right {
-        root.is_spoilt = true;
-    }
     let meaning = set_meaning(int_type(alloc)?, false);
     let Some(Resolved { tree, columns: _ }) = body else {
-        spoil(setting, root);
         return Ok(Draft::Known(meaning, Expr::Empty));
     };
     let body = Box::new(alloc, tree)?;

@@ -82,8 +82,9 @@ fn taken(
     Some((built, meaning))
 }
 
-/// The reading of a root in its place; the refusal is noted where it has none. Where it is a
-/// field's bound, the field has one column more.
+/// The reading of a root in its place; the refusal is noted where it has none. A root in which something
+/// was refused is refused itself only where it has too many readings. Where it is a field's bound, the field
+/// has one column more.
 fn settled(
     alloc: Global,
     setting: &Setting<'_>,
@@ -102,12 +103,13 @@ fn settled(
         note_at(setting, state, at, Broken::NoReading);
         return Ok(None);
     }
-    if root.is_spoilt {
-        return Ok(None);
-    }
     let draft = single(alloc, Unary::Fits(place), draft)?;
     let part = part_of(alloc, &draft)?;
-    match settle(alloc, &setting.known.typing, &draft, &part)? {
+    let outcome = settle(alloc, &setting.known.typing, &draft, &part)?;
+    if root.is_spoilt && !matches!(outcome, Settled::TooMany) {
+        return Ok(None);
+    }
+    match outcome {
         Settled::Read(reading) => {
             add_calls(setting, state, reading.calls.as_slice())?;
             Ok(taken(setting, state, at, reading, more))

@@ -1,0 +1,2 @@
+module s21_c
+open s21_b

@@ -1,0 +1,2 @@
+sig A {}
+run { no A and some A } for 2

@@ -1,0 +1,3 @@
+sig A {}
+fact f { lone A }
+run { no A and some A }

@@ -1,0 +1,2 @@
+one sig A { f: A->A->A->A->A->A->A->A->A }
+run { no f }

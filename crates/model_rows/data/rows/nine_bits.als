@@ -1,0 +1,1 @@
+run {} for 9 Int

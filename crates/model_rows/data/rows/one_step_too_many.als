@@ -1,0 +1,1 @@
+run {} for 33 steps

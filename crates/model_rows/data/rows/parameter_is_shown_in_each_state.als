@@ -1,0 +1,5 @@
+one sig T {}
+var sig On in T {}
+fact { no On always On' = T - On }
+pred p[s: some T - On] { after s = On }
+run p for 2 steps

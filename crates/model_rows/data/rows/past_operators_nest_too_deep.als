@@ -1,0 +1,2 @@
+sig A { f: set { x: A | once once once once once once once once once some A } }
+run {}

@@ -1,0 +1,2 @@
+sig A {}
+run { some s: set A | no s }

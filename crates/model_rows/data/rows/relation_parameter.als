@@ -1,0 +1,3 @@
+one sig A, B {}
+pred p[r: A -> one B] {}
+run p

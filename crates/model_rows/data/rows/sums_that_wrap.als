@@ -1,0 +1,2 @@
+run { plus[7,1] = -8 }
+check { plus[7,1] > 7 }

@@ -1,0 +1,3 @@
+pred p { q }
+pred q { p }
+run {}
