@@ -64,7 +64,10 @@ module _ (w : World) (list : List Body) (weights : List ℕ) (weighed : AreWeigh
     at_terms (suc n) (suc m) r ln lm body (Some b) is le x y same i =
         let low = low_rank b (slice_get weights body) r le in
         subst (λ o. SameTuples (InBody w (called w list n) o x i) (InBody w (called w list m) o y i)) (sym is)
-        (form_terms n m b.rank (agree_at n m b.rank (omega arith) (omega arith)) b.form (small body b is) x y same i)
+        (form_terms n m b.rank (record {
+          terms = λ other small' p q alike j. at_terms n m b.rank (omega arith) (omega arith) other (slice_get list other) refl small' p q alike j;
+          claims = λ other small' p q alike j. at_claims n m b.rank (omega arith) (omega arith) other (slice_get list other) refl small' p q alike j;
+        }) b.form (small body b is) x y same i)
 
     at_claims : (n m r : ℕ) → r ≤ n → r ≤ m → (body : ℕ) (o : Option Body) → slice_get list body ≡ o → weight_of_called o (slice_get weights body) r ≤ top → (x y : Names) → SameNames x y → (i : ℕ) → (called w list n).claim body x i ↔ (called w list m).claim body y i
     at_claims n m r ln lm body None is le x y same i = ((λ k. absurd (no_claims_there n body is x i k)), (λ k. absurd (no_claims_there m body is y i k)))
@@ -73,13 +76,16 @@ module _ (w : World) (list : List Body) (weights : List ℕ) (weighed : AreWeigh
     at_claims (suc n) (suc m) r ln lm body (Some b) is le x y same i =
         let low = low_rank b (slice_get weights body) r le in
         subst (λ o. BodyHolds w (called w list n) o x i ↔ BodyHolds w (called w list m) o y i) (sym is)
-        (form_claims n m b.rank (agree_at n m b.rank (omega arith) (omega arith)) b.form (small body b is) x y same i)
+        (form_claims n m b.rank (record {
+          terms = λ other small' p q alike j. at_terms n m b.rank (omega arith) (omega arith) other (slice_get list other) refl small' p q alike j;
+          claims = λ other small' p q alike j. at_claims n m b.rank (omega arith) (omega arith) other (slice_get list other) refl small' p q alike j;
+        }) b.form (small body b is) x y same i)
 
-    agree_at : (n m r : ℕ) → r ≤ n → r ≤ m → AgreeBelow r n m
-    agree_at n m r ln lm = record {
-      terms = λ body le x y same i. at_terms n m r ln lm body (slice_get list body) refl le x y same i;
-      claims = λ body le x y same i. at_claims n m r ln lm body (slice_get list body) refl le x y same i;
-    }
+  agree_at : (n m r : ℕ) → r ≤ n → r ≤ m → AgreeBelow r n m
+  agree_at n m r ln lm = record {
+    terms = λ body le x y same i. at_terms n m r ln lm body (slice_get list body) refl le x y same i;
+    claims = λ body le x y same i. at_claims n m r ln lm body (slice_get list body) refl le x y same i;
+  }
 
   -- a call of a function means its body
   pub call_terms : (body : ℕ) (b : Body) → slice_get list body ≡ Some b → (x y : Names) → SameNames x y → (i : ℕ) → SameTuples (InForm w (bodies_of w list) b.form x i) ((bodies_of w list).term body y i)
@@ -100,6 +106,21 @@ module _ (w : World) (list : List Body) (weights : List ℕ) (weighed : AreWeigh
       go (suc n) low =
           subst (λ o. FormHolds w (called w list (suc n)) b.form x i ↔ BodyHolds w (called w list n) o y i) (sym is)
           (form_claims (suc n) n b.rank (agree_at (suc n) n b.rank (omega arith) (omega arith)) b.form (small body b is) x y same i)
+
+  -- the same whether or not there is such a body
+  pub called_terms : (body : ℕ) (x y : Names) → SameNames x y → (i : ℕ) → SameTuples (InBody w (bodies_of w list) (slice_get list body) x i) ((bodies_of w list).term body y i)
+  called_terms body x y same i = go (slice_get list body) refl
+    where
+      go : (o : Option Body) → slice_get list body ≡ o → SameTuples (InBody w (bodies_of w list) (slice_get list body) x i) ((bodies_of w list).term body y i)
+      go (Some b) is = subst (λ o. SameTuples (InBody w (bodies_of w list) o x i) ((bodies_of w list).term body y i)) (sym is) (call_terms body b is x y same i)
+      go None is = λ t. ((λ k. absurd (subst (λ o. InBody w (bodies_of w list) o x i t) is k)), (λ k. absurd (no_terms_there (length list) body is y i t k)))
+
+  pub called_claims : (body : ℕ) (x y : Names) → SameNames x y → (i : ℕ) → BodyHolds w (bodies_of w list) (slice_get list body) x i ↔ (bodies_of w list).claim body y i
+  called_claims body x y same i = go (slice_get list body) refl
+    where
+      go : (o : Option Body) → slice_get list body ≡ o → BodyHolds w (bodies_of w list) (slice_get list body) x i ↔ (bodies_of w list).claim body y i
+      go (Some b) is = subst (λ o. BodyHolds w (bodies_of w list) o x i ↔ (bodies_of w list).claim body y i) (sym is) (call_claims body b is x y same i)
+      go None is = ((λ k. absurd (subst (λ o. BodyHolds w (bodies_of w list) o x i) is k)), (λ k. absurd (no_claims_there (length list) body is y i k)))
 
 -- the parameters from number k on stand for expressions with these outer names; `inner` are the
 -- names of the parameters before them
@@ -148,4 +169,6 @@ module _ (w : World) (bodies : Bodies) (outer : Names) where
 
   -- the names that a body sees are those that the arguments pass
   pub entered_is : (es : Terms) → SameNames (entered w bodies 0 es outer no_names) (passed w bodies es outer)
-  entered_is es y i = from_is es 0 no_names (λ z j t le x. x) y i (omega arith)
+  entered_is es y i =
+      let e : y - 0 ≡ y = omega arith in
+      subst (λ z. SameTuples (entered w bodies 0 es outer no_names y i) (passed w bodies es outer z i)) e (from_is es 0 no_names (λ z j t le x. x) y i (omega arith))

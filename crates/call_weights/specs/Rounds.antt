@@ -18,7 +18,7 @@ use Rattle.call_weights.specs.Weight.{most, both, on_one, on_two, weight_in, wei
 use Rattle.call_weights.specs.Congruent.{both_below, both_left, both_right, on_one_below, on_two_below}
 use Rattle.call_weights.specs.Calls.{top, top_few, below_top}
 
-max_to : (a b c : ℕ) → a ≤ c → b ≤ c → max a b ≤ c
+pub max_to : (a b c : ℕ) → a ≤ c → b ≤ c → max a b ≤ c
 max_to a b c x y = grind (arith)
 
 -- the greater of two numbers that are too great by at most n is too great by at most n
@@ -62,9 +62,9 @@ binary_below Then a h k n le few small = small
 abbrev pub AreWithin : Depths → ℕ → Type 0
 AreWithin d n = (x : ℕ) → d x ≤ n
 
-one_within : (b : Bool) (a c n : ℕ) → a ≤ n → c ≤ n → (if b then a else c) ≤ n
-one_within true a c n x y = x
-one_within false a c n x y = y
+pub one_within : (b : Bool) (a c n : ℕ) → a ≤ n → c ≤ n → (if b then a else c) ≤ n
+pub one_within true a c n x y = x
+pub one_within false a c n x y = y
 
 with_within : (d : Depths) (x k n : ℕ) → AreWithin d n → k ≤ n → AreWithin (with_depth d x k) n
 with_within d x k n all le y = one_within (eqb y x) k (d y) n le (all y)
@@ -81,7 +81,7 @@ module _ (calls : ℕ → ℕ) (depths : BodyDepths) (h : ℕ) (few : h < most) 
       pub term_below : (e : Term) → weight_in calls e ≤ h → (d : Depths) (n : ℕ) → AreWithin d n → past_in depths e d ≤ weight_in calls e + n
       term_below (sig s) le d n all = omega arith
       term_below (field f) le d n all = omega arith
-      term_below (name x) le d n all = all x
+      term_below (name x) le d n all = let small = all x in omega arith
       term_below univ le d n all = omega arith
       term_below iden le d n all = omega arith
       term_below empty le d n all = omega arith

@@ -1,6 +1,6 @@
 // The weight of a tree: how many past operators it nests at most.
 
-ghost use Rattle.std.specs.Prelude.{◌≡◌, map, max};
+ghost use Rattle.std.specs.Prelude.{◌≡◌, map};
 ghost use Rattle.core_tree.specs.Trees.{term_of, claim_of, variable_of, term_list, claim_list, variable_list};
 ghost use Rattle.call_weights.specs.Weight.{both, on_one, on_two, calls_below, weight_in, weight_of, weight_of_terms, weight_of_bounds, weight_of_each, weight_of_form};
 
@@ -78,19 +78,27 @@ pub fn of_expr(bodies: &BodyList, weights: &[u32], rank: u32, expr: &Expr) -> u3
         Expr::Iden => 0,
         Expr::Empty => 0,
         Expr::Int => 0,
-        Expr::Combine(_, a, b) => exprs(bodies, weights, rank, a, b),
-        Expr::Product(a, _, _, b) => exprs(bodies, weights, rank, a, b),
+        Expr::Combine(_, a, b) => of_expr(bodies, weights, rank, a).max(of_expr(
+            bodies, weights, rank, b,
+        )),
+        Expr::Product(a, _, _, b) => of_expr(bodies, weights, rank, a).max(of_expr(
+            bodies, weights, rank, b,
+        )),
         Expr::Unary(_, a) => of_expr(bodies, weights, rank, a),
         Expr::Prime(a) => of_expr(bodies, weights, rank, a),
         Expr::Choose(f, a, b) => {
-            of_formula(bodies, weights, rank, f).max(exprs(bodies, weights, rank, a, b))
+            of_formula(bodies, weights, rank, f).max(of_expr(bodies, weights, rank, a).max(of_expr(
+                bodies, weights, rank, b,
+            )))
         }
         Expr::Comprehension(variables, f) => {
             of_bounds(bodies, weights, rank, variables).max(of_formula(bodies, weights, rank, f))
         }
         Expr::Number(_, _) => 0,
         Expr::Count(a) => of_expr(bodies, weights, rank, a),
-        Expr::Arithmetic(_, a, b) => exprs(bodies, weights, rank, a, b),
+        Expr::Arithmetic(_, a, b) => of_expr(bodies, weights, rank, a).max(of_expr(
+            bodies, weights, rank, b,
+        )),
         Expr::Sum(variables, a) => {
             of_bounds(bodies, weights, rank, variables).max(of_expr(bodies, weights, rank, a))
         }
@@ -105,38 +113,30 @@ pub fn of_expr(bodies: &BodyList, weights: &[u32], rank: u32, expr: &Expr) -> u3
     }
 }
 
-/// The greater weight of two expressions.
-#[cycle(weigh)]
-fn exprs(bodies: &BodyList, weights: &[u32], rank: u32, a: &Expr, b: &Expr) -> u32
-    ensures { result ≡ max (weight_in (calls_below bodies.now weights.now rank) (term_of a.now)) (weight_in (calls_below bodies.now weights.now rank) (term_of b.now)) }
-{
-    of_expr(bodies, weights, rank, a).max(of_expr(bodies, weights, rank, b))
-}
-
 /// The greatest weight of some expressions.
 #[cycle(weigh)]
+#[tactic(auto, using(crate::proofs::Weighed::terms_more, crate::proofs::Weighed::terms_all))]
 fn of_terms(bodies: &BodyList, weights: &[u32], rank: u32, list: &[Expr]) -> u32
     ensures { result ≡ weight_of_terms (calls_below bodies.now weights.now rank) (term_list (map term_of list.now)) }
 {
-    match list.split_first() {
-        None => 0,
-        Some((first, rest)) => {
-            of_expr(bodies, weights, rank, first).max(of_terms(bodies, weights, rank, rest))
-        }
+    let mut weight = 0;
+    for expr in list {
+        weight = of_expr(bodies, weights, rank, expr).max(weight);
     }
+    weight
 }
 
 /// The greatest weight of the bounds of some variables.
 #[cycle(weigh)]
+#[tactic(auto, using(crate::proofs::Weighed::bounds_more, crate::proofs::Weighed::bounds_all))]
 fn of_bounds(bodies: &BodyList, weights: &[u32], rank: u32, list: &[Variable]) -> u32
     ensures { result ≡ weight_of_bounds (calls_below bodies.now weights.now rank) (variable_list (map variable_of list.now)) }
 {
-    match list.split_first() {
-        None => 0,
-        Some((first, rest)) => of_expr(bodies, weights, rank, &first.bound).max(of_bounds(
-            bodies, weights, rank, rest,
-        )),
+    let mut weight = 0;
+    for variable in list {
+        weight = of_expr(bodies, weights, rank, &variable.bound).max(weight);
     }
+    weight
 }
 
 /// The weight of a formula, in which bodies below a rank may be called.
@@ -145,16 +145,28 @@ pub fn of_formula(bodies: &BodyList, weights: &[u32], rank: u32, formula: &Formu
     ensures { result ≡ weight_of (calls_below bodies.now weights.now rank) (claim_of formula.now) }
 {
     match formula {
-        Formula::Inside(a, b) => exprs(bodies, weights, rank, a, b),
-        Formula::Equal(a, b) => exprs(bodies, weights, rank, a, b),
-        Formula::Within(a, _, b) => exprs(bodies, weights, rank, a, b),
+        Formula::Inside(a, b) => of_expr(bodies, weights, rank, a).max(of_expr(
+            bodies, weights, rank, b,
+        )),
+        Formula::Equal(a, b) => of_expr(bodies, weights, rank, a).max(of_expr(
+            bodies, weights, rank, b,
+        )),
+        Formula::Within(a, _, b) => of_expr(bodies, weights, rank, a).max(of_expr(
+            bodies, weights, rank, b,
+        )),
         Formula::Test(_, a) => of_expr(bodies, weights, rank, a),
-        Formula::Compare(_, a, b) => exprs(bodies, weights, rank, a, b),
+        Formula::Compare(_, a, b) => of_expr(bodies, weights, rank, a).max(of_expr(
+            bodies, weights, rank, b,
+        )),
         Formula::Not(f) => of_formula(bodies, weights, rank, f),
         Formula::Every(list) => of_formulas(bodies, weights, rank, list),
-        Formula::Connect(_, f, g) => formulas(bodies, weights, rank, f, g),
+        Formula::Connect(_, f, g) => of_formula(bodies, weights, rank, f).max(of_formula(
+            bodies, weights, rank, g,
+        )),
         Formula::Choose(f, g, h) => {
-            of_formula(bodies, weights, rank, f).max(formulas(bodies, weights, rank, g, h))
+            of_formula(bodies, weights, rank, f).max(of_formula(bodies, weights, rank, g).max(
+                of_formula(bodies, weights, rank, h),
+            ))
         }
         Formula::ForAll(variables, f) => {
             of_bounds(bodies, weights, rank, variables).max(of_formula(bodies, weights, rank, f))
@@ -164,7 +176,10 @@ pub fn of_formula(bodies: &BodyList, weights: &[u32], rank: u32, formula: &Formu
         }
         Formula::Temporal(op, f) => under_unary(*op, of_formula(bodies, weights, rank, f)),
         Formula::TemporalPair(op, f, g) => {
-            under_binary(*op, formulas(bodies, weights, rank, f, g))
+            under_binary(
+                *op,
+                of_formula(bodies, weights, rank, f).max(of_formula(bodies, weights, rank, g)),
+            )
         }
         Formula::Let(_, e, f) => sum(
             of_formula(bodies, weights, rank, f),
@@ -177,25 +192,17 @@ pub fn of_formula(bodies: &BodyList, weights: &[u32], rank: u32, formula: &Formu
     }
 }
 
-/// The greater weight of two formulas.
-#[cycle(weigh)]
-fn formulas(bodies: &BodyList, weights: &[u32], rank: u32, f: &Formula, g: &Formula) -> u32
-    ensures { result ≡ max (weight_of (calls_below bodies.now weights.now rank) (claim_of f.now)) (weight_of (calls_below bodies.now weights.now rank) (claim_of g.now)) }
-{
-    of_formula(bodies, weights, rank, f).max(of_formula(bodies, weights, rank, g))
-}
-
 /// The greatest weight of some formulas.
 #[cycle(weigh)]
+#[tactic(auto, using(crate::proofs::Weighed::claims_more, crate::proofs::Weighed::claims_all))]
 fn of_formulas(bodies: &BodyList, weights: &[u32], rank: u32, list: &[Formula]) -> u32
     ensures { result ≡ weight_of_each (calls_below bodies.now weights.now rank) (claim_list (map claim_of list.now)) }
 {
-    match list.split_first() {
-        None => 0,
-        Some((first, rest)) => {
-            of_formula(bodies, weights, rank, first).max(of_formulas(bodies, weights, rank, rest))
-        }
+    let mut weight = 0;
+    for formula in list {
+        weight = of_formula(bodies, weights, rank, formula).max(weight);
     }
+    weight
 }
 
 /// The weight of a body.

@@ -1,15 +1,12 @@
 // What formulas are judged by.
 
 use crate::steps::Fault;
-use crate::weight::{MOST, Scale, of_body, of_expr, of_formula};
+use call_weights::{MANY, MOST, of_expr, of_formula, weigh};
 use core_meaning::{Lasso, Scope, Scopes};
-use core_tree::{BodyList, Expr, Formula, Model};
+use core_tree::{Expr, Formula, Model};
 use evaluation_setting::Setting;
 use evaluation_setting::setting::atom_count;
 use std::alloc::{AllocError, Global};
-
-/// More past operators than this are never nested.
-const MANY: u32 = 1_048_576;
 
 /// A model with its scopes and a lasso, and a weight for each body: how many past operators it nests
 /// at most.
@@ -17,70 +14,6 @@ const MANY: u32 = 1_048_576;
 pub struct Judge<'a> {
     pub setting: Setting<'a>,
     weights: Vec<u32>,
-}
-
-/// A body's rank and its number.
-#[derive(Clone, Copy, Debug, PartialEq, Eq, PartialOrd, Ord)]
-struct Ranked {
-    rank: u32,
-    body: usize,
-}
-
-/// The bodies, those of lower rank first.
-fn by_rank(alloc: Global, bodies: &BodyList) -> Result<Vec<Ranked>, AllocError> {
-    let mut all: Vec<Ranked> = Vec::new(alloc);
-    for body in 0..bodies.len() {
-        all.push(Ranked {
-            rank: bodies.get(body).rank,
-            body,
-        })?;
-    }
-    all.sort()?;
-    Ok(all)
-}
-
-/// The weight of a body, where it calls only bodies of lower rank; else the greatest.
-fn weight_of(bodies: &BodyList, weights: &[u32], body: usize) -> u32 {
-    if body >= bodies.len() {
-        return MOST;
-    }
-    let body = bodies.get(body);
-    let scale = Scale {
-        bodies,
-        weights,
-        rank: body.rank,
-    };
-    of_body(&scale, body)
-}
-
-/// A weight for each body, from the lowest rank on.
-fn weights_of(alloc: Global, bodies: &BodyList) -> Result<Vec<u32>, AllocError> {
-    let mut weights: Vec<u32> = vec![in alloc; 0; bodies.len()]?;
-    for ranked in by_rank(alloc, bodies)? {
-        let weight = weight_of(bodies, &weights, ranked.body);
-        if ranked.body < weights.len() {
-            weights[ranked.body] = weight;
-        }
-    }
-    Ok(weights)
-}
-
-/// Whether each body has its weight, calls only bodies of lower rank, and has a rank below the
-/// number of bodies.
-fn are_weighed(bodies: &BodyList, weights: &[u32]) -> bool {
-    if weights.len() != bodies.len() {
-        return false;
-    }
-    for body in 0..bodies.len() {
-        let weight = weight_of(bodies, weights, body);
-        if weight >= MANY
-            || weights[body] != weight
-            || bodies.get(body).rank as usize >= bodies.len()
-        {
-            return false;
-        }
-    }
-    true
 }
 
 /// What formulas of a model are judged by on a lasso. There is no answer where memory is wanting, or
@@ -91,10 +24,9 @@ pub fn judge_of<'a>(
     scopes: &'a Scopes,
     lasso: &'a Lasso,
 ) -> Result<Judge<'a>, Fault> {
-    let weights = weights_of(alloc, &model.bodies)?;
-    if !are_weighed(&model.bodies, &weights) {
-        return Err(AllocError);
-    }
+    let Some(weights) = weigh(alloc, &model.bodies)? else {
+        return Err(AllocError)
+    };
     Ok(Judge {
         setting: Setting {
             alloc,
@@ -106,15 +38,6 @@ pub fn judge_of<'a>(
         },
         weights,
     })
-}
-
-/// What trees of the model are weighed by.
-fn scale_of<'b>(judge: &'b Judge<'_>) -> Scale<'b> {
-    Scale {
-        bodies: &judge.setting.model.bodies,
-        weights: &judge.weights,
-        rank: MOST,
-    }
 }
 
 /// From how many rounds of the loop on the names of a scope stand for the same in each round.
@@ -131,7 +54,7 @@ fn scope_rounds(judge: &Judge, scope: &Scope) -> u32 {
 
 /// The same for an expression, where names repeat from so many rounds on.
 pub fn expr_rounds(judge: &Judge, expr: &Expr, names: u32) -> u32 {
-    match of_expr(&scale_of(judge), expr).checked_add(names) {
+    match of_expr(&judge.setting.model.bodies, &judge.weights, MOST, expr).checked_add(names) {
         Some(rounds) => rounds,
         None => MOST,
     }
@@ -139,7 +62,9 @@ pub fn expr_rounds(judge: &Judge, expr: &Expr, names: u32) -> u32 {
 
 /// From how many rounds of the loop on a formula has the same truth in each round.
 pub fn rounds(judge: &Judge, formula: &Formula, scope: &Scope) -> u32 {
-    match of_formula(&scale_of(judge), formula).checked_add(scope_rounds(judge, scope)) {
+    match of_formula(&judge.setting.model.bodies, &judge.weights, MOST, formula).checked_add(
+        scope_rounds(judge, scope),
+    ) {
         Some(rounds) => rounds,
         None => MOST,
     }

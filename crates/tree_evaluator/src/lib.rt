@@ -8,7 +8,6 @@ pub mod parts;
 pub mod rows;
 pub mod steps;
 pub mod walk;
-pub mod weight;
 
 pub use held::{Held, owned, set_of};
 pub use judge::{Judge, expr_rounds, folded, judge_of, repeats_end, rounds};
