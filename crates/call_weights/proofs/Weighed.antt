@@ -1,6 +1,9 @@
 -- The weight of trees over lists, by the items of the lists.
-use Rattle.std.proofs.Common.{◌≡◌, ℕ, zero, suc, ◌+◌, ◌<◌, ◌≤◌, List, [], ◌∷◌, ◌++◌, map, take, length, get_or, max, refl, sym, ap, ◌∙◌, subst, arith, Vec, Box, Global}
+use Rattle.std.proofs.Common.{◌≡◌, ℕ, zero, suc, ◌+◌, ◌<◌, ◌≤◌, List, [], ◌∷◌, ◌++◌, map, take, length, get_or, max, refl, sym, ap, ◌∙◌, subst, arith, inl, inr, Some, slice_get, Vec, Box, Global}
 use Rattle.std.proofs.lemmas.List.{take_more, map-append}
+use Rattle.std.proofs.lemmas.Bool.{cases_lt}
+use Rattle.std.proofs.lemmas.Option.{slice_get_within}
+use Rattle.core_tree.specs.declared.model.Body.{Body}
 use Rattle.std.proofs.Math.Nat.{le-max_left, le-max_right}
 use Rattle.core_tree.specs.declared.operators.Quantity.{Quantity}
 use Rattle.core_tree.specs.declared.tree.Variable.{Variable}
@@ -8,7 +11,7 @@ use Rattle.core_tree.specs.declared.tree.Formula.{Formula, Every, ForAll, Counte
 use Rattle.core_tree.specs.declared.tree.Expr.{Expr, Comprehension, Sum, Call as CallExpr}
 use Rattle.core_tree.specs.Trees.{Term, Claim, Binder, term_of, claim_of, variable_of, term_list, variable_list, claim_list}
 use Rattle.core_tree.specs.Rows.{every_is, for_all_is, counted_is, call_claim_is, comprehension_is, sum_over_is, call_term_is}
-use Rattle.call_weights.specs.Weight.{both, weight_in, weight_of, weight_of_terms, weight_of_bounds, weight_of_each}
+use Rattle.call_weights.specs.Weight.{both, weight_in, weight_of, weight_of_terms, weight_of_bounds, weight_of_each, IsWeighed, AreWeighed}
 use Rattle.call_weights.specs.Rounds.{max_to}
 
 half : (a b c : ℕ) → max a (max b c) ≤ max b (max a c)
@@ -88,3 +91,13 @@ module _ (calls : ℕ → ℕ) where
 
       pub call_claim_weight : r ≡ weight_of calls (claim_of (CallFormula body v))
       call_claim_weight = call_both ∙ ap (weight_of calls) (sym (call_claim_is body v))
+
+-- the bodies before a place have their weights
+pub front_more : (list : List Body) (weights : List ℕ) (n : ℕ) → ((k : ℕ) (b : Body) → k < n → slice_get list k ≡ Some b → IsWeighed list weights k b) → ((b : Body) → slice_get list n ≡ Some b → IsWeighed list weights n b) → (k : ℕ) (b : Body) → k < n + 1 → slice_get list k ≡ Some b → IsWeighed list weights k b
+front_more list weights n before here k b lt at = elim (cases_lt k n) [
+  | inl sooner ↦ before k b sooner at
+  | inr last ↦ let e : n ≡ k = omega arith in subst (λ j. IsWeighed list weights j b) e (here b (subst (λ j. slice_get list j ≡ Some b) (sym e) at))
+]
+
+pub front_all : (list : List Body) (weights : List ℕ) (n : ℕ) → length list ≤ n → ((k : ℕ) (b : Body) → k < n → slice_get list k ≡ Some b → IsWeighed list weights k b) → AreWeighed list weights
+front_all list weights n high before k b at = before k b (let within = slice_get_within list k b at in omega arith) at

@@ -1,20 +1,20 @@
 -- A call means its body: where each body calls only bodies of lower rank, calls that may nest deeper
 -- than the ranks go change nothing. The names that a body sees, one added after the other, are those
 -- that the arguments pass.
-use Rattle.std.specs.Prelude.{◌≡◌, ◌↔◌, ◌<◌, ◌≤◌, ℕ, zero, suc, ◌+◌, ◌-◌, ◌^◌, List, length, Bool, true, false, eqb, nat_lt, Option, Some, None, slice_get}
-use Rattle.std.proofs.Common.{arith, sym, subst, inl, inr, refl, ap}
+use Rattle.std.specs.Prelude.{◌≡◌, ◌↔◌, ◌<◌, ◌≤◌, ℕ, zero, suc, ◌+◌, ◌-◌, ◌^◌, List, length, Bool, true, false, eqb, Option, Some, None, slice_get}
+use Rattle.std.proofs.Common.{arith, sym, subst, inl, inr, refl}
 use Rattle.std.proofs.lemmas.Bool.{cases_lt, cond_above, eq-eqb, ne_eqb}
 use Rattle.core_tree.specs.declared.model.Body.{Body}
 use Rattle.core_tree.specs.declared.model.BodyForm.{BodyForm}
 use Rattle.core_tree.specs.declared.model.BodyForm.TheVariants.{Test, Term as Value}
-use Rattle.core_tree.specs.Trees.{Term, Terms, Claim, no_terms, more_terms, term_of, claim_of}
+use Rattle.core_tree.specs.Trees.{Terms, no_terms, more_terms, term_of, claim_of}
 use Rattle.core_meaning.specs.World.{World}
 use Rattle.core_meaning.specs.Operators.{Tuples}
-use Rattle.core_meaning.specs.Meaning.{Names, Bodies, one_of, no_names, with_name, atom, InTerm, passed, Holds}
-use Rattle.core_meaning.specs.Called.{no_bodies, InForm, FormHolds, InBody, BodyHolds, called, bodies_of}
+use Rattle.core_meaning.specs.Meaning.{Names, Bodies, one_of, no_names, with_name, InTerm, passed}
+use Rattle.core_meaning.specs.Called.{InForm, FormHolds, InBody, BodyHolds, called, bodies_of}
 use Rattle.past_window.specs.Same.{SameTuples, same_trans, turn}
-use Rattle.call_weights.specs.Weight.{most, weight_in, weight_of, weight_of_terms, weight_of_form, weight_of_called, calls_below, IsWeighed, AreWeighed}
-use Rattle.call_weights.specs.Congruent.{self, SameNames, Agree, term_same, claim_same, passed_same}
+use Rattle.call_weights.specs.Weight.{most, weight_of_form, weight_of_called, calls_below, AreWeighed}
+use Rattle.call_weights.specs.Congruent.{self, SameNames, Agree, term_same, claim_same}
 
 -- the greatest weight that says something
 abbrev pub top : ℕ

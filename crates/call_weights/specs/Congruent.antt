@@ -1,5 +1,5 @@
 -- Names that stand for the same give the same meaning, and so do called bodies that mean the same.
-use Rattle.std.specs.Prelude.{◌↔◌, ◌⊎◌, ◌<◌, ◌≤◌, ℕ, ◌+◌, ◌-◌, List, [], ◌∷◌, ◌++◌, Bool, true, false, eqb, max, nat_lt, ℤ}
+use Rattle.std.specs.Prelude.{◌↔◌, ◌<◌, ◌≤◌, ℕ, ◌+◌, ◌-◌, List, [], ◌∷◌, ◌++◌, Bool, true, false, eqb, max, ℤ}
 use Rattle.std.proofs.Common.{arith, sym, subst, inl, inr, refl}
 use Rattle.std.proofs.lemmas.Bool.{cases_lt, cond_below, cond_above}
 use Rattle.core_tree.specs.declared.operators.TemporalUnary.{TemporalUnary}
@@ -10,7 +10,7 @@ use Rattle.core_tree.specs.Trees.{Term, Terms, Variables, Claim, Claims, sig, fi
 use Rattle.core_meaning.specs.World.{World}
 use Rattle.core_meaning.specs.Operators.{Tuples, Times, IsNumber, UntilAt, SinceAt, Happens, HappenBoth}
 use Rattle.core_meaning.specs.Meaning.{Names, Bodies, one_of, with_name, atom, InTerm, passed, Picked, ForEach, Fits, Holds, HoldEach}
-use Rattle.past_window.specs.Same.{SameTuples, both_same, either_same, not_same, combined_same, product_same, identity_same, unary_same, inside_same, equal_same, quantity_same, multiplicity_same, quantified_same, count_same, number_same, sum_same, compare_same, connects_same, chooses_same}
+use Rattle.past_window.specs.Same.{SameTuples, both_same, either_same, not_same, combined_same, product_same, unary_same, inside_same, equal_same, quantity_same, multiplicity_same, quantified_same, count_same, number_same, sum_same, compare_same, connects_same, chooses_same}
 use Rattle.past_window.specs.Shifts.{max-le_left, max-le_right}
 use Rattle.call_weights.specs.Weight.{most, both, on_one, on_two, weight_in, weight_of_terms, weight_of_bounds, weight_of, weight_of_each}
 

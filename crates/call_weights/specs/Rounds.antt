@@ -1,7 +1,7 @@
 -- From how many rounds of the loop on a formula has the same truth in each round: no more than it
 -- weighs and its names need.
-use Rattle.std.specs.Prelude.{◌≡◌, ◌↔◌, ◌<◌, ◌≤◌, ℕ, zero, suc, ◌+◌, ◌-◌, ◌*◌, ◌^◌, List, length, max, Bool, true, false, eqb, nat_lt, if◌then◌else◌, Option, Some, None, slice_get}
-use Rattle.std.proofs.Common.{arith, sym, subst, inl, inr, refl, ap}
+use Rattle.std.specs.Prelude.{◌≡◌, ◌<◌, ◌≤◌, ℕ, zero, suc, ◌+◌, ◌-◌, List, length, max, Bool, true, false, eqb, if◌then◌else◌, Option, Some, None, slice_get}
+use Rattle.std.proofs.Common.{arith, sym, subst, inl, inr, refl}
 use Rattle.std.proofs.lemmas.Bool.{cases_lt, cond_below, cond_above}
 use Rattle.std.proofs.Math.Nat.{le-max_left, le-max_right}
 use Rattle.core_tree.specs.declared.operators.TemporalUnary.{TemporalUnary}
@@ -15,7 +15,7 @@ use Rattle.core_tree.specs.Trees.{Term, Terms, Variables, Claim, Claims, sig, fi
 use Rattle.core_tree.specs.Past.{Depths, BodyDepths, with_depth, one_more, under_unary, under_binary, past_in, past_under, past_of_arguments, past_of, past_of_each, past_of_form, past_of_body, called_depths, body_depths}
 use Rattle.past_window.specs.Shifts.{max-le_left, max-le_right, le_trans}
 use Rattle.call_weights.specs.Weight.{most, both, on_one, on_two, weight_in, weight_of_terms, weight_of_bounds, weight_of, weight_of_each, weight_of_form, weight_of_called, calls_below, AreWeighed}
-use Rattle.call_weights.specs.Congruent.{both_below, both_left, both_right, on_one_below, on_two_below}
+use Rattle.call_weights.specs.Congruent.{both_left, both_right, on_one_below, on_two_below}
 use Rattle.call_weights.specs.Calls.{top, top_few, below_top}
 
 pub max_to : (a b c : ℕ) → a ≤ c → b ≤ c → max a b ≤ c
@@ -63,8 +63,8 @@ abbrev pub AreWithin : Depths → ℕ → Type 0
 AreWithin d n = (x : ℕ) → d x ≤ n
 
 pub one_within : (b : Bool) (a c n : ℕ) → a ≤ n → c ≤ n → (if b then a else c) ≤ n
-pub one_within true a c n x y = x
-pub one_within false a c n x y = y
+one_within true a c n x y = x
+one_within false a c n x y = y
 
 with_within : (d : Depths) (x k n : ℕ) → AreWithin d n → k ≤ n → AreWithin (with_depth d x k) n
 with_within d x k n all le y = one_within (eqb y x) k (d y) n le (all y)

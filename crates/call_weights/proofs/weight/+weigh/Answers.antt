@@ -1,4 +1,3 @@
-use Rattle.std.proofs.Common.{map}
 use Rattle.call_weights.specs.Weight.{calls_below}
 use Rattle.call_weights.proofs.Weighed.{every_weight, for_all_weight, counted_weight, comprehension_weight, sum_weight, call_term_weight, call_claim_weight}
 use Rattle.call_weights.proofs.weight.+weigh.Goals as goal
