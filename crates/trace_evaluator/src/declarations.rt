@@ -1,84 +1,90 @@
-// Whether the declarations of a model hold at a position.
+// Whether the declarations of a model hold.
 
-use core_meaning::Scope;
-use core_tree::{Bound, Column, Field, FieldBound, Formula, Sig, SigKind};
-use evaluation_setting::setting::{field_relation, relation};
-use set_operators::{first_at, has_multiplicity, rows_after, tail};
-use tree_evaluator::{DEEP, Fault, Judge, expr_rounds, holds_in, is_within, rounds};
-use tuple_sets::{Tuple, TupleSet, inside};
+use crate::fields::{bound_rounds, field_holds};
+use core_meaning::{Lasso, Scope, Scopes};
+use core_tree::{Column, Formula, Model, RelationOp, Sig, SigKind};
+use std::alloc::{AllocError, Global};
+use tree_evaluator::parts::{allows, combined, integers_at, is_inside, nothing};
+use tree_evaluator::{
+    DEEP, Held, Judge, atom_at, claim_repeats, holds_in, judge_of, relation_at, set_of,
+};
+use tuple_sets::TupleSet;
 
-/// A sig and its parent.
-#[derive(Clone, Copy, Debug, PartialEq, Eq, PartialOrd, Ord)]
-pub struct Child {
-    pub parent: u32,
-    pub sig: usize,
+/// The members of a parent at a position.
+fn column_at<'a>(judge: &Judge<'a>, column: Column, position: u64) -> Result<Held<'a>, AllocError> {
+    match column {
+        Column::Sig(sig) => Ok(relation_at(judge, sig as usize, position)),
+        Column::Int => integers_at(judge),
+    }
 }
 
-/// The sigs that extend another, by their parents.
-pub fn children(judge: &Judge) -> Result<Vec<Child>, Fault> {
-    let mut all: Vec<Child> = Vec::new(judge.setting.alloc);
-    for place in 0..judge.setting.model.sigs.len() {
-        if let SigKind::Extends(parent) = &judge.setting.model.sigs.get(place).kind {
-            all.push(Child {
-                parent: *parent,
-                sig: place,
-            })?;
+/// The members of some parents at a position.
+fn columns_at<'a>(
+    judge: &Judge<'a>,
+    columns: &[Column],
+    position: u64,
+) -> Result<Held<'a>, AllocError> {
+    match columns.split_first() {
+        None => Ok(nothing(judge)),
+        Some((first, rest)) => {
+            let here = column_at(judge, *first, position)?;
+            let others = columns_at(judge, rest, position)?;
+            combined(judge, RelationOp::Union, &here, &others)
         }
     }
-    all.sort()?;
-    Ok(all)
 }
 
-/// Whether the declarations hold at a position; `children` are the sigs that extend another.
-pub fn declared_at(judge: &Judge, children: &[Child], position: u64) -> Result<bool, Fault> {
-    for place in 0..judge.setting.model.sigs.len() {
-        if !sig_holds(judge, place, position)? {
-            return Ok(false);
+/// Whether a sig's set lies inside its parent, or inside the union of its parents.
+fn is_placed(judge: &Judge, kind: &SigKind, set: &Held, position: u64) -> Result<bool, AllocError> {
+    match kind {
+        SigKind::Top => Ok(true),
+        SigKind::Extends(parent) => {
+            let above = relation_at(judge, *parent as usize, position);
+            Ok(is_inside(set, &above))
+        }
+        SigKind::Subset(parents) => {
+            let above = columns_at(judge, parents.as_slice(), position)?;
+            Ok(is_inside(set, &above))
         }
     }
-    if !children_hold(judge, children, position)? {
-        return Ok(false);
-    }
-    for place in 0..judge.setting.model.fields.len() {
-        if !field_holds(judge, place, position)? {
-            return Ok(false);
-        }
-    }
-    Ok(true)
 }
 
-/// From how many rounds of the loop on the declarations have the same truth in each round.
-pub fn declaration_rounds(judge: &Judge) -> u32 {
-    let mut most: u32 = 0;
-    for sig in judge.setting.model.sigs.as_slice() {
-        if let Some(fact) = &sig.appended {
-            most = most.max(rounds(judge, fact, &Scope::Empty));
-        }
+/// Whether a sig is a child of another.
+fn is_child(sig: &Sig, parent: usize) -> bool {
+    match &sig.kind {
+        SigKind::Extends(other) => *other as usize == parent,
+        _ => false,
     }
-    for field in judge.setting.model.fields.as_slice() {
-        if let Some(declared) = &field.declared {
-            most = most.max(expr_rounds(judge, &declared.bound.expr, 0));
-        }
-    }
-    most
 }
 
-/// Whether a sig lies where it is declared, has its multiplicity, and its appended fact holds.
-fn sig_holds(judge: &Judge, place: usize, position: u64) -> Result<bool, Fault> {
-    if place >= judge.setting.model.sigs.len() {
-        return Ok(false);
+/// Whether two sets share a tuple.
+pub fn shares(judge: &Judge, a: &Held, b: &Held) -> Result<bool, AllocError> {
+    let common = combined(judge, RelationOp::Intersection, a, b)?;
+    Ok(set_of(&common).len() > 0)
+}
+
+/// Whether the children of a sig are disjoint, and are all of it where it is abstract.
+fn children_hold(
+    judge: &Judge,
+    parent: usize,
+    sig: &Sig,
+    set: &Held,
+    position: u64,
+) -> Result<bool, AllocError> {
+    let sigs = &judge.model().sigs;
+    let mut all = nothing(judge);
+    let mut some = false;
+    for place in 0..sigs.len() {
+        if is_child(sigs.get(place), parent) {
+            let child = relation_at(judge, place, position);
+            if shares(judge, &all, &child)? {
+                return Ok(false);
+            }
+            all = combined(judge, RelationOp::Union, &all, &child)?;
+            some = true;
+        }
     }
-    let Some(set) = relation(&judge.setting, place, position) else {
-        return Ok(false)
-    };
-    let sig = judge.setting.model.sigs.get(place);
-    if !is_placed(judge, sig, set, position) || !has_multiplicity(sig.multiplicity, set.len()) {
-        return Ok(false);
-    }
-    match &sig.appended {
-        None => Ok(true),
-        Some(fact) => holds_for_each(judge, set, fact, position),
-    }
+    Ok(!some || !sig.is_abstract || is_inside(set, &all))
 }
 
 /// Whether a formula holds for each atom of a set as `this`.
@@ -87,9 +93,12 @@ fn holds_for_each(
     set: &TupleSet,
     fact: &Formula,
     position: u64,
-) -> Result<bool, Fault> {
+) -> Result<bool, AllocError> {
+    if set.arity() != 1 {
+        return Ok(true);
+    }
     for place in 0..set.len() {
-        let scope = Scope::Atom(0, first_at(set, place), &Scope::Empty);
+        let scope = Scope::Atom(0, atom_at(set, place), &Scope::Empty);
         if !holds_in(judge, fact, &scope, position, DEEP)? {
             return Ok(false);
         }
@@ -97,231 +106,83 @@ fn holds_for_each(
     Ok(true)
 }
 
-/// Whether a sig lies inside its parent, or inside the union of its parents.
-fn is_placed(judge: &Judge, sig: &Sig, set: &TupleSet, position: u64) -> bool {
-    match &sig.kind {
-        SigKind::Top => true,
-        SigKind::Extends(parent) => match relation(&judge.setting, *parent as usize, position) {
-            Some(above) => inside(set, above),
-            None => false,
-        },
-        SigKind::Subset(parents) => {
-            for place in 0..set.len() {
-                if !is_in_some(judge, parents.as_slice(), set.tuple(place), position) {
-                    return false;
-                }
-            }
-            true
-        }
-    }
-}
-
-/// Whether a tuple is in one of some parents.
-fn is_in_some(judge: &Judge, parents: &[Column], tuple: &Tuple, position: u64) -> bool {
-    for parent in parents {
-        if is_in(judge, *parent, tuple, position) {
-            return true;
-        }
-    }
-    false
-}
-
-/// Whether a tuple is in a sig, or is an integer.
-fn is_in(judge: &Judge, parent: Column, tuple: &Tuple, position: u64) -> bool {
-    match parent {
-        Column::Sig(sig) => match relation(&judge.setting, sig as usize, position) {
-            Some(set) => set.contains(tuple),
-            None => false,
-        },
-        Column::Int => {
-            let numbers = tuple.numbers();
-            numbers.len() == 1 && numbers[0] >= judge.setting.atoms
-        }
-    }
-}
-
-/// Whether the children of each sig are disjoint, and are all of it where it is abstract.
-fn children_hold(judge: &Judge, children: &[Child], position: u64) -> Result<bool, Fault> {
-    let mut seen: Vec<u32> = vec![in judge.setting.alloc; 0; 16384]?;
-    let mut total: usize = 0;
-    for place in 0..children.len() {
-        let child = children[place];
-        let first = place == 0 || children[place - 1].parent != child.parent;
-        let last = place + 1 == children.len() || children[place + 1].parent != child.parent;
-        if first {
-            total = 0;
-        }
-        let Some(set) = relation(&judge.setting, child.sig, position) else {
-            return Ok(false)
-        };
-        if !mark(set, child.parent, &mut seen) {
-            return Ok(false);
-        }
-        total = total.saturating_add(set.len());
-        if last && !is_covered(judge, child.parent, total, position) {
-            return Ok(false);
-        }
-    }
-    Ok(true)
-}
-
-/// Marks the atoms of a set for a parent; whether none was marked for it before.
-fn mark(set: &TupleSet, parent: u32, seen: &mut Vec<u32>) -> bool {
-    for place in 0..set.len() {
-        let atom = first_at(set, place) as usize;
-        if atom < seen.len() {
-            if seen[atom] == parent.wrapping_add(1) {
-                return false;
-            }
-            seen[atom] = parent.wrapping_add(1);
-        }
-    }
-    true
-}
-
-/// Whether a sig isn't abstract, or has just so many atoms.
-fn is_covered(judge: &Judge, sig: u32, total: usize, position: u64) -> bool {
-    let place = sig as usize;
-    if place >= judge.setting.model.sigs.len() {
-        return false;
-    }
-    if !judge.setting.model.sigs.get(place).is_abstract {
-        return true;
-    }
-    match relation(&judge.setting, place, position) {
-        Some(set) => set.len() == total,
-        None => false,
-    }
-}
-
-/// Whether a field's declaration holds.
-fn field_holds(judge: &Judge, place: usize, position: u64) -> Result<bool, Fault> {
-    if place >= judge.setting.model.fields.len() {
+/// Whether a sig lies where it is declared, its children are disjoint and fill it where it is
+/// abstract, it has its multiplicity, and its appended fact holds.
+fn sig_holds(judge: &Judge, place: usize, sig: &Sig, position: u64) -> Result<bool, AllocError> {
+    let set = relation_at(judge, place, position);
+    if !allows(sig.multiplicity, set_of(&set)) {
         return Ok(false);
     }
-    let field = judge.setting.model.fields.get(place);
-    let Some(owner) = field.owner else {
-        return Ok(true)
-    };
-    let Some(declared) = &field.declared else {
-        return Ok(true)
-    };
-    let Some(set) = relation(
-        &judge.setting,
-        field_relation(&judge.setting, place),
-        position,
-    ) else {
-        return Ok(false)
-    };
-    let Some(atoms) = relation(&judge.setting, owner as usize, position) else {
-        return Ok(false)
-    };
-    if !is_owned(judge, set, atoms)?
-        || !values_hold(judge, set, atoms, &declared.bound, position)?
-    {
+    if !is_placed(judge, &sig.kind, &set, position)? {
         return Ok(false);
     }
-    if declared.disj_values && !values_differ(judge, set)? {
+    if !children_hold(judge, place, sig, &set, position)? {
         return Ok(false);
     }
-    Ok(is_alone(judge, place, field, declared, set, position))
+    match &sig.appended {
+        None => Ok(true),
+        Some(fact) => holds_for_each(judge, set_of(&set), fact, position),
+    }
 }
 
-/// Whether each tuple begins with an atom of a set.
-fn is_owned(judge: &Judge, set: &TupleSet, atoms: &TupleSet) -> Result<bool, Fault> {
-    for place in 0..set.len() {
-        if !atoms.contains(&Tuple::of(judge.setting.alloc, &[first_at(set, place)])?) {
+/// Whether the declarations hold at a position.
+fn declared_at(judge: &Judge, position: u64) -> Result<bool, AllocError> {
+    let model = judge.model();
+    for place in 0..model.sigs.len() {
+        if !sig_holds(judge, place, model.sigs.get(place), position)? {
+            return Ok(false);
+        }
+    }
+    for place in 0..model.fields.len() {
+        if !field_holds(judge, place, model.fields.get(place), position)? {
             return Ok(false);
         }
     }
     Ok(true)
 }
 
-/// Whether what each atom has in a field lies in the bound and has its multiplicities.
-fn values_hold(
-    judge: &Judge,
-    set: &TupleSet,
-    atoms: &TupleSet,
-    bound: &Bound,
-    position: u64,
-) -> Result<bool, Fault> {
-    for place in 0..atoms.len() {
-        let atom = first_at(atoms, place);
-        let value = rows_after(judge.setting.alloc, set, &[atom])?;
-        let scope = Scope::Atom(0, atom, &Scope::Empty);
-        if !is_within(
-            judge,
-            &value,
-            bound.multiplicity,
-            &bound.expr,
-            &scope,
-            position,
-            DEEP,
-        )? {
-            return Ok(false);
+/// From how many rounds of the loop on the declarations have the same truth in each round.
+fn declaration_rounds(judge: &Judge) -> u32 {
+    let model = judge.model();
+    let mut most: u32 = 0;
+    for sig in model.sigs.as_slice() {
+        if let Some(fact) = &sig.appended {
+            most = most.max(claim_repeats(judge, fact, &Scope::Empty));
         }
     }
-    Ok(true)
+    for field in model.fields.as_slice() {
+        most = most.max(bound_rounds(judge, field));
+    }
+    most
 }
 
-/// Whether different atoms have disjoint values in a field.
-fn values_differ(judge: &Judge, set: &TupleSet) -> Result<bool, Fault> {
-    let mut values: Vec<Tuple> = Vec::new(judge.setting.alloc);
-    for tuple in set.keyed() {
-        values.push(Tuple::of(judge.setting.alloc, tail(tuple.numbers(), 1))?)?;
-    }
-    values.sort()?;
-    for place in 1..values.len() {
-        if values[place - 1].numbers() == values[place].numbers() {
-            return Ok(false);
+/// The least position at which the declarations don't hold, or why it isn't known.
+fn first_failing(
+    alloc: Global,
+    model: &Model,
+    scopes: &Scopes,
+    lasso: &Lasso,
+) -> Result<Option<u64>, AllocError> {
+    let judge = judge_of(alloc, model, scopes, lasso)?;
+    let end = judge.rounds_end(declaration_rounds(&judge))?;
+    for position in 0..end {
+        if !declared_at(&judge, position)? {
+            return Ok(Some(position));
         }
     }
-    Ok(true)
+    Ok(None)
 }
 
-/// Whether a field shares no tuple with a later field of its `disj` list.
-fn is_alone(
-    judge: &Judge,
-    place: usize,
-    field: &Field,
-    declared: &FieldBound,
-    set: &TupleSet,
-    position: u64,
-) -> bool {
-    let Some(list) = declared.disj_list else {
-        return true
-    };
-    for other in place.saturating_add(1)..judge.setting.model.fields.len() {
-        let next = judge.setting.model.fields.get(other);
-        if next.owner == field.owner && is_of_list(next, list) {
-            if let Some(others) = relation(
-                &judge.setting,
-                field_relation(&judge.setting, other),
-                position,
-            ) {
-                if shares(set, others) {
-                    return false;
-                }
-            }
-        }
+/// The least position at which the declarations of the model don't hold, or none where they hold at
+/// every position; under the conditions of `holds`, and with its answer where they aren't met.
+pub fn declared(
+    alloc: Global,
+    model: &Model,
+    scopes: &Scopes,
+    lasso: &Lasso,
+) -> Result<Option<u64>, AllocError> {
+    match first_failing(alloc, model, scopes, lasso) {
+        Ok(place) => Ok(place),
+        Err(_) => Err(AllocError),
     }
-    true
-}
-
-/// Whether a field stands in the `disj` list of this number.
-fn is_of_list(field: &Field, list: u32) -> bool {
-    match &field.declared {
-        Some(declared) => declared.disj_list == Some(list),
-        None => false,
-    }
-}
-
-/// Whether two sets share a tuple.
-fn shares(a: &TupleSet, b: &TupleSet) -> bool {
-    for place in 0..a.len() {
-        if b.contains(a.tuple(place)) {
-            return true;
-        }
-    }
-    false
 }

@@ -4,9 +4,12 @@
 
 pub mod declarations;
 pub mod evaluate;
+pub mod fields;
 pub mod kept;
 
-pub use evaluate::{declared, holds, keeps, tuples};
+pub use declarations::declared;
+pub use evaluate::{holds, tuples};
+pub use kept::keeps;
 
 #[cfg(test)]
 mod tests;

@@ -1,7 +1,6 @@
 // Sets of tuples that are lent or owned.
 
-use crate::steps::Fault;
-use std::alloc::Global;
+use std::alloc::{AllocError, Global};
 use tuple_sets::TupleSet;
 
 /// A set of tuples: a relation's set as it stands in a lasso, or one that was computed.
@@ -20,7 +19,7 @@ pub fn set_of<'b>(held: &'b Held<'_>) -> &'b TupleSet {
 }
 
 /// The set, to own.
-pub fn owned(alloc: Global, held: Held<'_>) -> Result<TupleSet, Fault> {
+pub fn owned(alloc: Global, held: Held<'_>) -> Result<TupleSet, AllocError> {
     match held {
         Held::Lent(set) => Ok(set.copy(alloc)?),
         Held::Owned(set) => Ok(set),
