@@ -3,9 +3,9 @@
 use crate::declarations::shares;
 use core_meaning::Scope;
 use core_tree::{Bound, Field, RelationOp};
-use set_operators::rows_after;
+use set_operators::{empty_of, rows_after};
 use std::alloc::AllocError;
-use tree_evaluator::parts::{combined, field_of, is_inside, nothing};
+use tree_evaluator::parts::{combined, field_of, is_inside};
 use tree_evaluator::{DEEP, Held, Judge, atom_at, is_within, relation_at, set_of, term_repeats};
 use tuple_sets::TupleSet;
 
@@ -50,7 +50,8 @@ fn values_differ(judge: &Judge, set: &TupleSet, atoms: &TupleSet) -> Result<bool
     if atoms.arity() != 1 {
         return Ok(true);
     }
-    let mut all = nothing(judge);
+    let columns = (set.arity() as usize).saturating_sub(1);
+    let mut all = Held::Owned(empty_of(judge.alloc(), columns));
     for place in 0..atoms.len() {
         let value = Held::Owned(rows_after(judge.alloc(), set, &[atom_at(atoms, place)])?);
         if shares(judge, &all, &value)? {
