@@ -1,0 +1,4 @@
+pub mod Weight
+pub mod Congruent
+pub mod Calls
+pub mod Rounds
