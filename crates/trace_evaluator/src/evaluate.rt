@@ -24,8 +24,8 @@ fn judged(
 ///
 /// The lasso has one set for each sig and field of the model, with its columns and numbers of the
 /// universe alone; the scopes have an entry for each sig, and a body's rank is above that of each
-/// body that it calls. Where that isn't so, a set is asked for that has tuples of two lengths, or
-/// past operators nest more than a million deep, the answer is that of want of memory.
+/// body that it calls. Where a rank isn't, or past operators nest more than a million deep, the
+/// answer is that of want of memory. A set whose parts have columns that don't fit is empty.
 pub fn holds(
     alloc: Global,
     model: &Model,
