@@ -24,14 +24,12 @@ fn columns_at<'a>(
     columns: &[Column],
     position: u64,
 ) -> Result<Held<'a>, AllocError> {
-    match columns.split_first() {
-        None => Ok(nothing(judge)),
-        Some((first, rest)) => {
-            let here = column_at(judge, *first, position)?;
-            let others = columns_at(judge, rest, position)?;
-            combined(judge, RelationOp::Union, &here, &others)
-        }
+    let mut all = nothing(judge);
+    for column in columns {
+        let here = column_at(judge, *column, position)?;
+        all = combined(judge, RelationOp::Union, &all, &here)?;
     }
+    Ok(all)
 }
 
 /// Whether a sig's set lies inside its parent, or inside the union of its parents.

@@ -73,7 +73,8 @@ fn first_atom(scopes: &Scopes, sig: usize) -> u64 {
 /// `var`.
 fn sig_keeps(judge: &Judge, place: usize) -> Result<bool, AllocError> {
     let setting = judge.setting();
-    if place >= judge.model().sigs.len() || place >= setting.scopes.numbers.len() {
+    let sigs = &judge.model().sigs;
+    if place >= sigs.len() || place >= setting.scopes.numbers.len() {
         return Ok(false);
     }
     let mut seen: Vec<bool> = vec![in judge.alloc(); false; 16384]?;
@@ -87,7 +88,7 @@ fn sig_keeps(judge: &Judge, place: usize) -> Result<bool, AllocError> {
         }
         count = count.saturating_add(mark_new(set, &mut seen));
     }
-    let is_var = judge.model().sigs.get(place).is_var;
+    let is_var = sigs.get(place).is_var;
     Ok(
         keeps_number(setting.scopes.numbers.get(place), count)
             && (is_var || is_static(judge, place)),
@@ -152,11 +153,13 @@ fn is_bounded(judge: &Judge, sig: usize, set: &TupleSet) -> bool {
 
 /// Whether an atom is in the upper bound of a sig.
 fn is_allowed(judge: &Judge, sig: usize, atom: u32, more: usize) -> bool {
-    if more == 0 || sig >= judge.model().sigs.len() {
+    let sigs = &judge.model().sigs;
+    let first = judge.setting().atoms;
+    if more == 0 || sig >= sigs.len() {
         return false;
     }
     let integers = 1u64.wrapping_shl(judge.setting().scopes.bits);
-    match &judge.model().sigs.get(sig).kind {
+    match &sigs.get(sig).kind {
         SigKind::Top => is_atom_of(judge, sig, atom),
         SigKind::Extends(parent) => {
             let top = top_above(judge, sig, more);
@@ -165,10 +168,7 @@ fn is_allowed(judge: &Judge, sig: usize, atom: u32, more: usize) -> bool {
         SigKind::Subset(parents) => {
             for parent in parents.as_slice() {
                 let found = match *parent {
-                    Column::Int => {
-                        atom >= judge.setting().atoms
-                            && u64::from(atom - judge.setting().atoms) < integers
-                    }
+                    Column::Int => { atom >= first && u64::from(atom - first) < integers }
                     Column::Sig(above) => is_allowed(judge, above as usize, atom, more - 1),
                 };
                 if found {
@@ -182,7 +182,8 @@ fn is_allowed(judge: &Judge, sig: usize, atom: u32, more: usize) -> bool {
 
 /// Whether a sig is not that of a literal, or an atom is the literal's own.
 fn is_literal_right(judge: &Judge, sig: usize, parent: u32, atom: u32) -> bool {
-    if sig >= judge.model().sigs.len() || judge.model().sigs.get(sig).origin.is_some() {
+    let sigs = &judge.model().sigs;
+    if sig >= sigs.len() || sigs.get(sig).origin.is_some() {
         return true;
     }
     let first = first_atom(judge.setting().scopes, parent as usize);
@@ -194,12 +195,13 @@ fn is_literal_right(judge: &Judge, sig: usize, parent: u32, atom: u32) -> bool {
 
 /// The top-level sig above a sig.
 fn top_above(judge: &Judge, sig: usize, more: usize) -> usize {
+    let sigs = &judge.model().sigs;
     let mut top = sig;
     for _ in 0..more {
-        if top >= judge.model().sigs.len() {
+        if top >= sigs.len() {
             return top;
         }
-        match &judge.model().sigs.get(top).kind {
+        match &sigs.get(top).kind {
             SigKind::Extends(parent) => top = *parent as usize,
             _ => return top,
         }
@@ -209,11 +211,12 @@ fn top_above(judge: &Judge, sig: usize, more: usize) -> usize {
 
 /// Whether an atom is one of those of a top-level sig.
 fn is_atom_of(judge: &Judge, top: usize, atom: u32) -> bool {
-    if top >= judge.setting().scopes.numbers.len() {
+    let scopes = judge.setting().scopes;
+    if top >= scopes.numbers.len() {
         return false;
     }
-    let first = first_atom(judge.setting().scopes, top);
-    match judge.setting().scopes.numbers.get(top).number {
+    let first = first_atom(scopes, top);
+    match scopes.numbers.get(top).number {
         None => false,
         Some(number) => u64::from(atom) >= first && u64::from(atom) < first.saturating_add(number),
     }
