@@ -25,16 +25,16 @@ start_more ends e (suc i) l = get_or_append_left ends (e ∷ []) 0 i (omega arit
 end_more : (ends : List ℕ) (e i : ℕ) → i < length ends → get_or (ends ++ e ∷ []) i 0 ≡ get_or ends i 0
 end_more ends e i l = get_or_append_left ends (e ∷ []) 0 i l
 
-lit_more : (literals ls : List ℤ) (p : ℕ) → p < length literals → value_at (literals ++ ls) p ≡ value_at literals p
+pub lit_more : (literals ls : List ℤ) (p : ℕ) → p < length literals → value_at (literals ++ ls) p ≡ value_at literals p
 lit_more literals ls p l = get_or_append_left literals ls (pos 0) p l
 
-in_more : (ends : List ℕ) (e i p : ℕ) → i < length ends → InClause ends i p → InClause (ends ++ e ∷ []) i p
+pub in_more : (ends : List ℕ) (e i p : ℕ) → i < length ends → InClause ends i p → InClause (ends ++ e ∷ []) i p
 in_more ends e i p l h = (omega (arith, h.0, start_more ends e i (omega arith)), omega (arith, h.1, end_more ends e i l))
 
-in_less : (ends : List ℕ) (e i p : ℕ) → i < length ends → InClause (ends ++ e ∷ []) i p → InClause ends i p
+pub in_less : (ends : List ℕ) (e i p : ℕ) → i < length ends → InClause (ends ++ e ∷ []) i p → InClause ends i p
 in_less ends e i p l h = (omega (arith, h.0, start_more ends e i (omega arith)), omega (arith, h.1, end_more ends e i l))
 
-in_literals : (literals : List ℤ) (ends : List ℕ) (variables i p : ℕ) → IsArena literals ends variables → i < length ends → InClause ends i p → p < length literals
+pub in_literals : (literals : List ℤ) (ends : List ℕ) (variables i p : ℕ) → IsArena literals ends variables → i < length ends → InClause ends i p → p < length literals
 in_literals literals ends variables i p a l h = omega (arith, h.1, (a.ordered i l).1)
 
 pub IsArena-more : (literals ls : List ℤ) (ends : List ℕ) (variables : ℕ) → IsArena literals ends variables → All (IsLiteral variables) ls → IsArena (literals ++ ls) (more_ends literals ends ls) variables

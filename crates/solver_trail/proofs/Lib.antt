@@ -3,3 +3,4 @@ pub mod Weaving
 pub mod Sounding
 pub mod Adding
 pub mod Copying
+pub mod Reasoning

@@ -3,6 +3,7 @@ use Rattle.solver_trail.specs.declared.trail.Trail.TheInside.{Inside}
 use Rattle.solver_trail.specs.Sound.{Net, IsSound}
 use Rattle.solver_trail.specs.State.{Search}
 use Rattle.solver_trail.specs.Watched.{IsCopied}
+use Rattle.solver_trail.specs.Reasons.{AreReasoned}
 
 -- the clauses, watches and levels of a trail
 abbrev pub net : Inside → Net
@@ -32,8 +33,9 @@ search_of t = record {
   limits = take t.top t.lens.items;
 }
 
--- a trail keeps its watches and levels in order
+-- a trail keeps its watches, levels and reasons in order
 pub record IsTrail (t : Inside) : Type 0 where
   pub variables : length t.assigned.values ≡ t.arena.variables
   pub sound : IsSound (net t)
   pub copied : IsCopied t.arena.literals.items t.arena.ends.items t.watches.at.items t.watches.copies.items
+  pub reasoned : AreReasoned (search_of t)

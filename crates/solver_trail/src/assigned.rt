@@ -3,6 +3,7 @@ ghost use Rattle.std.specs.List.{All, Contains};
 ghost use Rattle.trail_literals.specs.Literal.{IsLiteral};
 ghost use Rattle.trail_literals.specs.Literal as spec;
 ghost use Rattle.solver_trail.specs.Assignment.{value_at};
+ghost use Rattle.solver_trail.specs.Reasons.{IsPut};
 
 use std::alloc::{AllocError, Global};
 use std::marker::Model;
@@ -181,6 +182,7 @@ impl Assigned {
         ensures fits { length self.new.trail ≤ length self.new.values }
         ensures levels { self.new.levels ≡ slice_set self.old.levels (spec.index literal) level }
         ensures reasons { self.new.reasons ≡ slice_set self.old.reasons (spec.index literal) reason }
+        ensures put { IsPut self.old self.new literal level reason }
     {
         let at = index(literal);
         self.values[at] = sign(literal);

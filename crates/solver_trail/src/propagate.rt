@@ -2,6 +2,7 @@ ghost use Rattle.std.specs.Prelude.{◌≡◌, ℕ, ℤ, neg_ℤ, ◌+◌, ◌-�
 ghost use Rattle.std.specs.List.{Contains};
 ghost use Rattle.solver_trail.specs.Assignment.{value_at};
 ghost use Rattle.solver_trail.specs.Watched.{IsCopied, IsWoven, IsKept, IsWatched, IsTrueIn, IsFalseIn, IsAlike};
+ghost use Rattle.solver_trail.specs.Reasons.{ForcesMore};
 
 use crate::arena::Arena;
 use crate::assigned::Assigned;
@@ -27,6 +28,7 @@ fn turn(
     ensures copied { IsCopied arena.now.literals.items arena.now.ends.items watches.new.at.items watches.new.copies.items }
     ensures none_loose { watches.new.lists.loose ≡ [] }
     ensures kept { IsKept arena.now.literals.items arena.now.ends.items watches.old.at.items assigned.old.trail watches.new.at.items assigned.new.trail }
+    ensures forced { ForcesMore arena.now.literals.items arena.now.ends.items level assigned.old assigned.new }
     ensures watched { IfNone result (IsWatched arena.now.literals.items arena.now.ends.items watches.new.at.items assigned.new.trail (length assigned.new.trail) (place + 1)) }
     ensures false_clause { IfSome result (λ n. (0 < n) × (n ≤ length arena.now.ends.items) × IsFalseIn arena.now.literals.items arena.now.ends.items assigned.new.trail (n - 1)) }
 {
@@ -58,6 +60,7 @@ pub fn advance(
     ensures copied { IsCopied arena.now.literals.items arena.now.ends.items watches.new.at.items watches.new.copies.items }
     ensures none_loose { watches.new.lists.loose ≡ [] }
     ensures kept { IsKept arena.now.literals.items arena.now.ends.items watches.old.at.items assigned.old.trail watches.new.at.items assigned.new.trail }
+    ensures forced { ForcesMore arena.now.literals.items arena.now.ends.items level assigned.old assigned.new }
     ensures reached { result.0 ≤ length assigned.new.trail }
     ensures watched { IsWatched arena.now.literals.items arena.now.ends.items watches.new.at.items assigned.new.trail (length assigned.new.trail) result.0 }
     ensures all { IfNone result.1 (result.0 ≡ length assigned.new.trail) }
@@ -86,6 +89,7 @@ pub fn advance_short(
     requires in_range { start ≤ length short.now }
     ensures variables { length assigned.new.values ≡ length assigned.old.values }
     ensures longer { (ts : List ℤ) × (assigned.new.trail ≡ assigned.old.trail ++ ts) }
+    ensures forced { ForcesMore arena.now.literals.items arena.now.ends.items level assigned.old assigned.new }
     ensures reached { (start ≤ result.0) × (result.0 ≤ length short.now) }
     ensures holds { (j : ℕ) → start ≤ j → j < result.0 → IsTrueIn arena.now.literals.items arena.now.ends.items assigned.new.trail (slice_index short.now j) }
     ensures all { IfNone result.1 (result.0 ≡ length short.now) }
@@ -109,6 +113,7 @@ fn satisfy(arena: &Arena, assigned: &mut Assigned, clause: usize, level: u64) ->
     requires alike { IsAlike arena.now.literals.items arena.now.ends.items clause }
     ensures variables { length assigned.new.values ≡ length assigned.old.values }
     ensures longer { (ts : List ℤ) × (assigned.new.trail ≡ assigned.old.trail ++ ts) }
+    ensures forced { ForcesMore arena.now.literals.items arena.now.ends.items level assigned.old assigned.new }
     ensures holds { IsTrue result → IsTrueIn arena.now.literals.items arena.now.ends.items assigned.new.trail clause }
     ensures false_clause { IsFalse result → IsFalseIn arena.now.literals.items arena.now.ends.items assigned.new.trail clause }
 {

@@ -1,11 +1,13 @@
 ghost use Rattle.std.specs.Prelude.{◌≡◌, ◌≢◌, ℕ, ℤ, pos, neg_ℤ, unsigned_abs, ◌+◌, ◌-◌, ◌*◌, ◌<◌, ◌≤◌, ◌⊎◌, ◌++◌, ◌∷◌, [], List, length, take, slice_index, slice_index_or, slice_set, slice_get, Some, IfNone, IfSome, IfOk, OnErr, IsTrue, false};
 ghost use Rattle.std.specs.List.{Contains, All};
 ghost use Rattle.trail_literals.specs.Literal.{IsLiteral};
+ghost use Rattle.trail_literals.specs.Literal as spec;
 ghost use Rattle.cnf_form.specs.Literal.{IsWithin};
 ghost use Rattle.solver_trail.specs.Assignment.{value_at};
 ghost use Rattle.solver_trail.specs.Watched.{IsTrueIn, IsFalseIn};
 ghost use Rattle.solver_trail.specs.Sound.{IsFree, IsOpen};
 ghost use Rattle.solver_trail.specs.State.{clause_at, Keeps, Adds};
+ghost use Rattle.solver_trail.specs.Reasons.{ForcesMore, AreReasoned, IsPut};
 
 use crate::add::{bound, latest, lower};
 use crate::arena::Arena;
@@ -186,13 +188,14 @@ impl Trail {
         )
     }
 
-    /// Opens a level with a free literal made true.
+    /// Opens a level with a free literal made true. It has no reason.
     pub fn assign(&mut self, literal: i64)
         requires literal { IsLiteral self.old.variables literal }
         requires free { IsFree self.old.assignment.trail literal }
         ensures clauses { (self.new.literals ≡ self.old.literals) × (self.new.ends ≡ self.old.ends) × (self.new.variables ≡ self.old.variables) }
         ensures trail { self.new.assignment.trail ≡ self.old.assignment.trail ++ literal ∷ [] }
         ensures limits { self.new.limits ≡ self.old.limits ++ length self.old.assignment.trail ∷ [] }
+        ensures put { IsPut self.old.assignment self.new.assignment literal (length self.old.limits + 1) 0 }
     {
         let len = self.assigned.len();
         self.assigned.put(literal, self.top as u64 + 1, 0);
@@ -208,6 +211,7 @@ impl Trail {
         ensures clauses { (self.new.literals ≡ self.old.literals) × (self.new.ends ≡ self.old.ends) × (self.new.variables ≡ self.old.variables) }
         ensures trail { self.new.assignment.trail ≡ take (slice_index_or self.old.limits level (length self.old.assignment.trail)) self.old.assignment.trail }
         ensures limits { self.new.limits ≡ take level self.old.limits }
+        ensures kept { (self.new.assignment.levels ≡ self.old.assignment.levels) × (self.new.assignment.reasons ≡ self.old.assignment.reasons) }
     {
         let level = level as usize;
         if level < self.top {
@@ -218,10 +222,11 @@ impl Trail {
         }
     }
 
-    /// Makes true what the clauses force, and gives the number of a clause that is false, if there is one.
+    /// Makes true what the clauses force, with the clause as its reason, and gives the number of a clause that is false, if there is one.
     pub fn propagate(&mut self) -> Option<u64>
         ensures clauses { (self.new.literals ≡ self.old.literals) × (self.new.ends ≡ self.old.ends) × (self.new.variables ≡ self.old.variables) }
         ensures longer { (ts : List ℤ) × (self.new.assignment.trail ≡ self.old.assignment.trail ++ ts) }
+        ensures forced { ForcesMore self.new.literals self.new.ends (length self.old.limits) self.old.assignment self.new.assignment }
         ensures limits { self.new.limits ≡ self.old.limits }
         ensures none { IfNone result ((i : ℕ) → i < length self.new.ends → IsTrueIn self.new.literals self.new.ends self.new.assignment.trail i ⊎ IsOpen self.new.literals self.new.ends self.new.assignment.trail i) }
         ensures false_clause { IfSome result (λ n. (0 < n) × (n ≤ length self.new.ends) × IsFalseIn self.new.literals self.new.ends self.new.assignment.trail (n - 1)) }
@@ -257,10 +262,11 @@ impl Trail {
         self.assigned.values()
     }
 
-    /// The true literals in the order in which they were put.
+    /// The true literals in the order in which they were put. Each has its level and, unless it opened one, its reason.
     pub fn trail(&self) -> &[i64]
         ensures trail { result.now ≡ self.now.assignment.trail }
         ensures literals { All (IsLiteral self.now.variables) result.now }
+        ensures reasoned { AreReasoned self.now }
     {
         self.assigned.trail()
     }
@@ -280,11 +286,13 @@ impl Trail {
         self.assigned.level(variable as usize - 1)
     }
 
-    /// The clause that forced a variable.
+    /// The clause that forced a variable, or none where it opened a level.
     pub fn reason(&self, variable: u64) -> Option<u64>
         requires variable { (0 < variable) × (variable ≤ self.now.variables) }
         ensures reason { IfSome result (λ n. slice_index self.now.assignment.reasons (variable - 1) ≡ n) }
         ensures in_range { IfSome result (λ n. (0 < n) × (n ≤ length self.now.ends)) }
+        ensures chosen { IfNone result ((j : ℕ) → j < length self.now.assignment.trail → spec.index (value_at self.now.assignment.trail j) ≡ variable - 1 → Contains self.now.limits j) }
+        ensures forced { IfSome result (λ n. (j : ℕ) → j < length self.now.assignment.trail → spec.index (value_at self.now.assignment.trail j) ≡ variable - 1 → Contains self.now.limits j → ⊥) }
     {
         let clause = self.assigned.reason(variable as usize - 1);
         if clause == 0 || clause > self.arena.ends.len() as u64 {

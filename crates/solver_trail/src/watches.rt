@@ -4,6 +4,7 @@ ghost use Rattle.node_lists.specs.Linked.{list_at};
 ghost use Rattle.solver_trail.specs.Assignment.{value_at};
 ghost use Rattle.solver_trail.specs.Watched.{IsPair, IsCopied, IsWoven, IsKept, IsVisited, IsTaken, IsTrueIn, IsFalseIn, InClause, watched, sibling, start_of};
 ghost use Rattle.solver_trail.specs.Found.{IsFound};
+ghost use Rattle.solver_trail.specs.Reasons.{ForcesMore};
 
 use crate::arena::Arena;
 use crate::assigned::Assigned;
@@ -110,6 +111,7 @@ impl Watches {
         ensures taken { IsTrue result → IsTaken arena.now.literals.items arena.now.ends.items arena.now.variables self.old.at.items assigned.old.trail self.old.lists.loose self.new.at.items assigned.new.trail self.new.lists }
         ensures false_clause { IsFalse result → (node < length self.old.at.items) × IsFalseIn arena.now.literals.items arena.now.ends.items assigned.old.trail (node / 2) }
         ensures unchanged { IsFalse result → (self.new ≡ self.old) × (assigned.new ≡ assigned.old) }
+        ensures forced { ForcesMore arena.now.literals.items arena.now.ends.items level assigned.old assigned.new }
     {
         match self.inspect(arena, assigned, node) {
             Found::True => {
@@ -140,6 +142,7 @@ impl Watches {
         ensures woven { IsWoven arena.now.literals.items arena.now.ends.items self.new.at.items self.new.lists arena.now.variables }
         ensures copied { IsCopied arena.now.literals.items arena.now.ends.items self.new.at.items self.new.copies.items }
         ensures kept { IsKept arena.now.literals.items arena.now.ends.items self.old.at.items assigned.old.trail self.new.at.items assigned.new.trail }
+        ensures forced { ForcesMore arena.now.literals.items arena.now.ends.items level assigned.old assigned.new }
         ensures none_loose { IfNone result (self.new.lists.loose ≡ []) }
         ensures visited { IfNone result ((w : ℤ) → Contains assigned.old.trail (neg_ℤ w) → IsVisited arena.now.literals.items arena.now.ends.items self.old.at.items self.old.lists.loose assigned.old.trail w → IsVisited arena.now.literals.items arena.now.ends.items self.new.at.items self.new.lists.loose assigned.new.trail w) }
         ensures false_clause { IfSome result (λ n. (0 < n) × (n ≤ length arena.now.ends.items) × IsFalseIn arena.now.literals.items arena.now.ends.items assigned.new.trail (n - 1)) }

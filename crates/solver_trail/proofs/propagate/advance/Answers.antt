@@ -1,5 +1,6 @@
 use Rattle.std.proofs.Common.{◌∙◌, arith}
 use Rattle.solver_trail.proofs.Weaving.{IsKept-trans, kept_watched, longer-length}
+use Rattle.solver_trail.proofs.Reasoning.{forces_none, forces_trans}
 use Rattle.solver_trail.proofs.propagate.advance.Goals as goal
 
 pub returns-in-Some-clause-kept : goal.returns-in-Some-clause-kept
@@ -18,6 +19,10 @@ trail-preserved c =
       copied = t.copied;
       none_loose = t.none_loose;
       kept = IsKept-trans _ _ _ _ _ _ _ _ i.kept t.kept;
+      forced = forces_trans _ _ _ _ _ _ i.forced t.forced;
       reached = omega (arith, c.trail-test.true, c.len.ensures.count, longer-length _ _ t.kept.longer);
       watched = t.watched;
     }
+
+pub returns-in-Some-clause-forced : goal.returns-in-Some-clause-forced
+returns-in-Some-clause-forced c = forces_trans _ _ _ _ _ _ c.trail.invariant.forced c.turn.ensures.forced

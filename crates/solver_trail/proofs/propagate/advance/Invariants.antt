@@ -1,5 +1,6 @@
 use Rattle.std.proofs.Common.{◌≡◌, ◌-◌, ◌≤◌, [], length}
 use Rattle.solver_trail.specs.Watched.{IsWoven, IsCopied, IsKept, IsWatched}
+use Rattle.solver_trail.specs.Reasons.{ForcesMore}
 use Rattle.solver_trail.proofs.propagate.advance.Given as goal
 
 abbrev pub invariant-trail : goal.invariant-trail
@@ -9,6 +10,7 @@ invariant-trail l = record {
   copied : IsCopied l.arena.literals.items l.arena.ends.items l.watches.at.items l.watches.copies.items;
   none_loose : l.watches.lists.loose ≡ [];
   kept : IsKept l.arena.literals.items l.arena.ends.items l.initial.watches.at.items l.initial.assigned.trail l.watches.at.items l.assigned.trail;
+  forced : ForcesMore l.arena.literals.items l.arena.ends.items l.level l.initial.assigned l.assigned;
   reached : l.done ≤ length l.assigned.trail;
   watched : IsWatched l.arena.literals.items l.arena.ends.items l.watches.at.items l.assigned.trail (length l.assigned.trail) l.done;
 }

@@ -8,6 +8,7 @@ use Rattle.solver_trail.specs.Search.{net, search_of}
 use Rattle.solver_trail.proofs.Adding.{sound_long, watched_one, watched_two, clause_added}
 use Rattle.solver_trail.proofs.Copying.{IsCopied-more}
 use Rattle.std.proofs.lemmas.List.{append_assoc}
+use Rattle.solver_trail.proofs.Reasoning.{reasoned_add}
 use Rattle.solver_trail.proofs.trail.Trail.add_long.Goals as goal
 
 pub invariant_of-self-2 : goal.invariant_of-self-2
@@ -39,6 +40,9 @@ invariant_of-self-2 c =
           (omega (arith, c.min-self-inside.ensures)) (omega (arith, c.min-self-inside.ensures))
           c.lower.ensures.len c.lower.ensures.lowered
           (λ j k l. none₁ j k (omega (arith, c.min-limit.ensures))) (λ j k l. none₂ j k (omega (arith, c.min-limit.ensures)));
+      reasoned = reasoned_add (search_of c.self.inside) _ ls _ c.self.inside.arena.in_order
+          (c.push.ensures.literals ∙ ap (λ (xs : List ℤ). xs ++ ls) c.reserve.ensures.literals)
+          (c.push.ensures.ends ∙ ap (λ (xs : List ℕ). xs ++ length c.push.new.self.literals.items ∷ []) c.reserve.ensures.ends) refl refl i.reasoned;
       copied =
           let a = c.self.inside.arena.in_order in
           let copies = c.self.inside.watches.copies.items in

@@ -1,9 +1,10 @@
-use Rattle.std.proofs.Common.{ℕ, ℤ, List, ◌≡◌, ◌*◌, ◌++◌, ◌∷◌, [], ◌∙◌, ap, sym, subst, pos, length, arith}
+use Rattle.std.proofs.Common.{ℕ, ℤ, List, ◌≡◌, ◌*◌, ◌++◌, ◌∷◌, [], ◌∙◌, ap, sym, subst, refl, pos, length, arith}
 use Rattle.solver_trail.specs.State.{Search, Adds}
 use Rattle.solver_trail.specs.Search.{net, search_of}
 use Rattle.solver_trail.proofs.Adding.{sound_alike, no_pair_alike, clause_added}
 use Rattle.solver_trail.proofs.Copying.{IsCopied-more}
 use Rattle.std.proofs.lemmas.List.{append_assoc}
+use Rattle.solver_trail.proofs.Reasoning.{reasoned_add}
 use Rattle.solver_trail.proofs.trail.Trail.add_short.Goals as goal
 
 pub invariant_of-self-2 : goal.invariant_of-self-2
@@ -23,6 +24,9 @@ invariant_of-self-2 c =
           (ap (λ (n : ℕ). 2 * n) c.reserve.ensures.variables)
           c.in_ok-add_pair.ensures.ok
           (c.push.ensures.variables ∙ c.reserve.ensures.variables);
+      reasoned = reasoned_add (search_of c.self.inside) _ ls _ c.self.inside.arena.in_order
+          (c.push.ensures.literals ∙ ap (λ (xs : List ℤ). xs ++ ls) c.reserve.ensures.literals)
+          (c.push.ensures.ends ∙ ap (λ (xs : List ℕ). xs ++ length c.push.new.self.literals.items ∷ []) c.reserve.ensures.ends) refl refl i.reasoned;
       copied =
           let a = c.self.inside.arena.in_order in
           let copies = c.self.inside.watches.copies.items in

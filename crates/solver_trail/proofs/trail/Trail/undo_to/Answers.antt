@@ -1,7 +1,9 @@
-use Rattle.std.proofs.Common.{ℕ, ◌≡◌, ◌<◌, ◌∙◌, ap, sym, subst, length, take, get_or, arith}
-use Rattle.std.proofs.lemmas.List.{get_or_default, get_or-take}
+use Rattle.std.proofs.Common.{ℕ, List, ◌≡◌, ◌<◌, ◌∙◌, ap, sym, subst, length, take, get_or, arith}
+use Rattle.std.proofs.lemmas.List.{get_or_default, get_or-take, take-take, length-take-le}
 use Rattle.solver_trail.specs.State.{Search}
-use Rattle.solver_trail.specs.Search.{net}
+use Rattle.solver_trail.specs.Search.{net, search_of}
+use Rattle.solver_trail.specs.Reasons.{AreReasoned}
+use Rattle.solver_trail.proofs.Reasoning.{reasoned_cut}
 use Rattle.solver_trail.proofs.Sounding.{IsSound-cut}
 use Rattle.solver_trail.proofs.trail.Trail.undo_to.Goals as goal
 
@@ -32,6 +34,15 @@ invariant_of-self c =
     record {
       copied = i.copied;
       variables = c.cut.ensures.variables ∙ i.variables;
+      reasoned =
+          let s = search_of c.self.inside in
+          let top = c.self.inside.top in
+          let lens = c.self.inside.lens.items in
+          let size : length s.limits ≡ top = length-take-le top lens (omega (arith, i.sound.levels, i.sound.room.0)) in
+          let limit : get_or s.limits c.args.level 0 ≡ get_or lens c.args.level 0 = get_or-take top lens c.args.level 0 level in
+          let back : c.cut.new.self.trail ≡ take (get_or s.limits c.args.level 0) s.assignment.trail = trail ∙ ap (λ (n : ℕ). take n s.assignment.trail) (sym limit) in
+          let cut = reasoned_cut s c.cut.new.self c.args.level i.reasoned (omega (arith, size, level)) back c.cut.ensures.levels c.cut.ensures.reasons in
+          subst (λ (xs : List ℕ). AreReasoned (record s { assignment = c.cut.new.self; limits = xs })) (take-take c.args.level top lens (omega (arith, level))) cut;
       sound = rw (trail, done, short_done) (IsSound-cut (net c.self.inside) c.args.level i.sound level);
     }
 

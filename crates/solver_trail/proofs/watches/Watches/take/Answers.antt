@@ -1,7 +1,8 @@
-use Rattle.std.proofs.Common.{◌≡◌, ◌<◌, ◌/◌, ◌∙◌, pos, length, rules, arith, w64, SFits}
+use Rattle.std.proofs.Common.{◌≡◌, ◌+◌, ◌-◌, sym, ◌<◌, ◌/◌, ◌∙◌, pos, length, rules, arith, w64, SFits}
 use Rattle.std.proofs.lemmas.Int.{to_z-of_z}
 use Rattle.std.proofs.lemmas.List.{get_or_default}
-use Rattle.solver_trail.proofs.Weaving.{loose_node, loose_has, sibling_literal, IsWoven-move, IsTaken-true, IsTaken-moved, IsTaken-forced}
+use Rattle.solver_trail.proofs.Weaving.{loose_node, loose_has, sibling_literal, sibling_in_clause, IsWoven-move, IsTaken-true, IsTaken-moved, IsTaken-forced}
+use Rattle.solver_trail.proofs.Reasoning.{forces_none, forces_one}
 use Rattle.solver_trail.proofs.Copying.{IsCopied-move}
 use Rattle.solver_trail.proofs.watches.Watches.take.Goals as goal
 
@@ -88,3 +89,23 @@ returns-in-Open-clause-copied c =
     let inside : c.in-Open.place < length c.args.arena.now.literals.items = omega (arith, found.0.1, (c.args.arena.now.in_order.ordered (c.args.node / 2) in_ends).1) in
     let moved = IsCopied-move _ _ _ _ _ c.in-Open.place c.index.result.now c.requires.copied (record { in_range = its.0; pair = its.1; in_clause = found.0; different = found.1 }) (c.index.ensures ∙ get_or_default c.args.arena.now.literals.items c.in-Open.place c.index.result.now (pos 0) inside) in
     rw (c.settle-in-Open.ensures.at, c.settle-in-Open.ensures.copies) (simp to_z-of_z moved)
+
+pub returns-in-True-clause-forced : goal.returns-in-True-clause-forced
+returns-in-True-clause-forced c = forces_none _ _ _ _
+
+pub returns-in-Open-clause-forced : goal.returns-in-Open-clause-forced
+returns-in-Open-clause-forced c = forces_none _ _ _ _
+
+pub returns-in-False-clause-forced : goal.returns-in-False-clause-forced
+returns-in-False-clause-forced c = forces_none _ _ _ _
+
+pub returns-in-Forced-clause-forced : goal.returns-in-Forced-clause-forced
+returns-in-Forced-clause-forced c =
+    let literal_fits : SFits w64 c.in-Forced.literal = search rules in
+    let its = c.requires.woven.loose c.args.node (loose_has c.args.self.now.lists c.args.node c.requires.first) in
+    let found = c.in-Forced.ensures in
+    let put = simp to_z-of_z at c.put.ensures.put in
+    let here : c.args.node / 2 + 1 - 1 ≡ c.args.node / 2 = omega arith in
+    let other = sibling_in_clause _ _ _ c.args.node its.1 in
+    let in_ends : c.args.node / 2 < length c.args.arena.now.ends.items = omega (arith, its.0, c.requires.woven.two_each) in
+    forces_one _ _ _ _ _ _ c.in-Forced.literal put (found.1, found.2) (omega arith, omega arith) (_, rw here other, sym found.0) (λ p i. found.3 p (rw here at i))

@@ -1,6 +1,7 @@
 use Rattle.std.proofs.Common.{◌≡◌, ◌+◌, ◌-◌, ◌/◌, ◌∙◌, ap, refl, neg_ℤ, arith}
 use Rattle.solver_trail.specs.Assignment.{Assignment}
 use Rattle.solver_trail.proofs.Weaving.{IsKept-trans, kept_true}
+use Rattle.solver_trail.proofs.Reasoning.{forces_none, forces_trans}
 use Rattle.solver_trail.proofs.watches.Watches.visit.Goals as goal
 
 pub returns-then-not-take-clause-false_clause : goal.returns-then-not-take-clause-false_clause
@@ -20,5 +21,9 @@ nodes-preserved c =
       woven = t.woven;
       copied = c.take.ensures.copied;
       kept = IsKept-trans _ _ _ _ _ _ _ _ i.kept t.kept;
+      forced = forces_trans _ _ _ _ _ _ i.forced c.take.ensures.forced;
       visited = λ w is_false v. t.visited w (kept_true _ _ _ _ _ _ (neg_ℤ w) i.kept is_false) (i.visited w is_false v);
     }
+
+pub returns-then-not-take-clause-forced : goal.returns-then-not-take-clause-forced
+returns-then-not-take-clause-forced c = forces_trans _ _ _ _ _ _ c.nodes.invariant.forced c.take.ensures.forced
