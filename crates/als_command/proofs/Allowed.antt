@@ -15,22 +15,23 @@ use Rattle.als_command.specs.Files.{Asked, IsFile, asked, asked_in, second_asked
 use Rattle.als_command.specs.Run.{AllowsFiles, IsOnModel, IsOnRing, IsOnProof, IsCheckedIn, RefusedFor, RefusedIn, model_in, model_of}
 use Rattle.als_command.specs.Root.{SpellsModule, ListsModule}
 use Rattle.als_command.specs.declared.answer.Answer.{Answer}
-use Rattle.als_command.specs.declared.answer.Answer.TheVariants.{Usage, Refused, ReadFault, Trace, Absent, Unknown, Made, Listed, Checked}
+use Rattle.als_command.specs.declared.answer.Answer.TheVariants.{Usage, Refused, ReadFault, Trace, Absent, Unknown, Made, Listed, Checked, Traced}
 use Rattle.als_command.specs.declared.files.File.TheVariants.{Whole, Broken}
 
 module _ (settings : Settings) (held : List (Option Texts)) (before now : List ℕ) where
   -- an answer on the text of a model, once all files are whole
   pub on_model : (text : List ℕ) → ((told : List Texts) → held ≡ map (λ t. Some t) told → model_of told settings ≡ Some text) → (a : Answer) →
-      IsOnModel settings text before now a → AllowsFiles [] settings held before now a
+      IsOnModel settings held text before now a → AllowsFiles [] settings held before now a
   on_model text is Usage h = absurd h
   on_model text is (Refused refusal name) h = (h.0, λ told tells. subst (λ o. RefusedIn o settings refusal name) (sym (is told tells)) h.1)
   on_model text is (ReadFault name) h = (inr h.0, h.1)
-  on_model text is (Trace bytes) h = (h.0, record { mode = h.1; whole = λ told tells. refl; spells = λ told tells. subst (λ o. SpellsModule o) (sym (is told tells)) h.2 })
+  on_model text is (Trace bytes) h = (h.0, record { mode = h.1; whole = λ told tells. refl; spells = λ told tells. subst (λ o. SpellsModule o) (sym (is told tells)) h.2 }, h.3)
   on_model text is (Absent bytes) h = (h.0, record { mode = h.1; whole = λ told tells. refl; spells = λ told tells. subst (λ o. SpellsModule o) (sym (is told tells)) h.2 }, h.3)
   on_model text is (Unknown bytes) h = (h.0, record { mode = h.1; whole = λ told tells. refl; spells = λ told tells. subst (λ o. SpellsModule o) (sym (is told tells)) h.2 }, h.3)
   on_model text is (Made bytes) h = absurd h
   on_model text is (Listed list) h = (h.0, record { mode = h.1; whole = λ told tells. refl; lists = λ told tells. subst (λ o. ListsModule o list) (sym (is told tells)) h.2 })
   on_model text is (Checked verdict clauses lines) h = absurd h
+  on_model text is (Traced said second) h = (h.0, record { whole = λ told tells. refl; spells = λ told tells. subst (λ o. SpellsModule o) (sym (is told tells)) h.1 }, h.2)
 
   -- a file that breaks a rule as a whole is refused
   pub on_broken : (name : List ℕ) (most : ℕ) (files : List Asked) (rule : Rule) → IsFile held name most before now (Broken rule) →
@@ -55,6 +56,7 @@ module _ (settings : Settings) (held : List (Option Texts)) (before now : List �
   on_whole name most files (Trace text) whole h = (
     h.0,
     record { mode = h.1.mode; whole = λ told tells. ap (λ o. first_of o name (first_broken told files)) (whole told tells) ∙ h.1.whole told tells; spells = h.1.spells },
+    h.2,
   )
   on_whole name most files (Absent text) whole h = (
     h.0,
@@ -80,6 +82,11 @@ module _ (settings : Settings) (held : List (Option Texts)) (before now : List �
       whole = λ told tells. ap (λ o. first_of o name (first_broken told files)) (whole told tells) ∙ h.1.whole told tells;
       checked = h.1.checked;
     },
+  )
+  on_whole name most files (Traced said second) whole h = (
+    h.0,
+    record { whole = λ told tells. ap (λ o. first_of o name (first_broken told files)) (whole told tells) ∙ h.1.whole told tells; spells = h.1.spells },
+    h.2,
   )
 
 -- a mode on one model asks for that model
@@ -130,16 +137,17 @@ model_in_one Least file second asks lrat text = refl
 model_in_one Core file second asks lrat text = refl
 
 -- the model is whole, and the answer is one on its text
-pub whole_allows : (settings : Settings) (held : List (Option Texts)) (before mid now : List ℕ) → asked settings ≡ (settings.file, MODULE_BYTES) ∷ [] → settings.mode ≢ Lrat →
-    (r : Result Answer AllocError) (answer : Answer) → r ≡ Ok answer → (text : Vec ℕ Global) → IsFile held settings.file MODULE_BYTES before mid (Whole text) →
-    IfOk r (IsOnModel settings text.items mid now) → AllowsFiles (asked settings) settings held before now answer
-whole_allows settings held before mid now asks lrat r answer is text file on =
+pub whole_allows : (settings : Settings) (held later : List (Option Texts)) (before mid now : List ℕ) → asked settings ≡ (settings.file, MODULE_BYTES) ∷ [] → settings.mode ≢ Lrat →
+    (r : Result Answer AllocError) (answer : Answer) → r ≡ Ok answer → (text : Vec ℕ Global) → IsFile held settings.file MODULE_BYTES before mid (Whole text) → later ≡ held →
+    IfOk r (IsOnModel settings later text.items mid now) → AllowsFiles (asked settings) settings held before now answer
+whole_allows settings held later before mid now asks lrat r answer is text file keeps on =
     let reads : (told : List Texts) → held ≡ map (λ t. Some t) told → model_of told settings ≡ Some text.items =
     λ told tells. model_in_one settings.mode settings.file settings.second asks lrat (texts.text_of told settings.file) ∙ (file.1 told tells).0 in
+    let one : IsOnModel settings held text.items mid now answer =
+    subst (λ h. IsOnModel settings h text.items mid now answer) keeps (if_ok (IsOnModel settings later text.items mid now) r answer on is) in
     subst (λ fs. AllowsFiles fs settings held before now answer) (sym asks)
     (on_whole settings held before now settings.file MODULE_BYTES [] answer (λ told tells. (file.1 told tells).1)
-    (subst (λ ns. AllowsFiles [] settings held ns now answer) file.0
-    (on_model settings held mid now text.items reads answer (if_ok (IsOnModel settings text.items mid now) r answer on is))))
+    (subst (λ ns. AllowsFiles [] settings held ns now answer) file.0 (on_model settings held mid now text.items reads answer one)))
 
 -- a file is whole, and the answer is one that the others allow
 pub then_allows : (settings : Settings) (held later : List (Option Texts)) (before mid now : List ℕ) (name : List ℕ) (most : ℕ) (files rest : List Asked) → files ≡ (name, most) ∷ rest →
@@ -174,17 +182,24 @@ proof_allows settings held before now name most mode second clauses tells text f
 pub has_one : (settings : Settings) → settings.mode ≡ Lrat → has_second settings ≡ true → is_some settings.second ≡ true
 has_one settings mode has = subst (λ m. cond (takes_second m) (is_some settings.second) (not (is_some settings.second)) ≡ true) mode has
 
+pub has_one_replay : (settings : Settings) → settings.mode ≡ Replay → has_second settings ≡ true → is_some settings.second ≡ true
+has_one_replay settings mode has = subst (λ m. cond (takes_second m) (is_some settings.second) (not (is_some settings.second)) ≡ true) mode has
+
+pub has_one_eval : (settings : Settings) → settings.mode ≡ Eval → has_second settings ≡ true → is_some settings.second ≡ true
+has_one_eval settings mode has = subst (λ m. cond (takes_second m) (is_some settings.second) (not (is_some settings.second)) ≡ true) mode has
+
 -- the answer on a model that is made
 ring_one : (settings : Settings) (held : List (Option Texts)) (before now : List ℕ) → settings.mode ≡ Make → (a : Answer) → IsOnRing before now a → AllowsFiles [] settings held before now a
 ring_one settings held before now mode Usage h = absurd h
 ring_one settings held before now mode (Refused refusal name) h = (h, λ told tells. inr (inr mode))
-ring_one settings held before now mode (ReadFault name) h = (inr (inr (mode, h.0)), h.1)
+ring_one settings held before now mode (ReadFault name) h = (inr (inr (inl (mode, h.0))), h.1)
 ring_one settings held before now mode (Trace text) h = absurd h
 ring_one settings held before now mode (Absent text) h = absurd h
 ring_one settings held before now mode (Unknown text) h = absurd h
 ring_one settings held before now mode (Made text) h = (h, mode)
 ring_one settings held before now mode (Listed list) h = absurd h
 ring_one settings held before now mode (Checked verdict clauses lines) h = absurd h
+ring_one settings held before now mode (Traced said second) h = absurd h
 
 pub ring_allows : (settings : Settings) (held : List (Option Texts)) (before now : List ℕ) → settings.mode ≡ Make → (r : Result Answer AllocError) (answer : Answer) → r ≡ Ok answer →
     IfOk r (IsOnRing before now) → AllowsFiles (asked settings) settings held before now answer

@@ -1,5 +1,5 @@
 -- How a run ends, status by status.
-use Rattle.std.proofs.Common.{◌≡◌, ◌≢◌, ◌⊎◌, ℕ, List, [], Option, Some, None, Result, Err, refl, sym, ap, ◌∙◌, subst, inl, inr, arith, map, append-nil}
+use Rattle.std.proofs.Common.{◌≡◌, ◌≢◌, ◌⊎◌, ℕ, List, [], ◌∷◌, Option, Some, None, Result, Err, refl, sym, ap, ◌∙◌, subst, inl, inr, arith, map, append-nil, true, false, IsTrue}
 use Rattle.std.specs.declared.alloc.AllocError.{AllocError}
 use Rattle.alloy_base.specs.Causes.{Rose}
 use Rattle.alloy_base.specs.Texts as texts
@@ -9,16 +9,21 @@ use Rattle.command_words.specs.declared.settings.Settings.{Settings}
 use Rattle.lrat_mode.specs.Mode as lrat
 use Rattle.lrat_mode.specs.declared.mode.Verdict.{Verdict}
 use Rattle.lrat_mode.specs.declared.mode.Verdict.TheVariants as says
+use Rattle.trace_judge.specs.Answer as traced
+use Rattle.trace_judge.specs.declared.answer.TraceAnswer.{TraceAnswer}
+use Rattle.trace_judge.specs.declared.answer.TraceAnswer.TheVariants as tell
 use Rattle.als_command.specs.Answer.{text_of, status_of, usage_line}
-use Rattle.als_command.specs.Files.{asked, asked_in, first_broken}
-use Rattle.als_command.specs.Run.{Allows, Written, written, no_memory, write_fault, Finished, delivered, gave_up, Justified, Refuses, Checks, Listing, Making, FailsToRead, FailsToWrite, Searches, FindsNone, LeavesOpen, IsStatus, IsProofOf, IsCheckedIn, RefusedFor, model_in, model_of}
+use Rattle.als_command.specs.Files.{asked, asked_in, file_rule, first_broken}
+use Rattle.alloy_base.specs.declared.limits.TheConstants.{FILE_BYTES}
+use Rattle.als_command.specs.Run.{Allows, Written, written, no_memory, write_fault, Finished, delivered, gave_up, Justified, Refuses, Checks, Listing, Making, FailsToRead, FailsToWrite, FindsTrace, FindsNone, LeavesOpen, Tells, IsStatus, IsProofOf, IsCheckedIn, RefusedFor, looks, reads_trace, analyses, IsSaid, IsOneOf, statuses_of, model_in, model_of}
 use Rattle.als_command.specs.Root.{SpellsModule, ListsModule, SpellIn}
 use Rattle.als_lexer.specs.Tokens.{tokens_of}
 use Rattle.alloy_base.specs.declared.place.Refusal.{Refusal}
-use Rattle.command_words.specs.declared.named.Mode.TheVariants.{Lrat, Make}
+use Rattle.command_words.specs.declared.named.Mode.{Mode}
+use Rattle.command_words.specs.declared.named.Mode.TheVariants.{Exec, Commands, Lrat, Make, Replay, Eval, Least, Core}
 use Rattle.verdict_laws.proofs.Verdicts.{one_verdict}
 use Rattle.als_command.specs.declared.answer.Answer.{Answer}
-use Rattle.als_command.specs.declared.answer.Answer.TheVariants.{Usage, Refused, ReadFault, Trace, Absent, Unknown, Made, Listed, Checked}
+use Rattle.als_command.specs.declared.answer.Answer.TheVariants.{Usage, Refused, ReadFault, Trace, Absent, Unknown, Made, Listed, Checked, Traced}
 
 -- an empty text is written by no call
 pub nothing_written : (old : Option (List ℕ)) → Written old old []
@@ -39,6 +44,100 @@ other_status v n zero one three is = elim (verdict_status v) [
   | inr rest ↦ elim rest [ inl e ↦ one (sym is ∙ e) | inr e ↦ three (sym is ∙ e) ]
 ]
 
+traced_status : (s : TraceAnswer) → (traced.status_of s ≡ 0) ⊎ (traced.status_of s ≡ 1) ⊎ (traced.status_of s ≡ 3)
+traced_status (tell.Judged true text) = inl refl
+traced_status (tell.Judged false text) = inr (inl refl)
+traced_status (tell.Valued text) = inl refl
+traced_status (tell.BadTrace line) = inr (inr refl)
+
+-- what is said of a trace has no other status
+other_traced : (s : TraceAnswer) (n : ℕ) → n ≢ 0 → n ≢ 1 → n ≢ 3 → traced.status_of s ≡ n → ⊥
+other_traced s n zero one three is = elim (traced_status s) [
+  | inl e ↦ zero (sym is ∙ e)
+  | inr rest ↦ elim rest [ inl e ↦ one (sym is ∙ e) | inr e ↦ three (sym is ∙ e) ]
+]
+
+-- a mode that reads a trace is none of the others
+no_trace_lrat : (m : Mode) (trace : List ℕ) (s : TraceAnswer) → m ≡ Lrat → IsSaid m trace s → ⊥
+no_trace_lrat m trace s is on = absurd (subst (λ k. IsSaid k trace s) is on)
+
+-- a mode that analyses a model checks no proof
+no_lrat_analyses : (m : Mode) → m ≡ Lrat → IsTrue (analyses m) → ⊥
+no_lrat_analyses m is on = absurd (subst (λ k. IsTrue (analyses k)) is on)
+
+no_lrat_looks : (m : Mode) → m ≡ Lrat → IsTrue (looks m) → ⊥
+no_lrat_looks m is on = absurd (subst (λ k. IsTrue (looks k)) is on)
+
+-- a mode that looks for traces reads none
+no_trace_looks : (m : Mode) → IsTrue (looks m) → IsTrue (reads_trace m) → ⊥
+no_trace_looks Exec on reads = absurd reads
+no_trace_looks Least on reads = absurd reads
+no_trace_looks Core on reads = absurd reads
+no_trace_looks Commands on reads = absurd on
+no_trace_looks Lrat on reads = absurd on
+no_trace_looks Make on reads = absurd on
+no_trace_looks Replay on reads = absurd on
+no_trace_looks Eval on reads = absurd on
+
+no_trace_in : (m k : Mode) → m ≡ k → IsTrue (reads_trace m) → IsTrue (reads_trace k)
+no_trace_in m k is reads = subst (λ j. IsTrue (reads_trace j)) is reads
+
+-- the statuses of a search
+ten_of : (m : Mode) → IsTrue (looks m) → IsOneOf 10 (statuses_of m)
+ten_of Exec on = inl refl
+ten_of Least on = inl refl
+ten_of Core on = inl refl
+ten_of Commands on = absurd on
+ten_of Lrat on = absurd on
+ten_of Make on = absurd on
+ten_of Replay on = absurd on
+ten_of Eval on = absurd on
+
+twenty_of : (m : Mode) → IsTrue (looks m) → IsOneOf 20 (statuses_of m)
+twenty_of Exec on = inr (inl refl)
+twenty_of Least on = inr (inl refl)
+twenty_of Core on = inr (inl refl)
+twenty_of Commands on = absurd on
+twenty_of Lrat on = absurd on
+twenty_of Make on = absurd on
+twenty_of Replay on = absurd on
+twenty_of Eval on = absurd on
+
+thirty_of : (m : Mode) → IsTrue (looks m) → IsOneOf 30 (statuses_of m)
+thirty_of Exec on = inr (inr (inl refl))
+thirty_of Least on = inr (inr (inl refl))
+thirty_of Core on = inr (inr (inl refl))
+thirty_of Commands on = absurd on
+thirty_of Lrat on = absurd on
+thirty_of Make on = absurd on
+thirty_of Replay on = absurd on
+thirty_of Eval on = absurd on
+
+-- one of the statuses of a mode, or that of a refusal or of a library's fault
+abbrev Among : Mode → ℕ → Type 0
+Among m n = IsOneOf n (statuses_of m) ⊎ ((n ≡ 3) ⊎ (n ≡ 4))
+
+verdict_among : (v : Verdict) → Among Lrat (lrat.status_of v)
+verdict_among v = elim (verdict_status v) [
+  | inl e ↦ inl (inl e)
+  | inr rest ↦ elim rest [ inl e ↦ inl (inr (inl e)) | inr e ↦ inr (inl e) ]
+]
+
+said_among : (m : Mode) (trace : List ℕ) (s : TraceAnswer) → IsSaid m trace s → Among m (traced.status_of s)
+said_among Replay trace (tell.Judged true text) on = inl (inl refl)
+said_among Replay trace (tell.Judged false text) on = inl (inr (inl refl))
+said_among Replay trace (tell.Valued text) on = absurd on
+said_among Replay trace (tell.BadTrace line) on = inr (inl refl)
+said_among Eval trace (tell.Judged satisfied text) on = absurd on
+said_among Eval trace (tell.Valued text) on = inl (inl refl)
+said_among Eval trace (tell.BadTrace line) on = inr (inl refl)
+said_among Exec trace s on = absurd on
+said_among Least trace s on = absurd on
+said_among Core trace s on = absurd on
+said_among Commands trace s on = absurd on
+said_among Lrat trace s on = absurd on
+said_among Make trace s on = absurd on
+
 -- an answer's own status is neither of the two that say that it couldn't be delivered
 not_five : (a : Answer) → status_of a ≡ 5 → ⊥
 not_five Usage is = omega arith
@@ -50,6 +149,7 @@ not_five (Unknown text) is = omega arith
 not_five (Made text) is = omega arith
 not_five (Listed list) is = omega arith
 not_five (Checked v clauses lines) is = other_status v 5 (λ e. omega arith) (λ e. omega arith) (λ e. omega arith) is
+not_five (Traced s second) is = other_traced s 5 (λ e. omega arith) (λ e. omega arith) (λ e. omega arith) is
 
 not_six : (a : Answer) → status_of a ≡ 6 → ⊥
 not_six Usage is = omega arith
@@ -61,6 +161,7 @@ not_six (Unknown text) is = omega arith
 not_six (Made text) is = omega arith
 not_six (Listed list) is = omega arith
 not_six (Checked v clauses lines) is = other_status v 6 (λ e. omega arith) (λ e. omega arith) (λ e. omega arith) is
+not_six (Traced s second) is = other_traced s 6 (λ e. omega arith) (λ e. omega arith) (λ e. omega arith) is
 
 answer_status : (a : Answer) → IsStatus (status_of a)
 answer_status Usage = inr (inr (inl refl))
@@ -72,6 +173,10 @@ answer_status (Unknown text) = inr (inr (inr (inr (inr (inr (inr (inr (inr refl)
 answer_status (Made text) = inl refl
 answer_status (Listed list) = inl refl
 answer_status (Checked v clauses lines) = elim (verdict_status v) [
+  | inl e ↦ inl e
+  | inr rest ↦ elim rest [ inl e ↦ inr (inl e) | inr e ↦ inr (inr (inr (inl e))) ]
+]
+answer_status (Traced s second) = elim (traced_status s) [
   | inl e ↦ inl e
   | inr rest ↦ elim rest [ inl e ↦ inr (inl e) | inr e ↦ inr (inr (inr (inl e))) ]
 ]
@@ -100,6 +205,7 @@ module _ (given : Option Settings) (held : List (Option Texts)) (before now : Li
   usage_given None (Made text) allows is = absurd allows
   usage_given None (Listed list) allows is = absurd allows
   usage_given None (Checked v clauses lines) allows is = absurd allows
+  usage_given None (Traced s second) allows is = absurd allows
   usage_given (Some settings) Usage allows is = absurd allows
   usage_given (Some settings) (Refused refusal name) allows is = absurd (omega arith)
   usage_given (Some settings) (ReadFault name) allows is = absurd (omega arith)
@@ -109,6 +215,7 @@ module _ (given : Option Settings) (held : List (Option Texts)) (before now : Li
   usage_given (Some settings) (Made text) allows is = absurd (omega arith)
   usage_given (Some settings) (Listed list) allows is = absurd (omega arith)
   usage_given (Some settings) (Checked v clauses lines) allows is = absurd (other_status v 2 (λ e. omega arith) (λ e. omega arith) (λ e. omega arith) is)
+  usage_given (Some settings) (Traced s second) allows is = absurd (other_traced s 2 (λ e. omega arith) (λ e. omega arith) (λ e. omega arith) is)
 
   usage_where_none : (a : Answer) → Allows None held before now a → status_of a ≡ 2
   usage_where_none Usage allows = refl
@@ -120,8 +227,9 @@ module _ (given : Option Settings) (held : List (Option Texts)) (before now : Li
   usage_where_none (Made text) allows = absurd allows
   usage_where_none (Listed list) allows = absurd allows
   usage_where_none (Checked v clauses lines) allows = absurd allows
+  usage_where_none (Traced s second) allows = absurd allows
 
-  refused_given : (o : Option Settings) (a : Answer) (old new : Option (List ℕ)) → Allows o held before now a → status_of a ≡ 3 → Written old new (text_of a) → Refuses o held old new ⊎ Checks o held old new 3
+  refused_given : (o : Option Settings) (a : Answer) (old new : Option (List ℕ)) → Allows o held before now a → status_of a ≡ 3 → Written old new (text_of a) → Refuses o held old new ⊎ (Checks o held old new 3 ⊎ Tells o held old new 3)
   refused_given None Usage old new allows is line = absurd (omega arith)
   refused_given None (Refused refusal name) old new allows is line = absurd allows
   refused_given None (ReadFault name) old new allows is line = absurd allows
@@ -131,6 +239,7 @@ module _ (given : Option Settings) (held : List (Option Texts)) (before now : Li
   refused_given None (Made text) old new allows is line = absurd allows
   refused_given None (Listed list) old new allows is line = absurd allows
   refused_given None (Checked v clauses lines) old new allows is line = absurd allows
+  refused_given None (Traced s second) old new allows is line = absurd allows
   refused_given (Some settings) Usage old new allows is line = absurd allows
   refused_given (Some settings) (Refused refusal name) old new allows is line =
       inl (record { settings = settings; refusal = refusal; name = name; fit = refl; cause = allows.1; line = line })
@@ -141,9 +250,11 @@ module _ (given : Option Settings) (held : List (Option Texts)) (before now : Li
   refused_given (Some settings) (Made text) old new allows is line = absurd (omega arith)
   refused_given (Some settings) (Listed list) old new allows is line = absurd (omega arith)
   refused_given (Some settings) (Checked v clauses lines) old new allows is line =
-      inr (record { settings = settings; verdict = v; clauses = clauses; lines = lines; fit = refl; cause = allows.1; line = line; has = sym is })
+      inr (inl (record { settings = settings; verdict = v; clauses = clauses; lines = lines; fit = refl; cause = allows.1; line = line; has = sym is }))
+  refused_given (Some settings) (Traced s second) old new allows is line =
+      inr (inr (record { settings = settings; said = s; second = second; fit = refl; model = allows.1; cause = allows.2; line = line; has = sym is }))
 
-  checked_given : (o : Option Settings) (a : Answer) (old new : Option (List ℕ)) (n : ℕ) → Allows o held before now a → status_of a ≡ n → (n ≡ 0) ⊎ (n ≡ 1) → Written old new (text_of a) → Checks o held old new n ⊎ ((n ≡ 0) × (Listing o held old new ⊎ Making o))
+  checked_given : (o : Option Settings) (a : Answer) (old new : Option (List ℕ)) (n : ℕ) → Allows o held before now a → status_of a ≡ n → (n ≡ 0) ⊎ (n ≡ 1) → Written old new (text_of a) → Checks o held old new n ⊎ (((n ≡ 0) × (Listing o held old new ⊎ Making o)) ⊎ Tells o held old new n)
   checked_given None Usage old new n allows is low line = elim low [ inl e ↦ absurd (omega arith) | inr e ↦ absurd (omega arith) ]
   checked_given None (Refused refusal name) old new n allows is low line = absurd allows
   checked_given None (ReadFault name) old new n allows is low line = absurd allows
@@ -153,17 +264,20 @@ module _ (given : Option Settings) (held : List (Option Texts)) (before now : Li
   checked_given None (Made text) old new n allows is low line = absurd allows
   checked_given None (Listed list) old new n allows is low line = absurd allows
   checked_given None (Checked v clauses lines) old new n allows is low line = absurd allows
+  checked_given None (Traced s second) old new n allows is low line = absurd allows
   checked_given (Some settings) Usage old new n allows is low line = absurd allows
   checked_given (Some settings) (Refused refusal name) old new n allows is low line = elim low [ inl e ↦ absurd (omega arith) | inr e ↦ absurd (omega arith) ]
   checked_given (Some settings) (ReadFault name) old new n allows is low line = elim low [ inl e ↦ absurd (omega arith) | inr e ↦ absurd (omega arith) ]
   checked_given (Some settings) (Trace text) old new n allows is low line = elim low [ inl e ↦ absurd (omega arith) | inr e ↦ absurd (omega arith) ]
   checked_given (Some settings) (Absent text) old new n allows is low line = elim low [ inl e ↦ absurd (omega arith) | inr e ↦ absurd (omega arith) ]
   checked_given (Some settings) (Unknown text) old new n allows is low line = elim low [ inl e ↦ absurd (omega arith) | inr e ↦ absurd (omega arith) ]
-  checked_given (Some settings) (Made text) old new n allows is low line = inr (sym is, inr (record { settings = settings; fit = refl; mode = allows.1 }))
+  checked_given (Some settings) (Made text) old new n allows is low line = inr (inl (sym is, inr (record { settings = settings; fit = refl; mode = allows.1 })))
   checked_given (Some settings) (Listed list) old new n allows is low line =
-      inr (sym is, inl (record { settings = settings; list = list; fit = refl; cause = allows.1; line = line }))
+      inr (inl (sym is, inl (record { settings = settings; list = list; fit = refl; cause = allows.1; line = line })))
   checked_given (Some settings) (Checked v clauses lines) old new n allows is low line =
       inl (record { settings = settings; verdict = v; clauses = clauses; lines = lines; fit = refl; cause = allows.1; line = line; has = sym is })
+  checked_given (Some settings) (Traced s second) old new n allows is low line =
+      inr (inr (record { settings = settings; said = s; second = second; fit = refl; model = allows.1; cause = allows.2; line = line; has = sym is }))
 
   -- where the files of a proof are whole, the answer is the verdict on their texts, unless a library failed
   proof_given : (settings : Settings) (a : Answer) (told : List Texts) (name clauses lines : List ℕ) (verdict : Verdict) → Allows (Some settings) held before now a → held ≡ map (λ t. Some t) told →
@@ -173,12 +287,12 @@ module _ (given : Option Settings) (held : List (Option Texts)) (before now : Li
       let why : RefusedFor None (model_of told settings) settings refusal n = subst (λ o. RefusedFor o (model_of told settings) settings refusal n) is.whole (allows.1 told tells) in
       elim why [
         | inl one ↦ absurd (one.2 is.mode)
-        | inr other ↦ elim other [ inl searches ↦ cc (searches.0, is.mode) | inr makes ↦ cc (makes, is.mode) ]
+        | inr other ↦ elim other [ inl searches ↦ absurd (no_lrat_analyses settings.mode is.mode searches.0) | inr makes ↦ cc (makes, is.mode) ]
       ]
   proof_given settings (ReadFault n) told name clauses lines verdict allows tells is = inr refl
-  proof_given settings (Trace text) told name clauses lines verdict allows tells is = cc (allows.1.mode, is.mode)
-  proof_given settings (Absent text) told name clauses lines verdict allows tells is = cc (allows.1.mode, is.mode)
-  proof_given settings (Unknown text) told name clauses lines verdict allows tells is = cc (allows.1.mode, is.mode)
+  proof_given settings (Trace text) told name clauses lines verdict allows tells is = absurd (no_lrat_looks settings.mode is.mode allows.1.mode)
+  proof_given settings (Absent text) told name clauses lines verdict allows tells is = absurd (no_lrat_looks settings.mode is.mode allows.1.mode)
+  proof_given settings (Unknown text) told name clauses lines verdict allows tells is = absurd (no_lrat_looks settings.mode is.mode allows.1.mode)
   proof_given settings (Made text) told name clauses lines verdict allows tells is = cc (allows.1, is.mode)
   proof_given settings (Listed list) told name clauses lines verdict allows tells is = cc (allows.1.mode, is.mode)
   proof_given settings (Checked v first second) told name clauses lines verdict allows tells is =
@@ -187,6 +301,7 @@ module _ (given : Option Settings) (held : List (Option Texts)) (before now : Li
       let two : texts.text_of told second ≡ Some lines = ap (texts.text_of told) named ∙ is.lines_are in
       let on : IsCheckedIn (Some clauses) (Some lines) v = subst (λ o. IsCheckedIn (Some clauses) o v) two (subst (λ o. IsCheckedIn o (texts.text_of told second) v) one (allows.1.checked told tells)) in
       inl (ap lrat.status_of (one_verdict clauses lines v verdict on.verdict_on is.verdict_on))
+  proof_given settings (Traced s n) told name clauses lines verdict allows tells is = absurd (no_trace_lrat settings.mode allows.2.trace s is.mode allows.2.on)
 
   read_fault_given : (o : Option Settings) (a : Answer) (old new : Option (List ℕ)) → Allows o held before now a → status_of a ≡ 4 → Written old new (text_of a) → FailsToRead o before now old new
   read_fault_given None Usage old new allows is line = absurd (omega arith)
@@ -198,6 +313,7 @@ module _ (given : Option Settings) (held : List (Option Texts)) (before now : Li
   read_fault_given None (Made text) old new allows is line = absurd allows
   read_fault_given None (Listed list) old new allows is line = absurd allows
   read_fault_given None (Checked v clauses lines) old new allows is line = absurd allows
+  read_fault_given None (Traced s second) old new allows is line = absurd allows
   read_fault_given (Some settings) Usage old new allows is line = absurd allows
   read_fault_given (Some settings) (Refused refusal name) old new allows is line = absurd (omega arith)
   read_fault_given (Some settings) (ReadFault name) old new allows is line =
@@ -208,26 +324,29 @@ module _ (given : Option Settings) (held : List (Option Texts)) (before now : Li
   read_fault_given (Some settings) (Made text) old new allows is line = absurd (omega arith)
   read_fault_given (Some settings) (Listed list) old new allows is line = absurd (omega arith)
   read_fault_given (Some settings) (Checked v clauses lines) old new allows is line = absurd (other_status v 4 (λ e. omega arith) (λ e. omega arith) (λ e. omega arith) is)
+  read_fault_given (Some settings) (Traced s second) old new allows is line = absurd (other_traced s 4 (λ e. omega arith) (λ e. omega arith) (λ e. omega arith) is)
 
-  searched_given : (o : Option Settings) (a : Answer) → Allows o held before now a → status_of a ≡ 10 → Searches o held
-  searched_given None Usage allows is = absurd (omega arith)
-  searched_given None (Refused refusal name) allows is = absurd allows
-  searched_given None (ReadFault name) allows is = absurd allows
-  searched_given None (Trace text) allows is = absurd allows
-  searched_given None (Absent text) allows is = absurd allows
-  searched_given None (Unknown text) allows is = absurd allows
-  searched_given None (Made text) allows is = absurd allows
-  searched_given None (Listed list) allows is = absurd allows
-  searched_given None (Checked v clauses lines) allows is = absurd allows
-  searched_given (Some settings) Usage allows is = absurd allows
-  searched_given (Some settings) (Refused refusal name) allows is = absurd (omega arith)
-  searched_given (Some settings) (ReadFault name) allows is = absurd (omega arith)
-  searched_given (Some settings) (Trace text) allows is = record { settings = settings; fit = refl; searched = allows.1 }
-  searched_given (Some settings) (Absent text) allows is = absurd (omega arith)
-  searched_given (Some settings) (Unknown text) allows is = absurd (omega arith)
-  searched_given (Some settings) (Made text) allows is = absurd (omega arith)
-  searched_given (Some settings) (Listed list) allows is = absurd (omega arith)
-  searched_given (Some settings) (Checked v clauses lines) allows is = absurd (other_status v 10 (λ e. omega arith) (λ e. omega arith) (λ e. omega arith) is)
+  trace_given : (o : Option Settings) (a : Answer) (old new : Option (List ℕ)) → Allows o held before now a → status_of a ≡ 10 → Written old new (text_of a) → FindsTrace o held old new
+  trace_given None Usage old new allows is line = absurd (omega arith)
+  trace_given None (Refused refusal name) old new allows is line = absurd allows
+  trace_given None (ReadFault name) old new allows is line = absurd allows
+  trace_given None (Trace text) old new allows is line = absurd allows
+  trace_given None (Absent text) old new allows is line = absurd allows
+  trace_given None (Unknown text) old new allows is line = absurd allows
+  trace_given None (Made text) old new allows is line = absurd allows
+  trace_given None (Listed list) old new allows is line = absurd allows
+  trace_given None (Checked v clauses lines) old new allows is line = absurd allows
+  trace_given None (Traced s second) old new allows is line = absurd allows
+  trace_given (Some settings) Usage old new allows is line = absurd allows
+  trace_given (Some settings) (Refused refusal name) old new allows is line = absurd (omega arith)
+  trace_given (Some settings) (ReadFault name) old new allows is line = absurd (omega arith)
+  trace_given (Some settings) (Trace text) old new allows is line = record { settings = settings; text = text; fit = refl; searched = allows.1; shown = allows.2; line = line }
+  trace_given (Some settings) (Absent text) old new allows is line = absurd (omega arith)
+  trace_given (Some settings) (Unknown text) old new allows is line = absurd (omega arith)
+  trace_given (Some settings) (Made text) old new allows is line = absurd (omega arith)
+  trace_given (Some settings) (Listed list) old new allows is line = absurd (omega arith)
+  trace_given (Some settings) (Checked v clauses lines) old new allows is line = absurd (other_status v 10 (λ e. omega arith) (λ e. omega arith) (λ e. omega arith) is)
+  trace_given (Some settings) (Traced s second) old new allows is line = absurd (other_traced s 10 (λ e. omega arith) (λ e. omega arith) (λ e. omega arith) is)
 
   absent_given : (o : Option Settings) (a : Answer) (old new : Option (List ℕ)) → Allows o held before now a → status_of a ≡ 20 → Written old new (text_of a) → FindsNone o held old new
   absent_given None Usage old new allows is line = absurd (omega arith)
@@ -239,6 +358,7 @@ module _ (given : Option Settings) (held : List (Option Texts)) (before now : Li
   absent_given None (Made text) old new allows is line = absurd allows
   absent_given None (Listed list) old new allows is line = absurd allows
   absent_given None (Checked v clauses lines) old new allows is line = absurd allows
+  absent_given None (Traced s second) old new allows is line = absurd allows
   absent_given (Some settings) Usage old new allows is line = absurd allows
   absent_given (Some settings) (Refused refusal name) old new allows is line = absurd (omega arith)
   absent_given (Some settings) (ReadFault name) old new allows is line = absurd (omega arith)
@@ -248,6 +368,7 @@ module _ (given : Option Settings) (held : List (Option Texts)) (before now : Li
   absent_given (Some settings) (Made text) old new allows is line = absurd (omega arith)
   absent_given (Some settings) (Listed list) old new allows is line = absurd (omega arith)
   absent_given (Some settings) (Checked v clauses lines) old new allows is line = absurd (other_status v 20 (λ e. omega arith) (λ e. omega arith) (λ e. omega arith) is)
+  absent_given (Some settings) (Traced s second) old new allows is line = absurd (other_traced s 20 (λ e. omega arith) (λ e. omega arith) (λ e. omega arith) is)
 
   unknown_given : (o : Option Settings) (a : Answer) (old new : Option (List ℕ)) → Allows o held before now a → status_of a ≡ 30 → Written old new (text_of a) → LeavesOpen o held old new
   unknown_given None Usage old new allows is line = absurd (omega arith)
@@ -259,6 +380,7 @@ module _ (given : Option Settings) (held : List (Option Texts)) (before now : Li
   unknown_given None (Made text) old new allows is line = absurd allows
   unknown_given None (Listed list) old new allows is line = absurd allows
   unknown_given None (Checked v clauses lines) old new allows is line = absurd allows
+  unknown_given None (Traced s second) old new allows is line = absurd allows
   unknown_given (Some settings) Usage old new allows is line = absurd allows
   unknown_given (Some settings) (Refused refusal name) old new allows is line = absurd (omega arith)
   unknown_given (Some settings) (ReadFault name) old new allows is line = absurd (omega arith)
@@ -268,6 +390,7 @@ module _ (given : Option Settings) (held : List (Option Texts)) (before now : Li
   unknown_given (Some settings) (Made text) old new allows is line = absurd (omega arith)
   unknown_given (Some settings) (Listed list) old new allows is line = absurd (omega arith)
   unknown_given (Some settings) (Checked v clauses lines) old new allows is line = absurd (other_status v 30 (λ e. omega arith) (λ e. omega arith) (λ e. omega arith) is)
+  unknown_given (Some settings) (Traced s second) old new allows is line = absurd (other_traced s 30 (λ e. omega arith) (λ e. omega arith) (λ e. omega arith) is)
 
   -- where a file breaks a rule as a whole, the answer is a refusal or a library's fault
   broken_given : (settings : Settings) (a : Answer) (told : List Texts) (broken : Rule × List ℕ) → Allows (Some settings) held before now a → held ≡ map (λ t. Some t) told →
@@ -283,6 +406,37 @@ module _ (given : Option Settings) (held : List (Option Texts)) (before now : Li
       cc (ap (first_broken told) none, breaks)
   broken_given settings (Listed list) told broken allows tells breaks = cc (allows.1.whole told tells, breaks)
   broken_given settings (Checked v clauses lines) told broken allows tells breaks = cc (allows.1.whole told tells, breaks)
+  broken_given settings (Traced s second) told broken allows tells breaks = cc (allows.1.whole told tells, breaks)
+
+  -- where the file of a trace breaks a rule as a whole, the answer is a refusal or a library's fault
+  second_given : (settings : Settings) (a : Answer) (told : List Texts) (second : List ℕ) (rule : Rule) → Allows (Some settings) held before now a → held ≡ map (λ t. Some t) told →
+      IsTrue (reads_trace settings.mode) → settings.second ≡ Some second → file_rule told (second, FILE_BYTES) ≡ Some rule → (status_of a ≡ 3) ⊎ (status_of a ≡ 4)
+  second_given settings Usage told second rule allows tells mode named breaks = absurd allows
+  second_given settings (Refused refusal name) told second rule allows tells mode named breaks = inl refl
+  second_given settings (ReadFault name) told second rule allows tells mode named breaks = inr refl
+  second_given settings (Trace text) told second rule allows tells mode named breaks = absurd (no_trace_looks settings.mode allows.1.mode mode)
+  second_given settings (Absent text) told second rule allows tells mode named breaks = absurd (no_trace_looks settings.mode allows.1.mode mode)
+  second_given settings (Unknown text) told second rule allows tells mode named breaks = absurd (no_trace_looks settings.mode allows.1.mode mode)
+  second_given settings (Made text) told second rule allows tells mode named breaks = absurd (no_trace_in settings.mode Make allows.1 mode)
+  second_given settings (Listed list) told second rule allows tells mode named breaks = absurd (no_trace_in settings.mode Commands allows.1.mode mode)
+  second_given settings (Checked v clauses lines) told second rule allows tells mode named breaks = absurd (no_trace_in settings.mode Lrat allows.1.mode mode)
+  second_given settings (Traced s n) told second rule allows tells mode named breaks =
+      let same : n ≡ second = cc (allows.2.named, named) in
+      let whole : file_rule told (second, FILE_BYTES) ≡ None = subst (λ x. file_rule told (x, FILE_BYTES) ≡ None) same (allows.2.tells told tells).1 in
+      cc (whole, breaks)
+
+  -- each mode has its own statuses
+  mode_given : (settings : Settings) (a : Answer) → Allows (Some settings) held before now a → Among settings.mode (status_of a)
+  mode_given settings Usage allows = absurd allows
+  mode_given settings (Refused refusal name) allows = inr (inl refl)
+  mode_given settings (ReadFault name) allows = inr (inr refl)
+  mode_given settings (Trace text) allows = inl (ten_of settings.mode allows.1.mode)
+  mode_given settings (Absent text) allows = inl (twenty_of settings.mode allows.1.mode)
+  mode_given settings (Unknown text) allows = inl (thirty_of settings.mode allows.1.mode)
+  mode_given settings (Made text) allows = subst (λ m. Among m 0) (sym allows.1) (inl (inl refl))
+  mode_given settings (Listed list) allows = subst (λ m. Among m 0) (sym allows.1.mode) (inl (inl refl))
+  mode_given settings (Checked v clauses lines) allows = subst (λ m. Among m (lrat.status_of v)) (sym allows.1.mode) (verdict_among v)
+  mode_given settings (Traced s n) allows = said_among settings.mode allows.2.trace s allows.2.on
 
   -- a text that can't be cut into tokens spells no module
   uncut : (model : Option (List ℕ)) (text : List ℕ) (refusal : Refusal) → model ≡ Some text → tokens_of 0 text ≡ Err refusal → SpellsModule model → ⊥
@@ -321,6 +475,7 @@ module _ (given : Option Settings) (held : List (Option Texts)) (before now : Li
   uncut_given settings (Made bytes) told text refusal allows tells is cut = absurd (no_model_made settings told text allows.1 is)
   uncut_given settings (Listed list) told text refusal allows tells is cut = absurd (uncut (model_of told settings) text refusal is cut (listed_spells (model_of told settings) list (allows.1.lists told tells)))
   uncut_given settings (Checked v clauses lines) told text refusal allows tells is cut = absurd (no_model settings told text allows.1.mode is)
+  uncut_given settings (Traced s second) told text refusal allows tells is cut = absurd (uncut (model_of told settings) text refusal is cut (allows.1.spells told tells))
 
   -- where a count has changed, the answer is a library's fault
   risen_given : (o : Option Settings) (a : Answer) → Allows o held before now a → now ≢ before → status_of a ≡ 4
@@ -333,6 +488,7 @@ module _ (given : Option Settings) (held : List (Option Texts)) (before now : Li
   risen_given None (Made text) allows other = absurd allows
   risen_given None (Listed list) allows other = absurd allows
   risen_given None (Checked v clauses lines) allows other = absurd allows
+  risen_given None (Traced s second) allows other = absurd allows
   risen_given (Some settings) Usage allows other = absurd allows
   risen_given (Some settings) (Refused refusal name) allows other = absurd (other allows.0)
   risen_given (Some settings) (ReadFault name) allows other = refl
@@ -342,6 +498,7 @@ module _ (given : Option Settings) (held : List (Option Texts)) (before now : Li
   risen_given (Some settings) (Made text) allows other = absurd (other allows.0)
   risen_given (Some settings) (Listed list) allows other = absurd (other allows.0)
   risen_given (Some settings) (Checked v clauses lines) allows other = absurd (other allows.0)
+  risen_given (Some settings) (Traced s second) allows other = absurd (other allows.0)
 
   module _ (old new : Option (List ℕ)) (f g s : ℕ) where
     -- an answer with this status was written
@@ -378,12 +535,12 @@ module _ (given : Option Settings) (held : List (Option Texts)) (before now : Li
           | inr rest ↦ elim rest [ inl five ↦ inr (inl five) | inr six ↦ inr (inr six) ]
         ]
 
-    pub refused : (r : Result Answer AllocError) → Justified given held before now r → Finished r old new f g s → s ≡ 3 → Refuses given held old new ⊎ Checks given held old new 3
+    pub refused : (r : Result Answer AllocError) → Justified given held before now r → Finished r old new f g s → s ≡ 3 → Refuses given held old new ⊎ (Checks given held old new 3 ⊎ Tells given held old new 3)
     refused r justified finished is =
         let told = said 3 r justified finished is (λ e. omega arith) (λ e. omega arith) in
         refused_given given told.answer old new told.allowed told.has told.line
 
-    pub checked : (r : Result Answer AllocError) → Justified given held before now r → Finished r old new f g s → (s ≡ 0) ⊎ (s ≡ 1) → Checks given held old new s ⊎ ((s ≡ 0) × (Listing given held old new ⊎ Making given))
+    pub checked : (r : Result Answer AllocError) → Justified given held before now r → Finished r old new f g s → (s ≡ 0) ⊎ (s ≡ 1) → Checks given held old new s ⊎ (((s ≡ 0) × (Listing given held old new ⊎ Making given)) ⊎ Tells given held old new s)
     checked r justified finished low =
         let told = said s r justified finished refl (λ e. elim low [ inl z ↦ omega arith | inr o ↦ omega arith ]) (λ e. elim low [ inl z ↦ omega arith | inr o ↦ omega arith ]) in
         checked_given given told.answer old new s told.allowed told.has low told.line
@@ -412,6 +569,26 @@ module _ (given : Option Settings) (held : List (Option Texts)) (before now : Li
           | inr rest ↦ elim rest [ inl five ↦ inr (inr (inl five)) | inr six ↦ inr (inr (inr six)) ]
         ]
 
+    pub second_always : (r : Result Answer AllocError) → Justified given held before now r → Finished r old new f g s → (settings : Settings) (told : List Texts) (second : List ℕ) (rule : Rule) →
+        given ≡ Some settings → held ≡ map (λ t. Some t) told → IsTrue (reads_trace settings.mode) → settings.second ≡ Some second → file_rule told (second, FILE_BYTES) ≡ Some rule →
+        (s ≡ 3) ⊎ (s ≡ 4) ⊎ (s ≡ 5) ⊎ (s ≡ 6)
+    second_always r justified finished settings told second rule fit tells mode named breaks =
+        elim (ends (λ n. (n ≡ 3) ⊎ (n ≡ 4)) r justified finished (λ a allows. second_given settings a told second rule (subst (λ o. Allows o held before now a) fit allows) tells mode named breaks)) [
+          | inl either ↦ elim either [ inl three ↦ inl three | inr four ↦ inr (inl four) ]
+          | inr rest ↦ elim rest [ inl five ↦ inr (inr (inl five)) | inr six ↦ inr (inr (inr six)) ]
+        ]
+
+    pub modes : (r : Result Answer AllocError) → Justified given held before now r → Finished r old new f g s → (settings : Settings) → given ≡ Some settings →
+        IsOneOf s (statuses_of settings.mode) ⊎ ((s ≡ 3) ⊎ (s ≡ 4) ⊎ (s ≡ 5) ⊎ (s ≡ 6))
+    modes r justified finished settings fit =
+        elim (ends (Among settings.mode) r justified finished (λ a allows. mode_given settings a (subst (λ o. Allows o held before now a) fit allows))) [
+          | inl among ↦ elim among [
+            | inl own ↦ inl own
+            | inr either ↦ elim either [ inl three ↦ inr (inl three) | inr four ↦ inr (inr (inl four)) ]
+          ]
+          | inr rest ↦ elim rest [ inl five ↦ inr (inr (inr (inl five))) | inr six ↦ inr (inr (inr (inr six))) ]
+        ]
+
     pub read_fault : (r : Result Answer AllocError) → Justified given held before now r → Finished r old new f g s → s ≡ 4 → FailsToRead given before now old new
     read_fault r justified finished is =
         let told = said 4 r justified finished is (λ e. omega arith) (λ e. omega arith) in
@@ -424,10 +601,10 @@ module _ (given : Option Settings) (held : List (Option Texts)) (before now : Li
           | inr rest ↦ elim rest [ inl five ↦ inr (inl five) | inr six ↦ inr (inr six) ]
         ]
 
-    pub trace : (r : Result Answer AllocError) → Justified given held before now r → Finished r old new f g s → s ≡ 10 → Searches given held
+    pub trace : (r : Result Answer AllocError) → Justified given held before now r → Finished r old new f g s → s ≡ 10 → FindsTrace given held old new
     trace r justified finished is =
         let told = said 10 r justified finished is (λ e. omega arith) (λ e. omega arith) in
-        searched_given given told.answer told.allowed told.has
+        trace_given given told.answer old new told.allowed told.has told.line
 
     pub absent : (r : Result Answer AllocError) → Justified given held before now r → Finished r old new f g s → s ≡ 20 → FindsNone given held old new
     absent r justified finished is =

@@ -5,8 +5,9 @@ use Rattle.alloy_base.specs.declared.place.Place.{Place}
 use Rattle.alloy_base.specs.declared.place.Refusal.{Refusal}
 use Rattle.lrat_mode.specs.Mode as lrat
 use Rattle.lrat_mode.specs.declared.mode.Verdict.{Verdict}
+use Rattle.trace_judge.specs.Answer as traced
 use Rattle.als_command.specs.declared.answer.Answer.{Answer}
-use Rattle.als_command.specs.declared.answer.Answer.TheVariants.{Usage, Refused, ReadFault, Trace, Absent, Unknown, Made, Listed, Checked}
+use Rattle.als_command.specs.declared.answer.Answer.TheVariants.{Usage, Refused, ReadFault, Trace, Absent, Unknown, Made, Listed, Checked, Traced}
 
 abbrev pub usage_line : List ℕ
 usage_line = codes "usage: alloyc MODE FILE [SECOND] [--command N] [--conflicts N] [--part PART] [--chooser N] [--expr E] [--at N]" ++ 10 ∷ []
@@ -35,6 +36,7 @@ text_of (Unknown text) = text
 text_of (Made text) = text
 text_of (Listed text) = text
 text_of (Checked verdict clauses lines) = checked_line verdict clauses lines
+text_of (Traced said second) = traced.text_of said second
 
 abbrev pub status_of : Answer → ℕ
 status_of Usage = 2
@@ -46,3 +48,4 @@ status_of (Unknown text) = 30
 status_of (Made text) = 0
 status_of (Listed text) = 0
 status_of (Checked verdict clauses lines) = lrat.status_of verdict
+status_of (Traced said second) = traced.status_of said

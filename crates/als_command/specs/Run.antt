@@ -1,32 +1,34 @@
 -- What a run may answer, and why.
-use Rattle.std.specs.Prelude.{◌≡◌, ◌≢◌, ℕ, ◌⊎◌, ◌≤◌, List, ◌++◌, length, take, map, codes, Option, Some, None, option_map, Result, Ok, ⊤}
+use Rattle.std.specs.Prelude.{◌≡◌, ◌≢◌, ℕ, ◌⊎◌, ◌≤◌, List, [], ◌∷◌, ◌++◌, length, take, map, codes, Bool, true, false, IsTrue, Option, Some, None, option_map, Result, Ok, ⊤}
 use Rattle.std.specs.declared.alloc.AllocError.{AllocError}
 use Rattle.alloy_base.specs.Causes.{Rose, SomeRose}
 use Rattle.alloy_base.specs.Texts as texts
 use Rattle.alloy_base.specs.Texts.{Texts}
 use Rattle.alloy_base.specs.declared.place.Refusal.{Refusal}
 use Rattle.alloy_base.specs.declared.place.Rule.{Rule}
-use Rattle.alloy_base.specs.declared.place.Rule.TheVariants.{NotBuilt}
+use Rattle.alloy_base.specs.declared.limits.TheConstants.{FILE_BYTES}
+use Rattle.certificate_search.specs.Certificate.{ShowsTrace, ShowsOne, ShowsAbove, ShowsNone, ShowsCore, ShowsSpent}
+use Rattle.certificate_search.specs.declared.certificate.Certificate.{Certificate}
+use Rattle.certificate_search.specs.declared.certificate.Certificate.TheVariants as certificate
 use Rattle.command_words.specs.declared.named.Mode.{Mode}
-use Rattle.command_words.specs.declared.named.Mode.TheVariants.{Exec, Commands, Make, Lrat}
+use Rattle.command_words.specs.declared.named.Mode.TheVariants.{Exec, Commands, Make, Lrat, Replay, Eval, Least, Core}
+use Rattle.command_words.specs.declared.named.Part.{Part}
 use Rattle.command_words.specs.declared.settings.Settings.{Settings}
-use Rattle.answer_texts.specs.Answers.{absent_text, unknown_text}
 use Rattle.cnf_form.specs.Text.{formula_of}
-use Rattle.cnf_form.specs.declared.cnf.Cnf.{Cnf}
-use Rattle.lemma_log.specs.Outcome.{AreLemmas}
-use Rattle.lrat_form.specs.Step.{State, start, Refutes}
-use Rattle.lrat_form.specs.declared.line.Line.{Line}
 use Rattle.lrat_mode.specs.Mode as lrat
 use Rattle.lrat_mode.specs.declared.mode.Verdict.{Verdict}
 use Rattle.lrat_mode.specs.declared.mode.Verdict.TheVariants as says
 use Rattle.loading_state.specs.Causes.{IsTried}
 use Rattle.loading_state.specs.declared.fault.LoadFault.{LoadFault}
 use Rattle.loading_state.specs.declared.fault.LoadFault.TheVariants as load
+use Rattle.trace_judge.specs.Answer as traced
+use Rattle.trace_judge.specs.Judged.{IsJudgement, IsValue}
+use Rattle.trace_judge.specs.declared.answer.TraceAnswer.{TraceAnswer}
 use Rattle.als_command.specs.Answer.{text_of, status_of, refused_line, fault_line, checked_line}
-use Rattle.als_command.specs.Files.{Asked, IsAsked, asked, at_start, first_broken}
+use Rattle.als_command.specs.Files.{Asked, IsAsked, asked, at_start, file_rule, first_broken}
 use Rattle.als_command.specs.Root.{SpellsModule, ListsModule, Breaks}
 use Rattle.als_command.specs.declared.answer.Answer.{Answer}
-use Rattle.als_command.specs.declared.answer.Answer.TheVariants.{Usage, Refused, ReadFault, Trace, Absent, Unknown, Made, Listed, Checked}
+use Rattle.als_command.specs.declared.answer.Answer.TheVariants.{Usage, Refused, ReadFault, Trace, Absent, Unknown, Made, Listed, Checked, Traced}
 
 -- the text of the model that a mode reads, if it reads one
 abbrev pub model_in : Mode → Option (List ℕ) → Option (List ℕ)
@@ -37,16 +39,33 @@ model_in _ text = text
 abbrev pub model_of : List Texts → Settings → Option (List ℕ)
 model_of told settings = model_in settings.mode (texts.text_of told settings.file)
 
--- why a run on this model, if there is one, refuses its text: the text breaks a rule; or it spells a module, and what is asked
--- for isn't built yet
-abbrev pub RefusedOn : Option (List ℕ) → Refusal → Type 0
-RefusedOn None refusal = ⊥
-RefusedOn (Some text) refusal = Breaks (Some text) refusal ⊎ ((refusal ≡ at_start NotBuilt) × SpellsModule (Some text))
+-- the mode looks for traces of a model that it reads
+abbrev pub looks : Mode → Bool
+looks Exec = true
+looks Least = true
+looks Core = true
+looks _ = false
 
--- why a run whose files are whole refuses a text: the run on the model refuses it; or a run searches, its model is a module, and
--- a text breaks a rule while the model is loaded and analysed; or a model is made
+-- the mode reads a trace of a model
+abbrev pub reads_trace : Mode → Bool
+reads_trace Replay = true
+reads_trace Eval = true
+reads_trace _ = false
+
+-- the mode loads the modules of a model that it reads, and resolves it
+abbrev pub analyses : Mode → Bool
+analyses Exec = true
+analyses Least = true
+analyses Core = true
+analyses Replay = true
+analyses Eval = true
+analyses _ = false
+
+-- why a run whose files are whole refuses a text: the text of its model breaks a rule; or the model is a module, and a text
+-- breaks a rule while the model is loaded and analysed, or an expression does, or the file of a trace does as a whole; or a
+-- model is made
 abbrev pub RefusedIn : Option (List ℕ) → Settings → Refusal → List ℕ → Type 0
-RefusedIn model settings refusal name = (RefusedOn model refusal × (name ≡ settings.file) × (settings.mode ≢ Lrat)) ⊎ (((settings.mode ≡ Exec) × SpellsModule model) ⊎ (settings.mode ≡ Make))
+RefusedIn model settings refusal name = (Breaks model refusal × (name ≡ settings.file) × (settings.mode ≢ Lrat)) ⊎ ((IsTrue (analyses settings.mode) × SpellsModule model) ⊎ (settings.mode ≡ Make))
 
 -- why a run with these settings refuses a text: a file that it asks for breaks a rule as a whole, and it is the first of them;
 -- or all are whole, and the run refuses it
@@ -61,7 +80,7 @@ IsRefused held files settings refusal name =
 
 -- the run searches, none of the files that it asks for breaks a rule as a whole, and its model is a module
 pub record IsSearched (held : List (Option Texts)) (files : List Asked) (settings : Settings) : Type 0 where
-  pub mode : settings.mode ≡ Exec
+  pub mode : IsTrue (looks settings.mode)
   pub whole : (told : List Texts) → held ≡ map (λ t. Some t) told → first_broken told files ≡ None
   pub spells : (told : List Texts) → held ≡ map (λ t. Some t) told → SpellsModule (model_of told settings)
 
@@ -71,27 +90,40 @@ pub record IsListed (held : List (Option Texts)) (files : List Asked) (settings 
   pub whole : (told : List Texts) → held ≡ map (λ t. Some t) told → first_broken told files ≡ None
   pub lists : (told : List Texts) → held ≡ map (λ t. Some t) told → ListsModule (model_of told settings) list
 
--- the run searches, and this is a name that is tried for a module that its model opens; or the same of a model that is made
+-- none of the files that the run asks for breaks a rule as a whole, and its model is a module
+pub record IsOnModule (held : List (Option Texts)) (files : List Asked) (settings : Settings) : Type 0 where
+  pub whole : (told : List Texts) → held ≡ map (λ t. Some t) told → first_broken told files ≡ None
+  pub spells : (told : List Texts) → held ≡ map (λ t. Some t) told → SpellsModule (model_of told settings)
+
+-- this is a name that is tried for a module that the model of the run opens; or the same of a model that is made; or the file
+-- of a trace has it
 abbrev pub IsOpened : Settings → List ℕ → Type 0
-IsOpened settings name = ((settings.mode ≡ Exec) × IsTried settings.file name) ⊎ ((settings.mode ≡ Make) × IsTried (codes "make") name)
+IsOpened settings name = (IsTrue (analyses settings.mode) × IsTried settings.file name) ⊎ (((settings.mode ≡ Make) × IsTried (codes "make") name) ⊎ (IsTrue (reads_trace settings.mode) × (settings.second ≡ Some name)))
 
--- what is written where there is no trace: the part that is asked for, of clauses and lines that refute them
-pub record IsAbsent (settings : Settings) (text : List ℕ) : Type 0 where
-  pub states : ℕ
-  pub table : List (List ℕ)
-  pub cnf : Cnf
-  pub lines : List Line
-  pub refutes : Refutes cnf.clauses lines
-  pub text_is : text ≡ absent_text settings.part states table cnf lines
+-- what is written of a trace: the part that is asked for; in a search for the fewest states with clauses of one state less and
+-- lines that refute them, or it has one state
+abbrev pub ShownTrace : Mode → Part → List ℕ → Type 0
+ShownTrace Least part text = ShowsOne part text ⊎ ShowsAbove part text
+ShownTrace _ part text = ShowsTrace part text
 
--- what is written where the budget is spent: clauses, and as many lemmas as it has, each of which passes
-pub record IsUnknown (settings : Settings) (text : List ℕ) : Type 0 where
-  pub table : List (List ℕ)
-  pub cnf : Cnf
-  pub lines : List Line
-  pub spent : settings.conflicts ≡ Some (length lines)
-  pub lemmas : (end : State) × AreLemmas (start cnf.clauses) lines end
-  pub text_is : text ≡ unknown_text (length lines) table cnf lines
+-- what is written where there is no trace: the part that is asked for, of clauses and lines that refute them; in a search for
+-- facts that rule out every trace with these facts
+abbrev pub ShownNone : Mode → Part → List ℕ → Type 0
+ShownNone Core part text = ShowsCore part text
+ShownNone _ part text = ShowsNone part text
+
+-- what is said of the text of a trace
+abbrev pub IsSaid : Mode → List ℕ → TraceAnswer → Type 0
+IsSaid Replay trace said = IsJudgement trace said
+IsSaid Eval trace said = IsValue trace said
+IsSaid _ trace said = ⊥
+
+-- the file of this name is whole, and this is said of its text
+pub record IsReadTrace (held : List (Option Texts)) (settings : Settings) (said : TraceAnswer) (second : List ℕ) : Type 0 where
+  pub trace : List ℕ
+  pub on : IsSaid settings.mode trace said
+  pub named : settings.second ≡ Some second
+  pub tells : (told : List Texts) → held ≡ map (λ t. Some t) told → (texts.text_of told second ≡ Some trace) × (file_rule told (second, FILE_BYTES) ≡ None)
 
 -- a name that the run asks for: that of one of these files, or of a module
 abbrev pub IsSought : Settings → List ℕ → List Asked → Type 0
@@ -130,40 +162,79 @@ abbrev pub AllowsFiles : List Asked → Settings → List (Option Texts) → Lis
 AllowsFiles files settings held before now Usage = ⊥
 AllowsFiles files settings held before now (Refused refusal name) = (now ≡ before) × IsRefused held files settings refusal name
 AllowsFiles files settings held before now (ReadFault name) = IsSought settings name files × SomeRose before now
-AllowsFiles files settings held before now (Trace text) = (now ≡ before) × IsSearched held files settings
-AllowsFiles files settings held before now (Absent text) = (now ≡ before) × IsSearched held files settings × IsAbsent settings text
-AllowsFiles files settings held before now (Unknown text) = (now ≡ before) × IsSearched held files settings × IsUnknown settings text
+AllowsFiles files settings held before now (Trace text) = (now ≡ before) × IsSearched held files settings × ShownTrace settings.mode settings.part text
+AllowsFiles files settings held before now (Absent text) = (now ≡ before) × IsSearched held files settings × ShownNone settings.mode settings.part text
+AllowsFiles files settings held before now (Unknown text) = (now ≡ before) × IsSearched held files settings × ShowsSpent settings.conflicts text
 AllowsFiles files settings held before now (Made text) = (now ≡ before) × (settings.mode ≡ Make)
 AllowsFiles files settings held before now (Listed list) = (now ≡ before) × IsListed held files settings list
 AllowsFiles files settings held before now (Checked verdict clauses lines) = (now ≡ before) × IsProof held files settings verdict clauses lines
+AllowsFiles files settings held before now (Traced said second) = (now ≡ before) × IsOnModule held files settings × IsReadTrace held settings said second
 
 -- the same of the files that the settings ask for
 abbrev pub AllowsRun : Settings → List (Option Texts) → List ℕ → List ℕ → Answer → Type 0
 AllowsRun settings held before now answer = AllowsFiles (asked settings) settings held before now answer
 
--- an answer on the text of a model, by the counts of faults before its modules were asked for and after that
-abbrev pub IsOnModel : Settings → List ℕ → List ℕ → List ℕ → Answer → Type 0
-IsOnModel settings text before now Usage = ⊥
-IsOnModel settings text before now (Refused refusal name) = (now ≡ before) × RefusedIn (Some text) settings refusal name
-IsOnModel settings text before now (ReadFault name) = IsOpened settings name × SomeRose before now
-IsOnModel settings text before now (Trace bytes) = (now ≡ before) × (settings.mode ≡ Exec) × SpellsModule (Some text)
-IsOnModel settings text before now (Absent bytes) = (now ≡ before) × (settings.mode ≡ Exec) × SpellsModule (Some text) × IsAbsent settings bytes
-IsOnModel settings text before now (Unknown bytes) = (now ≡ before) × (settings.mode ≡ Exec) × SpellsModule (Some text) × IsUnknown settings bytes
-IsOnModel settings text before now (Made bytes) = ⊥
-IsOnModel settings text before now (Listed list) = (now ≡ before) × (settings.mode ≡ Commands) × ListsModule (Some text) list
-IsOnModel settings text before now (Checked verdict clauses lines) = ⊥
+-- an answer on the text of a model, by what the libraries hold, and the counts of faults before its modules were asked for and
+-- after that
+abbrev pub IsOnModel : Settings → List (Option Texts) → List ℕ → List ℕ → List ℕ → Answer → Type 0
+IsOnModel settings held text before now Usage = ⊥
+IsOnModel settings held text before now (Refused refusal name) = (now ≡ before) × RefusedIn (Some text) settings refusal name
+IsOnModel settings held text before now (ReadFault name) = IsOpened settings name × SomeRose before now
+IsOnModel settings held text before now (Trace bytes) = (now ≡ before) × IsTrue (looks settings.mode) × SpellsModule (Some text) × ShownTrace settings.mode settings.part bytes
+IsOnModel settings held text before now (Absent bytes) = (now ≡ before) × IsTrue (looks settings.mode) × SpellsModule (Some text) × ShownNone settings.mode settings.part bytes
+IsOnModel settings held text before now (Unknown bytes) = (now ≡ before) × IsTrue (looks settings.mode) × SpellsModule (Some text) × ShowsSpent settings.conflicts bytes
+IsOnModel settings held text before now (Made bytes) = ⊥
+IsOnModel settings held text before now (Listed list) = (now ≡ before) × (settings.mode ≡ Commands) × ListsModule (Some text) list
+IsOnModel settings held text before now (Checked verdict clauses lines) = ⊥
+IsOnModel settings held text before now (Traced said second) = (now ≡ before) × SpellsModule (Some text) × IsReadTrace held settings said second
 
--- the answer of an analysis of a loaded model
+-- the answer is a refusal
+pub record IsRefusal (answer : Answer) : Type 0 where
+  pub refusal : Refusal
+  pub name : List ℕ
+  pub is : answer ≡ Refused refusal name
+
+-- the answer of a search in a loaded model, by the mode
+abbrev pub IsFoundIn : Mode → Part → Option ℕ → Answer → Type 0
+IsFoundIn mode part budget Usage = ⊥
+IsFoundIn mode part budget (Refused refusal name) = ⊤
+IsFoundIn mode part budget (ReadFault name) = ⊥
+IsFoundIn mode part budget (Trace bytes) = ShownTrace mode part bytes
+IsFoundIn mode part budget (Absent bytes) = ShownNone mode part bytes
+IsFoundIn mode part budget (Unknown bytes) = ShowsSpent budget bytes
+IsFoundIn mode part budget (Made bytes) = ⊥
+IsFoundIn mode part budget (Listed list) = ⊥
+IsFoundIn mode part budget (Checked verdict clauses lines) = ⊥
+IsFoundIn mode part budget (Traced said second) = ⊥
+
+-- the answer that has the text of a certificate
+abbrev pub answer_of : Certificate → Answer
+answer_of (certificate.Trace text) = Trace text
+answer_of (certificate.Absent text) = Absent text
+answer_of (certificate.Unknown text) = Unknown text
+
 abbrev pub IsFound : Settings → Answer → Type 0
-IsFound settings Usage = ⊥
-IsFound settings (Refused refusal name) = ⊤
-IsFound settings (ReadFault name) = ⊥
-IsFound settings (Trace bytes) = ⊤
-IsFound settings (Absent bytes) = IsAbsent settings bytes
-IsFound settings (Unknown bytes) = IsUnknown settings bytes
-IsFound settings (Made bytes) = ⊥
-IsFound settings (Listed list) = ⊥
-IsFound settings (Checked verdict clauses lines) = ⊥
+IsFound settings answer = IsFoundIn settings.mode settings.part settings.conflicts answer
+
+-- the answer of a mode that reads a trace, once the model is loaded, by what the libraries hold, and the counts of faults
+-- before the file of the trace was asked for and after that
+abbrev pub IsAfter : Settings → List (Option Texts) → List ℕ → List ℕ → Answer → Type 0
+IsAfter settings held before now Usage = ⊥
+IsAfter settings held before now (Refused refusal name) = now ≡ before
+IsAfter settings held before now (ReadFault name) = (settings.second ≡ Some name) × SomeRose before now
+IsAfter settings held before now (Trace bytes) = ⊥
+IsAfter settings held before now (Absent bytes) = ⊥
+IsAfter settings held before now (Unknown bytes) = ⊥
+IsAfter settings held before now (Made bytes) = ⊥
+IsAfter settings held before now (Listed list) = ⊥
+IsAfter settings held before now (Checked verdict clauses lines) = ⊥
+IsAfter settings held before now (Traced said second) = (now ≡ before) × IsReadTrace held settings said second
+
+-- the answer is what is said of the text of the file `second`
+pub record IsSaidOf (settings : Settings) (second trace : List ℕ) (answer : Answer) : Type 0 where
+  pub said : TraceAnswer
+  pub says_so : answer ≡ Traced said second
+  pub on : IsSaid settings.mode trace said
 
 -- the answer on a model that is made
 abbrev pub IsMade : Answer → Type 0
@@ -176,6 +247,7 @@ IsMade (Unknown bytes) = ⊥
 IsMade (Made bytes) = ⊤
 IsMade (Listed list) = ⊥
 IsMade (Checked verdict clauses lines) = ⊥
+IsMade (Traced said second) = ⊥
 
 -- the same by the counts of faults before its modules were asked for and after that
 abbrev pub IsOnRing : List ℕ → List ℕ → Answer → Type 0
@@ -188,6 +260,7 @@ IsOnRing before now (Unknown bytes) = ⊥
 IsOnRing before now (Made bytes) = now ≡ before
 IsOnRing before now (Listed list) = ⊥
 IsOnRing before now (Checked verdict clauses lines) = ⊥
+IsOnRing before now (Traced said second) = ⊥
 
 -- the answer that says why a model could not be loaded
 abbrev pub Says : LoadFault → Answer → Type 0
@@ -212,6 +285,7 @@ Allows None held before now (Unknown text) = ⊥
 Allows None held before now (Made text) = ⊥
 Allows None held before now (Listed list) = ⊥
 Allows None held before now (Checked verdict clauses lines) = ⊥
+Allows None held before now (Traced said second) = ⊥
 Allows (Some settings) held before now answer = AllowsRun settings held before now answer
 
 -- the whole text was written
@@ -274,11 +348,25 @@ pub record FailsToRead (given : Option Settings) (before now : List ℕ) (old ne
   pub rose : SomeRose before now
   pub line : Written old new (fault_line name)
 
--- the run searched files that break no rule as a whole
-pub record Searches (given : Option Settings) (held : List (Option Texts)) : Type 0 where
+-- of a trace was said what its text shows, and that was written
+pub record Tells (given : Option Settings) (held : List (Option Texts)) (old new : Option (List ℕ)) (status : ℕ) : Type 0 where
   pub settings : Settings
+  pub said : TraceAnswer
+  pub second : List ℕ
+  pub fit : given ≡ Some settings
+  pub model : IsOnModule held (asked settings) settings
+  pub cause : IsReadTrace held settings said second
+  pub line : Written old new (traced.text_of said second)
+  pub has : status ≡ traced.status_of said
+
+-- the run searched files that break no rule as a whole, and what was written shows a trace
+pub record FindsTrace (given : Option Settings) (held : List (Option Texts)) (old new : Option (List ℕ)) : Type 0 where
+  pub settings : Settings
+  pub text : List ℕ
   pub fit : given ≡ Some settings
   pub searched : IsSearched held (asked settings) settings
+  pub shown : ShownTrace settings.mode settings.part text
+  pub line : Written old new text
 
 -- the same, and what was written says that there is no trace
 pub record FindsNone (given : Option Settings) (held : List (Option Texts)) (old new : Option (List ℕ)) : Type 0 where
@@ -286,7 +374,7 @@ pub record FindsNone (given : Option Settings) (held : List (Option Texts)) (old
   pub text : List ℕ
   pub fit : given ≡ Some settings
   pub searched : IsSearched held (asked settings) settings
-  pub absent : IsAbsent settings text
+  pub absent : ShownNone settings.mode settings.part text
   pub line : Written old new text
 
 -- the same, and what was written says that the budget is spent
@@ -295,7 +383,7 @@ pub record LeavesOpen (given : Option Settings) (held : List (Option Texts)) (ol
   pub text : List ℕ
   pub fit : given ≡ Some settings
   pub searched : IsSearched held (asked settings) settings
-  pub open_at : IsUnknown settings text
+  pub open_at : ShowsSpent settings.conflicts text
   pub line : Written old new text
 
 -- the run made a model and analysed it
@@ -313,3 +401,19 @@ pub record FailsToWrite (given : Option Settings) (held : List (Option Texts)) (
 -- the statuses of the table
 abbrev pub IsStatus : ℕ → Type 0
 IsStatus status = (status ≡ 0) ⊎ (status ≡ 1) ⊎ (status ≡ 2) ⊎ (status ≡ 3) ⊎ (status ≡ 4) ⊎ (status ≡ 5) ⊎ (status ≡ 6) ⊎ (status ≡ 10) ⊎ (status ≡ 20) ⊎ (status ≡ 30)
+
+-- the number is one of these
+abbrev pub IsOneOf : ℕ → List ℕ → Type 0
+IsOneOf n [] = ⊥
+IsOneOf n (m ∷ ms) = (n ≡ m) ⊎ IsOneOf n ms
+
+-- the statuses with which a mode answers what it is asked
+abbrev pub statuses_of : Mode → List ℕ
+statuses_of Exec = 10 ∷ 20 ∷ 30 ∷ []
+statuses_of Commands = 0 ∷ []
+statuses_of Lrat = 0 ∷ 1 ∷ []
+statuses_of Make = 0 ∷ []
+statuses_of Replay = 0 ∷ 1 ∷ []
+statuses_of Eval = 0 ∷ []
+statuses_of Least = 10 ∷ 20 ∷ 30 ∷ []
+statuses_of Core = 10 ∷ 20 ∷ 30 ∷ []

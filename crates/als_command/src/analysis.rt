@@ -1,27 +1,27 @@
 // A search: the model is loaded and analysed, and what was found is written.
-ghost use Rattle.std.specs.Prelude.{◌≡◌, Some, IfOk};
+ghost use Rattle.std.specs.Prelude.{◌≡◌, Some, IfOk, IsTrue};
 ghost use Rattle.alloy_base.specs.Causes.{NoneFell};
 ghost use Rattle.als_lexer.specs.Tokens.{tokens_of};
 ghost use Rattle.analyser.specs.Found as outcome;
 ghost use Rattle.answer_texts.specs.Answers as texts;
 ghost use Rattle.als_command.specs.Root.{SpellIn};
-ghost use Rattle.als_command.specs.Run.{IsOnModel, IsFound, IsMade, IsOnRing, Says};
-ghost use Rattle.command_words.specs.declared.named.Mode.TheVariants.{Exec};
+ghost use Rattle.als_command.specs.Run.{IsOnModel, IsFound, IsFoundIn, IsMade, IsOnRing, IsRefusal, Says, answer_of, looks};
+ghost use Rattle.command_words.specs.declared.named.Mode.TheVariants.{Exec, Least, Core};
 
 use crate::Answer;
 use crate::parsed::Parsed;
+use crate::picker::Picker;
 use alloy_base::{Bytes, Libraries};
 use als_tree::Loaded;
-use analyser::{AnalyseFault, Answer as Found, analyse_loaded};
+use analyser::{AnalyseFault, Answer as Found, Prepared, analyse_loaded, prepare_loaded};
 use answer_texts::{absent_text, made_none, made_trace, made_unknown, ring_text, unknown_text};
+use certificate_search::{Certificate, core_certificate, least_certificate, trace_shown};
 use chooser_box::Chooser;
 use cnf_form::{Cnf, Table};
-use command_words::{Part, Settings};
-use core_meaning::Lasso;
+use command_words::{Mode, Settings};
 use lrat_form::LineList;
 use module_loader::{LoadFault, load_text, load_tree};
 use std::alloc::{AllocError, Global};
-use trace_form::{Labels, print_trace};
 
 /// The name of the text of a ring.
 const RING: &str = "make";
@@ -36,11 +36,11 @@ pub fn search<L: Libraries>(
     choosers: Vec<Box<dyn Chooser>>,
     libraries: &mut L,
 ) -> Result<Answer, AllocError>
-    requires mode { settings.now.mode ≡ Exec }
+    requires mode { IsTrue (looks settings.now.mode) }
     requires spells { SpellIn (tokens_of 0 text.now) parsed.tree }
     ensures keeps { L.told libraries.new ≡ L.told libraries.old }
     ensures later { NoneFell (L.counts libraries.old) (L.counts libraries.new) }
-    ensures on { IfOk result (λ answer. IsOnModel settings.now text.now (L.counts libraries.old) (L.counts libraries.new) answer) }
+    ensures on { IfOk result (λ answer. IsOnModel settings.now (L.told libraries.old) text.now (L.counts libraries.old) (L.counts libraries.new) answer) }
 {
     let name = settings.file.text();
     match load_tree(alloc, libraries, name, parsed.tree, parsed.tokens) {
@@ -49,19 +49,111 @@ pub fn search<L: Libraries>(
     }
 }
 
-/// The answer of an analysis of a loaded model.
+/// The answer of a search in a loaded model.
 fn analysed(
     alloc: Global,
     settings: &Settings,
     loaded: Loaded,
     choosers: Vec<Box<dyn Chooser>>,
 ) -> Result<Answer, AllocError>
+    requires mode { IsTrue (looks settings.now.mode) }
     ensures { IfOk result (λ answer. IsFound settings.now answer) }
 {
     let chooser = chosen(choosers, settings.chooser)?;
+    match settings.mode {
+        Mode::Exec => any_trace(alloc, settings, loaded, chooser),
+        Mode::Least => least_trace(alloc, settings, loaded, chooser),
+        Mode::Core => ruling_facts(alloc, settings, loaded, chooser),
+        _ => unreachable!(),
+    }
+}
+
+/// The answer of a search for any trace.
+#[tactic(auto, using(crate::proofs::OnModel::refusal_found))]
+fn any_trace(
+    alloc: Global,
+    settings: &Settings,
+    loaded: Loaded,
+    chooser: Box<dyn Chooser>,
+) -> Result<Answer, AllocError>
+    ensures { IfOk result (λ answer. IsFoundIn Exec settings.now.part settings.now.conflicts answer) }
+{
     match analyse_loaded(alloc, loaded, settings.command, chooser, settings.conflicts) {
         Ok(found) => found_text(alloc, settings, found),
         Err(fault) => not_analysed(fault),
+    }
+}
+
+/// The answer of a search for a trace of the fewest states.
+#[tactic(auto, using(crate::proofs::OnModel::refusal_found))]
+fn least_trace(
+    alloc: Global,
+    settings: &Settings,
+    loaded: Loaded,
+    chooser: Box<dyn Chooser>,
+) -> Result<Answer, AllocError>
+    ensures { IfOk result (λ answer. IsFoundIn Least settings.now.part settings.now.conflicts answer) }
+{
+    match prepare_loaded(alloc, loaded, settings.command) {
+        Ok(prepared) => least_of(alloc, settings, prepared, chooser),
+        Err(fault) => not_analysed(fault),
+    }
+}
+
+/// The same of a prepared model.
+fn least_of(
+    alloc: Global,
+    settings: &Settings,
+    prepared: Prepared,
+    chooser: Box<dyn Chooser>,
+) -> Result<Answer, AllocError>
+    ensures { IfOk result (λ answer. IsFoundIn Least settings.now.part settings.now.conflicts answer) }
+{
+    let mut picker = Picker { chooser };
+    let budget = settings.conflicts;
+    let found = least_certificate(alloc, prepared, &mut picker, settings.part, budget)?;
+    Ok(answer_of(found))
+}
+
+/// The answer of a search for facts that rule out every trace.
+#[tactic(auto, using(crate::proofs::OnModel::refusal_found))]
+fn ruling_facts(
+    alloc: Global,
+    settings: &Settings,
+    loaded: Loaded,
+    chooser: Box<dyn Chooser>,
+) -> Result<Answer, AllocError>
+    ensures { IfOk result (λ answer. IsFoundIn Core settings.now.part settings.now.conflicts answer) }
+{
+    match prepare_loaded(alloc, loaded, settings.command) {
+        Ok(prepared) => core_of(alloc, settings, prepared, chooser),
+        Err(fault) => not_analysed(fault),
+    }
+}
+
+/// The same of a prepared model.
+fn core_of(
+    alloc: Global,
+    settings: &Settings,
+    prepared: Prepared,
+    chooser: Box<dyn Chooser>,
+) -> Result<Answer, AllocError>
+    ensures { IfOk result (λ answer. IsFoundIn Core settings.now.part settings.now.conflicts answer) }
+{
+    let mut picker = Picker { chooser };
+    let budget = settings.conflicts;
+    let found = core_certificate(alloc, prepared, &mut picker, settings.part, budget)?;
+    Ok(answer_of(found))
+}
+
+/// The answer that has the text of a certificate.
+fn answer_of(found: Certificate) -> Answer
+    ensures { result ≡ answer_of found }
+{
+    match found {
+        Certificate::Trace(text) => Answer::Trace(text),
+        Certificate::Absent(text) => Answer::Absent(text),
+        Certificate::Unknown(text) => Answer::Unknown(text),
     }
 }
 
@@ -81,10 +173,13 @@ fn chosen(
 /// The text of what a search found.
 fn found_text(alloc: Global, settings: &Settings, found: Found) -> Result<Answer, AllocError>
     requires { outcome.IsFound settings.now.conflicts found }
-    ensures { IfOk result (λ answer. IsFound settings.now answer) }
+    ensures { IfOk result (λ answer. IsFoundIn Exec settings.now.part settings.now.conflicts answer) }
 {
     match found {
-        Found::Trace { labels, lasso } => trace(alloc, settings, &labels, &lasso),
+        Found::Trace { labels, lasso } => {
+            let text = trace_shown(alloc, &labels, &lasso, settings.part)?;
+            Ok(Answer::Trace(text))
+        }
         Found::Absent {
             table,
             states,
@@ -99,24 +194,6 @@ fn found_text(alloc: Global, settings: &Settings, found: Found) -> Result<Answer
             let text = spent_text(alloc, settings, &table, &cnf, &lines)?;
             Ok(Answer::Unknown(Bytes::copy(alloc, &text)?))
         }
-    }
-}
-
-/// The text of a trace, where the part has one.
-fn trace(
-    alloc: Global,
-    settings: &Settings,
-    labels: &Labels,
-    lasso: &Lasso,
-) -> Result<Answer, AllocError>
-    ensures { IfOk result (λ answer. IsFound settings.now answer) }
-{
-    match settings.part {
-        Part::Answer | Part::All => {
-            let text = print_trace(alloc, labels, lasso)?;
-            Ok(Answer::Trace(Bytes::copy(alloc, &text)?))
-        }
-        Part::Cnf | Part::Proof => Ok(Answer::Trace(Bytes::copy(alloc, b"")?)),
     }
 }
 
@@ -137,10 +214,9 @@ fn spent_text(
 }
 
 /// The answer where a loaded model could not be analysed.
-fn not_analysed(fault: AnalyseFault) -> Result<Answer, AllocError>
+pub fn not_analysed(fault: AnalyseFault) -> Result<Answer, AllocError>
     requires { outcome.IsLoadedFault fault }
-    ensures found { (settings : _) → IfOk result (λ answer. IsFound settings answer) }
-    ensures made { IfOk result (λ answer. IsMade answer) }
+    ensures { IfOk result (λ answer. IsRefusal answer) }
 {
     match fault {
         AnalyseFault::Refused(refusal, name) => Ok(Answer::Refused(refusal, name)),
@@ -150,7 +226,7 @@ fn not_analysed(fault: AnalyseFault) -> Result<Answer, AllocError>
 }
 
 /// The answer where a model could not be loaded.
-fn not_loaded(fault: LoadFault) -> Result<Answer, AllocError>
+pub fn not_loaded(fault: LoadFault) -> Result<Answer, AllocError>
     ensures { IfOk result (λ answer. Says fault answer) }
 {
     match fault {
@@ -189,6 +265,7 @@ fn nodes_in(text: &str) -> u64 {
 }
 
 /// The answer of an analysis of the model of a ring of so many nodes.
+#[tactic(auto, using(crate::proofs::OnModel::refusal_made))]
 fn made(
     alloc: Global,
     settings: &Settings,

@@ -5,6 +5,7 @@ ghost use Rattle.als_command.specs.Answer.{text_of, status_of, checked_line, fau
 use alloy_base::{Bytes, Name, Place, Refusal};
 use lrat_mode::{Verdict, message_of, status_of as verdict_status};
 use std::alloc::{AllocError, Global};
+use trace_judge::TraceAnswer;
 
 /// What the program has to say.
 #[derive(Drop)]
@@ -27,6 +28,8 @@ pub enum Answer {
     Listed(Bytes),
     /// What the lines of the second file come to for the clauses of the first, and the names of the two.
     Checked(Verdict, Name, Name),
+    /// What is said of the trace in the file of this name.
+    Traced(TraceAnswer, Name),
 }
 
 impl Answer {
@@ -44,6 +47,7 @@ impl Answer {
             Answer::Made(_) => 0,
             Answer::Listed(_) => 0,
             Answer::Checked(verdict, _, _) => verdict_status(*verdict),
+            Answer::Traced(said, _) => said.status(),
         }
     }
 
@@ -66,6 +70,7 @@ impl Answer {
             Answer::Checked(verdict, clauses, lines) => {
                 checked(alloc, *verdict, clauses.text(), lines.text())
             }
+            Answer::Traced(said, second) => said.text(alloc, second.text()),
         }
     }
 }

@@ -9,9 +9,12 @@ mod answer;
 mod deliver;
 mod files;
 mod parsed;
+mod picker;
+mod refusals;
 mod root;
 mod run;
 mod shelves;
+mod traced;
 mod work;
 
 pub use answer::Answer;

@@ -1,5 +1,5 @@
 // The top call.
-ghost use Rattle.std.specs.Prelude.{◌≡◌, ◌≢◌, ◌⊎◌, ℕ, List, map, string_bytes, vec_len, Some, None, Err};
+ghost use Rattle.std.specs.Prelude.{◌≡◌, ◌≢◌, ◌⊎◌, ℕ, List, map, string_bytes, vec_len, Some, None, Err, IsTrue};
 ghost use Rattle.alloy_base.specs.Causes.{NoneFell, Rose};
 ghost use Rattle.alloy_base.specs.Texts.{Texts};
 ghost use Rattle.alloy_base.specs.declared.place.Refusal.{Refusal};
@@ -10,8 +10,9 @@ ghost use Rattle.lrat_mode.specs.Mode as lrat;
 ghost use Rattle.lrat_mode.specs.declared.mode.Verdict.{Verdict};
 ghost use Rattle.command_words.specs.declared.settings.Settings.{Settings};
 ghost use Rattle.als_command.specs.Answer.{usage_line};
-ghost use Rattle.als_command.specs.Files.{asked, first_broken};
-ghost use Rattle.als_command.specs.Run.{model_of, Justified, Written, Refuses, Checks, Listing, Making, FailsToRead, FailsToWrite, Searches, FindsNone, LeavesOpen, IsProofOf, IsStatus};
+ghost use Rattle.als_command.specs.Files.{asked, file_rule, first_broken};
+ghost use Rattle.alloy_base.specs.declared.limits.TheConstants.{FILE_BYTES};
+ghost use Rattle.als_command.specs.Run.{model_of, Justified, Written, Refuses, Checks, Listing, Making, FailsToRead, FailsToWrite, FindsTrace, FindsNone, LeavesOpen, Tells, IsProofOf, IsStatus, IsOneOf, statuses_of, reads_trace};
 
 use crate::Answer;
 use crate::deliver::finish;
@@ -41,27 +42,32 @@ pub fn run_words<S: Sink>(
     ensures usage { result ≡ 2 → (fitting (vec_len choosers) (map string_bytes words.now) ≡ None) × Written (S.got out.old) (S.got out.new) usage_line }
     ensures usage_always { fitting (vec_len choosers) (map string_bytes words.now) ≡ None → (result ≡ 2) ⊎ (result ≡ 5) ⊎ (result ≡ 6) }
 
-    // 0 and 1: a proof was checked, and the line of the verdict was written; it is the verdict on the texts of the two files. Or,
-    // with 0, the commands of a module were listed, or the model of a ring was analysed.
-    ensures checked { (result ≡ 0) ⊎ (result ≡ 1) → Checks (fitting (vec_len choosers) (map string_bytes words.now)) (map holds libraries.old.items) (S.got out.old) (S.got out.new) result ⊎ ((result ≡ 0) × (Listing (fitting (vec_len choosers) (map string_bytes words.now)) (map holds libraries.old.items) (S.got out.old) (S.got out.new) ⊎ Making (fitting (vec_len choosers) (map string_bytes words.now)))) }
+    // 0 and 1: a proof was checked, and the line of the verdict was written; it is the verdict on the texts of the two files. Or
+    // a trace was judged, and with 0 everything holds in what was written, or the tuples of an expression were written. Or, with
+    // 0, the commands of a module were listed, or the model of a ring was analysed.
+    ensures checked { (result ≡ 0) ⊎ (result ≡ 1) → Checks (fitting (vec_len choosers) (map string_bytes words.now)) (map holds libraries.old.items) (S.got out.old) (S.got out.new) result ⊎ (((result ≡ 0) × (Listing (fitting (vec_len choosers) (map string_bytes words.now)) (map holds libraries.old.items) (S.got out.old) (S.got out.new) ⊎ Making (fitting (vec_len choosers) (map string_bytes words.now)))) ⊎ Tells (fitting (vec_len choosers) (map string_bytes words.now)) (map holds libraries.old.items) (S.got out.old) (S.got out.new) result) }
     ensures checked_always { (settings : Settings) (told : List Texts) (second clauses lines : List ℕ) (verdict : Verdict) → fitting (vec_len choosers) (map string_bytes words.now) ≡ Some settings → map holds libraries.old.items ≡ map Some told → IsProofOf told settings second clauses lines verdict → (result ≡ lrat.status_of verdict) ⊎ (result ≡ 4) ⊎ (result ≡ 5) ⊎ (result ≡ 6) }
 
     // 3: a text breaks a rule, and its line was written. Where a file is absent or too large, it is the line of the first;
     // and else, where the text of the model that the mode reads can't be cut into tokens, it is the line of its first break. Where
-    // the root spells a module, it may be the line of any rule at any place.
-    ensures refused { result ≡ 3 → Refuses (fitting (vec_len choosers) (map string_bytes words.now)) (map holds libraries.old.items) (S.got out.old) (S.got out.new) ⊎ Checks (fitting (vec_len choosers) (map string_bytes words.now)) (map holds libraries.old.items) (S.got out.old) (S.got out.new) 3 }
+    // the root spells a module, it may be the line of any rule at any place, or the line that the second file is no text of a
+    // trace.
+    ensures refused { result ≡ 3 → Refuses (fitting (vec_len choosers) (map string_bytes words.now)) (map holds libraries.old.items) (S.got out.old) (S.got out.new) ⊎ (Checks (fitting (vec_len choosers) (map string_bytes words.now)) (map holds libraries.old.items) (S.got out.old) (S.got out.new) 3 ⊎ Tells (fitting (vec_len choosers) (map string_bytes words.now)) (map holds libraries.old.items) (S.got out.old) (S.got out.new) 3) }
     ensures refused_always { (settings : Settings) (told : List Texts) (broken : Rule × List ℕ) → fitting (vec_len choosers) (map string_bytes words.now) ≡ Some settings → map holds libraries.old.items ≡ map Some told → first_broken told (asked settings) ≡ Some broken → (result ≡ 3) ⊎ (result ≡ 4) ⊎ (result ≡ 5) ⊎ (result ≡ 6) }
 
+    ensures second_always { (settings : Settings) (told : List Texts) (second : List ℕ) (rule : Rule) → fitting (vec_len choosers) (map string_bytes words.now) ≡ Some settings → map holds libraries.old.items ≡ map Some told → IsTrue (reads_trace settings.mode) → settings.second ≡ Some second → file_rule told (second, FILE_BYTES) ≡ Some rule → (result ≡ 3) ⊎ (result ≡ 4) ⊎ (result ≡ 5) ⊎ (result ≡ 6) }
     ensures uncut_always { (settings : Settings) (told : List Texts) (text : List ℕ) (refusal : Refusal) → fitting (vec_len choosers) (map string_bytes words.now) ≡ Some settings → map holds libraries.old.items ≡ map Some told → model_of told settings ≡ Some text → tokens_of 0 text ≡ Err refusal → (result ≡ 3) ⊎ (result ≡ 4) ⊎ (result ≡ 5) ⊎ (result ≡ 6) }
 
-    // 4: a library failed in this call, and the line says at which name: that of a file, or in a search that of a module.
+    // 4: a library failed in this call, and the line says at which name: that of a file, or that of a module.
     ensures read_fault { result ≡ 4 → FailsToRead (fitting (vec_len choosers) (map string_bytes words.now)) (map faults libraries.old.items) (map faults libraries.new.items) (S.got out.old) (S.got out.new) }
     ensures read_fault_always { map faults libraries.new.items ≢ map faults libraries.old.items → (result ≡ 4) ⊎ (result ≡ 5) ⊎ (result ≡ 6) }
 
     // 10, 20 and 30: the words ask for a search, and no file breaks a rule as a whole, and the text of the model spells a module.
-    // With 20 the part that is asked for was written of clauses and lines that refute them; with 30 the budget is spent, and
-    // clauses were written with as many lemmas as it has.
-    ensures trace { result ≡ 10 → Searches (fitting (vec_len choosers) (map string_bytes words.now)) (map holds libraries.old.items) }
+    // With 10 the part that is asked for was written of a trace; in a search for the fewest states it has one, or there are
+    // clauses and lines that refute them. With 20 the part was written of clauses and lines that refute them, in a search for
+    // facts that rule out every trace with such facts; with 30 the budget is spent, and clauses were written with as many
+    // lemmas as it has.
+    ensures trace { result ≡ 10 → FindsTrace (fitting (vec_len choosers) (map string_bytes words.now)) (map holds libraries.old.items) (S.got out.old) (S.got out.new) }
     ensures absent { result ≡ 20 → FindsNone (fitting (vec_len choosers) (map string_bytes words.now)) (map holds libraries.old.items) (S.got out.old) (S.got out.new) }
     ensures unknown { result ≡ 30 → LeavesOpen (fitting (vec_len choosers) (map string_bytes words.now)) (map holds libraries.old.items) (S.got out.old) (S.got out.new) }
 
@@ -72,7 +78,8 @@ pub fn run_words<S: Sink>(
     ensures write_fault { result ≡ 6 → Rose (S.write_faults out.old) (S.write_faults out.new) × FailsToWrite (fitting (vec_len choosers) (map string_bytes words.now)) (map holds libraries.old.items) (map faults libraries.old.items) (map faults libraries.new.items) (S.got out.old) (S.got out.new) }
     ensures write_fault_always { S.write_faults out.new ≢ S.write_faults out.old → result ≡ 6 }
 
-    // There is no other status.
+    // Each mode has its own statuses beside these, and there is no other status.
+    ensures modes { (settings : Settings) → fitting (vec_len choosers) (map string_bytes words.now) ≡ Some settings → IsOneOf result (statuses_of settings.mode) ⊎ ((result ≡ 3) ⊎ (result ≡ 4) ⊎ (result ≡ 5) ⊎ (result ≡ 6)) }
     ensures status { IsStatus result }
 {
     let answered = answer_from_boxes(alloc, words, choosers.len(), choosers, libraries);

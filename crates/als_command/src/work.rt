@@ -3,21 +3,23 @@ ghost use Rattle.std.specs.Prelude.{◌≡◌, ◌≢◌, ◌≤◌, List, lengt
 ghost use Rattle.alloy_base.specs.Causes.{NoneFell};
 ghost use Rattle.command_words.specs.Settings.{fitting, has_second};
 ghost use Rattle.alloy_base.specs.Texts.{Texts, text_of};
-ghost use Rattle.als_command.specs.Files.{asked, at_start, second_asked};
+ghost use Rattle.als_command.specs.Files.{asked, second_asked};
 ghost use Rattle.als_lexer.specs.Tokens.{tokens_of};
 ghost use Rattle.command_list.specs.Lines.{command_text};
 ghost use Rattle.als_command.specs.Root.{SpellIn};
 ghost use Rattle.als_command.specs.Run.{Justified, AllowsFiles, AllowsRun, IsOnModel, IsOnProof};
 ghost use Rattle.std.specs.Prelude.{◌∷◌, []};
-ghost use Rattle.command_words.specs.declared.named.Mode.TheVariants.{Lrat};
+ghost use Rattle.command_words.specs.declared.named.Mode.TheVariants.{Lrat, Make};
 
 use crate::Answer;
 use crate::analysis::{make, search};
-use crate::files::{File, at_start, whole_file};
+use crate::files::{File, whole_file};
 use crate::parsed::{Parsed, Root};
+use crate::refusals::{read_fault, refused, refused_at};
 use crate::root::root_of;
+use crate::traced::traced;
 use alloy_base::limits::{FILE_BYTES, MODULE_BYTES};
-use alloy_base::{Bytes, Libraries, Name, Refusal, Rule};
+use alloy_base::{Bytes, Libraries, Name};
 use als_tree::Module;
 use chooser_box::Chooser;
 use command_list::command_text;
@@ -92,6 +94,8 @@ fn model<L: Libraries>(
 ) -> Result<Answer, AllocError>
     requires asks { asked settings.now ≡ (settings.now.file, MODULE_BYTES) ∷ [] }
     requires mode { settings.now.mode ≢ Lrat }
+    requires made { settings.now.mode ≢ Make }
+    requires second { has_second settings.now ≡ true }
     ensures keeps { L.told libraries.new ≡ L.told libraries.old }
     ensures later { NoneFell (L.counts libraries.old) (L.counts libraries.new) }
     ensures allowed { (answer : _) → result ≡ Ok answer → AllowsRun settings.now (L.told libraries.old) (L.counts libraries.old) (L.counts libraries.new) answer }
@@ -114,10 +118,12 @@ fn on_model<L: Libraries>(
     libraries: &mut L,
 ) -> Result<Answer, AllocError>
     requires mode { settings.now.mode ≢ Lrat }
+    requires made { settings.now.mode ≢ Make }
+    requires second { has_second settings.now ≡ true }
     requires short { length text.now ≤ MODULE_BYTES }
     ensures keeps { L.told libraries.new ≡ L.told libraries.old }
     ensures later { NoneFell (L.counts libraries.old) (L.counts libraries.new) }
-    ensures on { IfOk result (λ answer. IsOnModel settings.now text.now (L.counts libraries.old) (L.counts libraries.new) answer) }
+    ensures on { IfOk result (λ answer. IsOnModel settings.now (L.told libraries.old) text.now (L.counts libraries.old) (L.counts libraries.new) answer) }
 {
     match root_of(alloc, text)? {
         Root::Module(parsed) => on_module(alloc, settings, text, parsed, choosers, libraries),
@@ -126,7 +132,7 @@ fn on_model<L: Libraries>(
 }
 
 /// The answer of a run on the text of a module.
-#[tactic(auto, using(crate::proofs::OnModel::listed_on, crate::proofs::OnModel::unbuilt_on))]
+#[tactic(auto, using(crate::proofs::OnModel::listed_on))]
 fn on_module<L: Libraries>(
     alloc: Global,
     settings: &Settings,
@@ -136,15 +142,22 @@ fn on_module<L: Libraries>(
     libraries: &mut L,
 ) -> Result<Answer, AllocError>
     requires mode { settings.now.mode ≢ Lrat }
+    requires made { settings.now.mode ≢ Make }
+    requires second { has_second settings.now ≡ true }
     requires spells { SpellIn (tokens_of 0 text.now) parsed.tree }
     ensures keeps { L.told libraries.new ≡ L.told libraries.old }
     ensures later { NoneFell (L.counts libraries.old) (L.counts libraries.new) }
-    ensures on { IfOk result (λ answer. IsOnModel settings.now text.now (L.counts libraries.old) (L.counts libraries.new) answer) }
+    ensures on { IfOk result (λ answer. IsOnModel settings.now (L.told libraries.old) text.now (L.counts libraries.old) (L.counts libraries.new) answer) }
 {
     match settings.mode {
         Mode::Exec => search(alloc, settings, text, parsed, choosers, libraries),
+        Mode::Least => search(alloc, settings, text, parsed, choosers, libraries),
+        Mode::Core => search(alloc, settings, text, parsed, choosers, libraries),
+        Mode::Replay => traced(alloc, settings, text, parsed, libraries),
+        Mode::Eval => traced(alloc, settings, text, parsed, libraries),
         Mode::Commands => listed(alloc, &parsed.tree),
-        _ => unbuilt(alloc, settings),
+        Mode::Make => unreachable!(),
+        Mode::Lrat => unreachable!(),
     }
 }
 
@@ -229,32 +242,4 @@ fn checked(
     let clauses = Name::copy(alloc, clauses)?;
     let lines = Name::copy(alloc, lines)?;
     Ok(Answer::Checked(verdict, clauses, lines))
-}
-
-/// What is asked for isn't built yet.
-fn unbuilt(alloc: Global, settings: &Settings) -> Result<Answer, AllocError>
-    ensures { IfOk result (λ answer. answer ≡ Answer.Refused (at_start Rule.NotBuilt) settings.now.file) }
-{
-    refused(alloc, Rule::NotBuilt, settings.file.text())
-}
-
-/// The text of this name breaks a rule as a whole.
-fn refused(alloc: Global, rule: Rule, name: &str) -> Result<Answer, AllocError>
-    ensures { IfOk result (λ answer. answer ≡ Answer.Refused (at_start rule) name.now) }
-{
-    refused_at(alloc, at_start(rule), name)
-}
-
-/// The text of this name is refused so.
-fn refused_at(alloc: Global, refusal: Refusal, name: &str) -> Result<Answer, AllocError>
-    ensures { IfOk result (λ answer. answer ≡ Answer.Refused refusal name.now) }
-{
-    Ok(Answer::Refused(refusal, Name::copy(alloc, name)?))
-}
-
-/// A library failed at this name.
-fn read_fault(alloc: Global, name: &str) -> Result<Answer, AllocError>
-    ensures { IfOk result (λ answer. answer ≡ Answer.ReadFault name.now) }
-{
-    Ok(Answer::ReadFault(Name::copy(alloc, name)?))
 }

@@ -28,7 +28,7 @@ fn push_unknown(out: &mut Vec<u8>, conflicts: u64) -> Result<(), AllocError>
 }
 
 /// Writes the clauses, the lines under this heading, and the last line.
-fn push_block(
+pub fn push_block(
     alloc: Global,
     out: &mut Vec<u8>,
     heading: &[u8],

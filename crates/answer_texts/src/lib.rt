@@ -6,9 +6,10 @@ mod ring;
 mod summary;
 mod write;
 
-pub use clauses::{absent_text, unknown_text};
+pub use clauses::{absent_text, push_block, unknown_text};
 pub use ring::ring_text;
 pub use summary::{made_none, made_trace, made_unknown};
+pub use write::push_decimal;
 
 #[cfg(test)]
 mod tests;

@@ -48,3 +48,9 @@ returns-clause-uncut_always g c = let justified = rw c.len.ensures at c.answer_f
 
 pub returns-clause-unknown : goal.returns-clause-unknown
 returns-clause-unknown g c = let justified = rw c.len.ensures at c.answer_from_boxes-answered.ensures.allowed in ends.unknown _ _ _ _ _ _ _ _ _ _ justified c.finish.ensures
+
+pub returns-clause-second_always : goal.returns-clause-second_always
+returns-clause-second_always g c = let justified = rw c.len.ensures at c.answer_from_boxes-answered.ensures.allowed in ends.second_always _ _ _ _ _ _ _ _ _ _ justified c.finish.ensures
+
+pub returns-clause-modes : goal.returns-clause-modes
+returns-clause-modes g c = let justified = rw c.len.ensures at c.answer_from_boxes-answered.ensures.allowed in ends.modes _ _ _ _ _ _ _ _ _ _ justified c.finish.ensures

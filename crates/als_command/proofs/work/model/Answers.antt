@@ -19,8 +19,8 @@ returns-in-Whole-clause-allowed g c answer is =
     let before = g.L.Libraries.counts c.args.libraries.now in
     let mid = g.L.Libraries.counts c.whole_file.new.libraries in
     let file = c.whole_file.ensures.file (Whole c.in-Whole.text) (cc (c.in_ok-text.was, c.in-Whole.is)) in
-    whole_allows c.args.settings.now told before mid (g.L.Libraries.counts c.on_model.new.libraries) c.requires.asks c.requires.mode c.on_model.result answer is c.in-Whole.text
-    (subst (λ n. IsFile told n MODULE_BYTES before mid (Whole c.in-Whole.text)) c.text-name.ensures file) (rw c.deref.ensures.value at c.on_model.ensures.on)
+    whole_allows c.args.settings.now told (g.L.Libraries.told c.whole_file.new.libraries) before mid (g.L.Libraries.counts c.on_model.new.libraries) c.requires.asks c.requires.mode c.on_model.result answer is c.in-Whole.text
+    (subst (λ n. IsFile told n MODULE_BYTES before mid (Whole c.in-Whole.text)) c.text-name.ensures file) c.whole_file.ensures.keeps (rw c.deref.ensures.value at c.on_model.ensures.on)
 
 pub returns-in-Broken-clause-allowed : goal.returns-in-Broken-clause-allowed
 returns-in-Broken-clause-allowed g c answer is =

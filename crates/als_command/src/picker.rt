@@ -1,0 +1,28 @@
+// A chooser in a box, as a chooser.
+
+use chooser_box::Chooser;
+use std::alloc::AllocError;
+
+/// A chooser in a box.
+#[derive(Drop)]
+pub struct Picker {
+    pub chooser: Box<dyn Chooser>,
+}
+
+impl Chooser for Picker {
+    fn start(&mut self, variables: u64) -> Result<(), AllocError> {
+        self.chooser.start(variables)
+    }
+
+    fn pick(&mut self, values: &[i8]) -> i64 {
+        self.chooser.pick(values)
+    }
+
+    fn bump(&mut self, variable: i64) {
+        self.chooser.bump(variable)
+    }
+
+    fn decay(&mut self) {
+        self.chooser.decay()
+    }
+}

@@ -1,0 +1,12 @@
+use Rattle.std.proofs.Common.{◌≡◌, Some, length}
+use Rattle.certificate_search.proofs.certificate.spent_shown.Goals as goal
+
+pub returns : goal.returns
+returns c = record {
+  table = c.in_ok-rows.rows;
+  cnf = c.args.proof.cnf;
+  lines = c.args.proof.lines;
+  spent = c.requires.0;
+  lemmas = c.requires.1;
+  text_is = cc (c.in_ok-shown.ensures, c.deref.ensures.value, c.in_ok-text.ensures, c.in-Some.is, c.requires.0);
+}

@@ -1,0 +1,13 @@
+use Rattle.certificate_search.proofs.least.above_shown.Goals as goal
+
+pub returns : goal.returns
+returns c = record {
+  labels = c.args.labels.now;
+  lasso = c.args.lasso.now;
+  more = c.requires.more;
+  table = c.in_ok-rows.rows;
+  cnf = c.args.proof.cnf;
+  lines = c.args.proof.lines;
+  refutes = c.requires.refutes;
+  text_is = cc (c.in_ok-shown.ensures, c.deref.ensures.value, c.deref-2.ensures.value, c.in_ok-text.ensures, c.in_ok-trace.ensures);
+}

@@ -1,0 +1,63 @@
+// What a search that certifies its answer comes to.
+
+ghost use Rattle.std.specs.Prelude.{IfOk};
+ghost use Rattle.target_search.specs.Found.{Spends};
+ghost use Rattle.certificate_search.specs.Certificate.{ShowsTrace, ShowsSpent};
+
+use alloy_base::Bytes;
+use analyser::table;
+use answer_texts::unknown_text;
+use bounds_builder::Bounds;
+use command_words::Part;
+use core_meaning::Lasso;
+use judgement_texts::trace_part;
+use lrat_form::Proof;
+use std::alloc::{AllocError, Global};
+use trace_form::{Labels, print_trace};
+
+/// The text of what a search comes to.
+#[derive(Drop)]
+pub enum Certificate {
+    /// There is a trace.
+    Trace(Bytes),
+    /// There is none.
+    Absent(Bytes),
+    /// The budget is spent.
+    Unknown(Bytes),
+}
+
+/// The part that is asked for of a trace.
+pub fn trace_shown(
+    alloc: Global,
+    labels: &Labels,
+    lasso: &Lasso,
+    part: Part,
+) -> Result<Bytes, AllocError>
+    ensures { IfOk result (λ text. ShowsTrace part text) }
+{
+    let trace = print_trace(alloc, labels, lasso)?;
+    let text = trace_part(alloc, part, &trace)?;
+    let shown = Bytes::copy(alloc, &text)?;
+    Ok(shown)
+}
+
+/// The text of a budget that is spent.
+pub fn spent_shown(
+    alloc: Global,
+    labels: &Labels,
+    mut bounds: Bounds,
+    proof: Proof,
+    budget: Option<u64>,
+) -> Result<Bytes, AllocError>
+    requires { Spends budget proof }
+    ensures { IfOk result (λ text. ShowsSpent budget text) }
+{
+    bounds.states = proof.states;
+    let Some(conflicts) = budget else {
+        unreachable!();
+    };
+    let rows = table(alloc, labels, &bounds)?;
+    let text = unknown_text(alloc, conflicts, &rows, &proof.cnf, &proof.lines)?;
+    let shown = Bytes::copy(alloc, &text)?;
+    Ok(shown)
+}

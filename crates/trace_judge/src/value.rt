@@ -1,0 +1,69 @@
+// The tuples of an expression on a trace.
+
+ghost use Rattle.std.specs.Prelude.{◌≡◌, IfOk};
+ghost use Rattle.trace_form.specs.Text.{trace_text};
+ghost use Rattle.trace_judge.specs.Judged.{IsValue, value_text};
+
+use crate::answer::TraceAnswer;
+use alloy_base::Bytes;
+use analyser::Prepared;
+use core_meaning::Lasso;
+use core_tree::Expr;
+use std::alloc::{AllocError, Global};
+use trace_evaluator::tuples;
+use trace_form::{TextList, TraceFault, push_tuples, read_trace};
+use tuple_sets::TupleSet;
+
+/// The tuples of an expression at a position of the sequence of the trace that a text spells.
+pub fn value_on_trace(
+    alloc: Global,
+    prepared: &Prepared,
+    value: &Expr,
+    position: u64,
+    trace: &[u8],
+) -> Result<TraceAnswer, AllocError>
+    ensures { IfOk result (λ answer. IsValue trace.now answer) }
+{
+    match read_trace(alloc, &prepared.labels, trace) {
+        Ok(lasso) => valued(alloc, prepared, value, position, &lasso, trace),
+        Err(TraceFault::BadTrace { line }) => Ok(TraceAnswer::BadTrace(line)),
+        Err(TraceFault::Memory) => Err(AllocError),
+    }
+}
+
+/// The tuples of an expression at a position of the sequence of the lasso of which this is the text.
+fn valued(
+    alloc: Global,
+    prepared: &Prepared,
+    value: &Expr,
+    position: u64,
+    lasso: &Lasso,
+    trace: &[u8],
+) -> Result<TraceAnswer, AllocError>
+    requires { trace_text prepared.now.labels lasso.now ≡ trace.now }
+    ensures { IfOk result (λ answer. IsValue trace.now answer) }
+{
+    let set = tuples(
+        alloc,
+        &prepared.model,
+        &prepared.scopes,
+        lasso,
+        value,
+        position,
+    )?;
+    let text = value_text(alloc, &prepared.labels.atoms, &set)?;
+    let shown = Bytes::copy(alloc, &text)?;
+    let _ = trace;
+    Ok(TraceAnswer::Valued(shown))
+}
+
+/// The line that has the tuples of a set.
+fn value_text(alloc: Global, atoms: &TextList, set: &TupleSet) -> Result<Vec<u8>, AllocError>
+    ensures { IfOk result (λ text. text.items ≡ value_text atoms.now set.now.tuples) }
+{
+    let mut out = Vec::new(alloc);
+    out.extend_from_slice(b"value =")?;
+    push_tuples(&mut out, atoms, set.keyed())?;
+    out.extend_from_slice(b"\n")?;
+    Ok(out)
+}
