@@ -35,24 +35,24 @@ later_of root before now (Err load.Memory) cause = cause
 
 -- a mode that looks for traces analyses a model, and so does one that reads a trace
 looks_analyses : (m : Mode) → IsTrue (looks m) → IsTrue (analyses m)
-looks_analyses Exec is = tt
-looks_analyses Least is = tt
-looks_analyses Core is = tt
-looks_analyses Commands is = absurd is
-looks_analyses Lrat is = absurd is
-looks_analyses Make is = absurd is
-looks_analyses Replay is = absurd is
-looks_analyses Eval is = absurd is
+looks_analyses Exec is = refl
+looks_analyses Least is = refl
+looks_analyses Core is = refl
+looks_analyses Commands is = cc
+looks_analyses Lrat is = cc
+looks_analyses Make is = cc
+looks_analyses Replay is = cc
+looks_analyses Eval is = cc
 
 trace_analyses : (m : Mode) → IsTrue (reads_trace m) → IsTrue (analyses m)
-trace_analyses Replay is = tt
-trace_analyses Eval is = tt
-trace_analyses Exec is = absurd is
-trace_analyses Least is = absurd is
-trace_analyses Core is = absurd is
-trace_analyses Commands is = absurd is
-trace_analyses Lrat is = absurd is
-trace_analyses Make is = absurd is
+trace_analyses Replay is = refl
+trace_analyses Eval is = refl
+trace_analyses Exec is = cc
+trace_analyses Least is = cc
+trace_analyses Core is = cc
+trace_analyses Commands is = cc
+trace_analyses Lrat is = cc
+trace_analyses Make is = cc
 
 module _ (settings : Settings) (held : List (Option Texts)) (text before now : List ℕ) where
   -- a text that breaks a rule is refused
@@ -193,18 +193,18 @@ pub looks_one : (m : Mode) → IsTrue (looks m) → m ≢ Exec → m ≢ Least �
 looks_one Exec on exec least core = exec refl
 looks_one Least on exec least core = least refl
 looks_one Core on exec least core = core refl
-looks_one Commands on exec least core = absurd on
-looks_one Lrat on exec least core = absurd on
-looks_one Make on exec least core = absurd on
-looks_one Replay on exec least core = absurd on
-looks_one Eval on exec least core = absurd on
+looks_one Commands on exec least core = cc
+looks_one Lrat on exec least core = cc
+looks_one Make on exec least core = cc
+looks_one Replay on exec least core = cc
+looks_one Eval on exec least core = cc
 
 pub reads_one : (m : Mode) → IsTrue (reads_trace m) → m ≢ Replay → m ≢ Eval → ⊥
 reads_one Replay on replay eval = replay refl
 reads_one Eval on replay eval = eval refl
-reads_one Exec on replay eval = absurd on
-reads_one Least on replay eval = absurd on
-reads_one Core on replay eval = absurd on
-reads_one Commands on replay eval = absurd on
-reads_one Lrat on replay eval = absurd on
-reads_one Make on replay eval = absurd on
+reads_one Exec on replay eval = cc
+reads_one Least on replay eval = cc
+reads_one Core on replay eval = cc
+reads_one Commands on replay eval = cc
+reads_one Lrat on replay eval = cc
+reads_one Make on replay eval = cc

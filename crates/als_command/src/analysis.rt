@@ -27,7 +27,7 @@ use std::alloc::{AllocError, Global};
 const RING: &str = "make";
 
 /// The answer of a search on the text of a module, whose model is loaded first.
-#[tactic(auto, using(crate::proofs::OnModel::found_on, crate::proofs::OnModel::fault_on, crate::proofs::OnModel::later_of))]
+#[tactic(auto, using(crate::proofs::OnModel::found_on, crate::proofs::OnModel::search_fault_on, crate::proofs::OnModel::later_of))]
 pub fn search<L: Libraries>(
     alloc: Global,
     settings: &Settings,
