@@ -1,6 +1,6 @@
 -- How facts are named by their numbers.
 use Rattle.std.specs.Prelude.{◌≡◌, ℕ, List, map, Option, Some, option_map, slice_get}
-use Rattle.als_tree.specs.declared.instance.Loaded.{Loaded}
+use Rattle.als_tree.specs.declared.loaded.Loaded.{Loaded}
 use Rattle.judgement_texts.specs.Facts.{fact_name}
 use Rattle.judgement_texts.specs.declared.fact.FactName.{FactName}
 use Rattle.target_forms.specs.declared.target.Part.{Part}

@@ -1,6 +1,7 @@
 use als_lexer::lex;
 use als_tree::{Multiplicity, depth};
-use expr_parser::{ParseFault, parse_block, parse_bound, parse_expr};
+use expr_parser::ParseFault;
+use placed_parser::{parse_block, parse_bound, parse_expr};
 use std::alloc::{AllocError, Global};
 use std::test::Fail;
 

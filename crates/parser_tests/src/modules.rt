@@ -1,7 +1,7 @@
 use als_lexer::{LexFault, lex};
 use als_tree::Paragraph;
 use expr_parser::ParseFault;
-use paragraph_parser::parse_module;
+use placed_parser::parse_module;
 use std::alloc::{AllocError, Global};
 use std::test::Fail;
 

@@ -1,7 +1,7 @@
 -- What is said of a trace: of a lasso whose text it is.
 use Rattle.std.specs.Prelude.{◌≡◌, ℕ, Bool, List, [], ◌∷◌, ◌++◌, map, codes, ⊤}
 use Rattle.analyser.specs.declared.ready.Prepared.{Prepared}
-use Rattle.als_tree.specs.declared.instance.Loaded.{Loaded}
+use Rattle.als_tree.specs.declared.loaded.Loaded.{Loaded}
 use Rattle.core_meaning.specs.Sequence.{LassoValue}
 use Rattle.target_forms.specs.declared.target.Part.{Part}
 use Rattle.judgement_texts.specs.Facts.{fact_name}

@@ -1,0 +1,10 @@
+use Rattle.std.proofs.Common.{sym, ◌∙◌}
+use Rattle.trace_judge.proofs.judge.judgement_on.Goals as goal
+
+pub returns : goal.returns
+returns c = record {
+  facts = c.in-Some.facts.now;
+  command = c.in-Some.command.now;
+  parts_are = sym c.as_slice.ensures ∙ c.in-Some.ensures.cases.0;
+  names_are = c.in_ok-facts.ensures;
+}
