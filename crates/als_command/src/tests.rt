@@ -377,3 +377,61 @@ fn a_text_that_is_no_utf8(rt: HostRuntime) -> Result<(), Fail> {
     assert_eq!(rt; out.got(), b"refused S01 m.als:1:1\n".as_slice());
     Ok(())
 }
+
+const SWITCH: &str =
+    "one sig T {}\nvar sig On in T {}\nfact { no On always On' = T - On }\nrun {} for 2 steps\n";
+
+const SWITCHED: &str =
+    "trace states 2 loop 0\nstate 0\nT = T$0\nOn =\nstate 1\nT = T$0\nOn = T$0\nend\n";
+
+#[test]
+fn traces_that_are_read(rt: HostRuntime) -> Result<(), Fail> {
+    let alloc = rt.alloc();
+    let files = [("m.als", SWITCH), ("t.txt", SWITCHED)];
+    let rows = [
+        (
+            "alloyc replay m.als t.txt",
+            0,
+            "scopes ok\ndeclarations ok\nfact m.als 3:1 - ok\ncommand ok\nsatisfied\n",
+        ),
+        (
+            "alloyc eval m.als t.txt --expr On' --at 2",
+            0,
+            "value = T$0\n",
+        ),
+        (
+            "alloyc eval m.als t.txt --expr On.On",
+            3,
+            "refused S42 expr:1:1\n",
+        ),
+        ("alloyc replay m.als m.als", 3, "refused C21 m.als:1\n"),
+        ("alloyc replay m.als u.txt", 3, "refused S20 u.txt:1:1\n"),
+    ];
+    for (line, status, bytes) in rows {
+        assert!(rt;
+            gives(alloc, line, &plain(&files), status, bytes)?,
+            "{line}"
+        );
+    }
+    Ok(())
+}
+
+#[test]
+fn least_traces(rt: HostRuntime) -> Result<(), Fail> {
+    let alloc = rt.alloc();
+    let files = [("m.als", SWITCH)];
+    let line = "alloyc least m.als --part answer";
+    assert!(rt; gives(alloc, line, &plain(&files), 10, SWITCHED)?);
+    Ok(())
+}
+
+#[test]
+fn facts_that_rule_out_every_trace(rt: HostRuntime) -> Result<(), Fail> {
+    let alloc = rt.alloc();
+    let text = "sig A {}\nfact f { no A }\nfact g { some A }\nfact h { lone A }\nrun {} for 2\n";
+    let files = [("m.als", text)];
+    let line = "alloyc core m.als --part answer";
+    let core = "core states 1 facts 2\nfact m.als 2:1 f\nfact m.als 3:1 g\n";
+    assert!(rt; gives(alloc, line, &plain(&files), 20, core)?);
+    Ok(())
+}
