@@ -1,35 +1,38 @@
 -- What the text of the root model comes to: a rule that it breaks at a place, or a module that it spells.
-use Rattle.std.specs.Prelude.{◌≡◌, ◌⊎◌, ℕ, List, Option, Some, None, Ok, Err, IsTrue}
+use Rattle.std.specs.Prelude.{◌≡◌, ℕ, List, Option, Some, None, Ok, Err, IsTrue}
 use Rattle.alloy_base.specs.declared.limits.TheConstants.{TREE_DEPTH}
 use Rattle.alloy_base.specs.declared.place.Refusal.{Refusal}
-use Rattle.alloy_base.specs.declared.place.Rule.TheVariants.{Syntax, TooDeep}
 use Rattle.als_tree.specs.declared.module.Module.{Module}
 use Rattle.als_tree.specs.declared.token.Token.{Token}
 use Rattle.als_tree.specs.ModuleWords.{module_words}
 use Rattle.als_tree.specs.ModuleRules.{module_right}
 use Rattle.als_tree.specs.Spelling.{kinds}
+use Rattle.tree_places.specs.Pieces.{at_places}
+use Rattle.tree_places.specs.ModulePieces.{module_pieces}
+use Rattle.placed_parser.specs.Refuses.{is_of_grammar, has_token_at}
 use Rattle.als_lexer.specs.Tokens.{Tokens, tokens_of}
 use Rattle.command_list.specs.Lines.{command_text}
 use Rattle.als_command.specs.declared.parsed.Root.{Root}
 use Rattle.als_command.specs.declared.parsed.Root.TheVariants as root
 
--- the tokens spell this module, and it keeps the rules of the grammar within the limit of depth
+-- the tokens spell this module, it keeps the rules of the grammar within the limit of depth, and each place in it is that of its token
 pub record Spell (tokens : List Token) (tree : Module) : Type 0 where
   pub spells : kinds tokens ≡ module_words tree
   pub right : IsTrue (module_right TREE_DEPTH tree)
+  pub placed : IsTrue (at_places (module_pieces tree) tokens)
 
--- a refusal of tokens
-abbrev pub FallsUnderGrammar : Refusal → Type 0
-FallsUnderGrammar refusal = (refusal.rule ≡ Syntax) ⊎ (refusal.rule ≡ TooDeep)
+-- a refusal of tokens: by a rule of the grammar, at one of them
+abbrev pub FallsUnderGrammar : List Token → Refusal → Type 0
+FallsUnderGrammar tokens refusal = IsTrue (is_of_grammar refusal.rule) × IsTrue (has_token_at refusal.place tokens)
 
 -- what parsing these tokens comes to
 abbrev pub ParsesTo : List Token → Root → Type 0
 ParsesTo tokens (root.Module parsed) = Spell tokens parsed.tree
-ParsesTo tokens (root.Broken refusal) = FallsUnderGrammar refusal
+ParsesTo tokens (root.Broken refusal) = FallsUnderGrammar tokens refusal
 
--- the text with these tokens breaks this rule at this place; for tokens without a module only the rules are known
+-- the text with these tokens breaks this rule at this place; of tokens without a module it is known that the rule is one of the grammar, and the place that of a token
 abbrev pub BreakIn : Tokens → Refusal → Type 0
-BreakIn (Ok tokens) refusal = FallsUnderGrammar refusal
+BreakIn (Ok tokens) refusal = FallsUnderGrammar tokens refusal
 BreakIn (Err broken) refusal = refusal ≡ broken
 
 -- the text with these tokens spells this module

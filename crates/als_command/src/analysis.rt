@@ -10,13 +10,12 @@ ghost use Rattle.command_words.specs.declared.named.Mode.TheVariants.{Exec, Leas
 
 use crate::Answer;
 use crate::parsed::Parsed;
-use crate::picker::Picker;
 use alloy_base::{Bytes, Libraries};
 use als_tree::Loaded;
 use analyser::{AnalyseFault, Answer as Found, Prepared, analyse_loaded, prepare_loaded};
 use answer_texts::{absent_text, made_none, made_trace, made_unknown, ring_text, unknown_text};
 use certificate_search::{Certificate, core_certificate, least_certificate, trace_shown};
-use chooser_box::Chooser;
+use chooser_box::{Boxed, Chooser};
 use cnf_form::{Cnf, Table};
 use command_words::{Mode, Settings};
 use lrat_form::LineList;
@@ -109,9 +108,9 @@ fn least_of(
 ) -> Result<Answer, AllocError>
     ensures { IfOk result (λ answer. IsFoundIn Least settings.now.part settings.now.conflicts answer) }
 {
-    let mut picker = Picker { chooser };
+    let mut boxed = Boxed { chooser };
     let budget = settings.conflicts;
-    let found = least_certificate(alloc, prepared, &mut picker, settings.part, budget)?;
+    let found = least_certificate(alloc, prepared, &mut boxed, settings.part, budget)?;
     Ok(answer_of(found))
 }
 
@@ -140,9 +139,9 @@ fn core_of(
 ) -> Result<Answer, AllocError>
     ensures { IfOk result (λ answer. IsFoundIn Core settings.now.part settings.now.conflicts answer) }
 {
-    let mut picker = Picker { chooser };
+    let mut boxed = Boxed { chooser };
     let budget = settings.conflicts;
-    let found = core_certificate(alloc, prepared, &mut picker, settings.part, budget)?;
+    let found = core_certificate(alloc, prepared, &mut boxed, settings.part, budget)?;
     Ok(answer_of(found))
 }
 

@@ -9,7 +9,6 @@ mod answer;
 mod deliver;
 mod files;
 mod parsed;
-mod picker;
 mod refusals;
 mod root;
 mod run;

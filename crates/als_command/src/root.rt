@@ -2,15 +2,14 @@
 ghost use Rattle.std.specs.Prelude.{◌≡◌, ◌≤◌, length, IfOk};
 ghost use Rattle.als_tree.specs.Spelling.{EndsWell};
 ghost use Rattle.als_lexer.specs.Tokens.{tokens_of};
-ghost use Rattle.als_command.specs.Root.{FallsUnderGrammar, ReadsTo, ParsesTo};
+ghost use Rattle.als_command.specs.Root.{ReadsTo, ParsesTo};
 
 use crate::parsed::{Parsed, Root};
 use alloy_base::limits::MODULE_BYTES;
-use alloy_base::{Place, Refusal, Rule};
 use als_lexer::{LexFault, lex};
 use als_tree::Token;
 use expr_parser::ParseFault;
-use paragraph_parser::parse_module;
+use placed_parser::parse_module;
 use std::alloc::{AllocError, Global};
 
 /// What a text of a root comes to: the module that it spells, or the rule that it breaks.
@@ -38,24 +37,7 @@ fn root_of_tokens(alloc: Global, tokens: &[Token]) -> Result<Root, AllocError>
             tree,
             tokens: tokens.len(),
         })),
-        Err(ParseFault::Refused(refusal)) => Ok(Root::Broken(under_grammar(refusal))),
+        Err(ParseFault::Refused(refusal)) => Ok(Root::Broken(refusal)),
         Err(ParseFault::Memory) => Err(AllocError),
-    }
-}
-
-/// A refusal of the parser. It has no rules but these two.
-fn under_grammar(refusal: Refusal) -> Refusal
-    ensures { FallsUnderGrammar result }
-{
-    let place = refusal.place;
-    match refusal.rule {
-        Rule::TooDeep => Refusal {
-            rule: Rule::TooDeep,
-            place,
-        },
-        _ => Refusal {
-            rule: Rule::Syntax,
-            place,
-        },
     }
 }

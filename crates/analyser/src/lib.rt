@@ -6,7 +6,6 @@
 
 mod answer;
 mod fault;
-mod owned;
 mod ready;
 mod search;
 mod settings;

@@ -5,12 +5,11 @@ ghost use Rattle.analyser.specs.Found.{IsFound, IsLoadedFault};
 
 use crate::answer::Answer;
 use crate::fault::AnalyseFault;
-use crate::owned::Owned;
 use crate::ready::{Prepared, load_root, prepare_loaded};
 use crate::settings::Settings;
 use alloy_base::Libraries;
 use als_tree::Loaded;
-use chooser_box::Chooser;
+use chooser_box::{Boxed, Chooser};
 use std::alloc::{AllocError, Global};
 use target_search::{Found, search_target};
 use variable_table::table;
@@ -70,8 +69,8 @@ fn searched(
         parts: _,
         first_fact: _,
     } = prepared;
-    let mut owned = Owned { chooser };
-    match search_target(alloc, &target, &bounds, &mut owned, budget)? {
+    let mut boxed = Boxed { chooser };
+    match search_target(alloc, &target, &bounds, &mut boxed, budget)? {
         Found::Lasso(lasso) => Ok(Answer::Trace { labels, lasso }),
         Found::Refuted(proof) => {
             let table = table(alloc, &labels, &bounds)?;

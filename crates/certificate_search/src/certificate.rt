@@ -1,7 +1,9 @@
 // What a search that certifies its answer comes to.
 
-ghost use Rattle.std.specs.Prelude.{IfOk};
+ghost use Rattle.std.specs.Prelude.{◌≡◌, IfOk};
 ghost use Rattle.target_search.specs.Found.{Spends};
+ghost use Rattle.trace_form.specs.Text.{trace_text};
+ghost use Rattle.judgement_texts.specs.Certified.{trace_part};
 ghost use Rattle.certificate_search.specs.Certificate.{ShowsTrace, ShowsSpent};
 
 use alloy_base::Bytes;
@@ -34,6 +36,19 @@ pub fn trace_shown(
     part: Part,
 ) -> Result<Bytes, AllocError>
     ensures { IfOk result (λ text. ShowsTrace part text) }
+{
+    let shown = lasso_part(alloc, labels, lasso, part)?;
+    Ok(shown)
+}
+
+/// The part that is asked for of the text of this lasso.
+pub(crate) fn lasso_part(
+    alloc: Global,
+    labels: &Labels,
+    lasso: &Lasso,
+    part: Part,
+) -> Result<Bytes, AllocError>
+    ensures { IfOk result (λ text. text ≡ trace_part part (trace_text labels.now lasso.now)) }
 {
     let trace = print_trace(alloc, labels, lasso)?;
     let text = trace_part(alloc, part, &trace)?;

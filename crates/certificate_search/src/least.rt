@@ -4,7 +4,7 @@ ghost use Rattle.std.specs.Prelude.{◌≡◌, ◌⊎◌, ◌<◌, IfOk, length,
 ghost use Rattle.lrat_form.specs.Step.{Refutes};
 ghost use Rattle.certificate_search.specs.Certificate.{IsLeastText, ShowsOne, ShowsAbove, ShowsNone};
 
-use crate::certificate::{Certificate, spent_shown};
+use crate::certificate::{Certificate, lasso_part, spent_shown};
 use alloy_base::Bytes;
 use analyser::{Prepared, table};
 use answer_texts::absent_text;
@@ -12,7 +12,7 @@ use bounds_builder::Bounds;
 use chooser_box::Chooser;
 use command_words::Part;
 use core_meaning::Lasso;
-use judgement_texts::{above_part, trace_part};
+use judgement_texts::above_part;
 use least_trace::{Least, find_least};
 use lrat_form::Proof;
 use std::alloc::{AllocError, Global};
@@ -79,9 +79,7 @@ fn one_shown(alloc: Global, labels: &Labels, lasso: &Lasso, part: Part) -> Resul
     requires { length lasso.now.states ≡ 1 }
     ensures { IfOk result (λ text. ShowsOne part text) }
 {
-    let trace = print_trace(alloc, labels, lasso)?;
-    let text = trace_part(alloc, part, &trace)?;
-    let shown = Bytes::copy(alloc, &text)?;
+    let shown = lasso_part(alloc, labels, lasso, part)?;
     Ok(shown)
 }
 

@@ -1,7 +1,7 @@
 //! Builds circuits and matrices of a given size, to measure how long they take, and prints their sizes.
 //!
-//! `clauses N` writes a circuit of N gates as clauses. `join N` joins two matrices of ten pairs for each of N atoms, of
-//! which each atom in the middle stands in ten of each. `closure N` closes a relation over N atoms with five pairs an
+//! `clauses N` writes a circuit of N gates as clauses. `join N` joins two matrices of ten pairs for each of N atoms: each
+//! atom in the middle stands in ten of the second and in about ten of the first. `closure N` closes a relation over N atoms with five pairs an
 //! atom. N is at least 1, and in the last two at most 16,384. Other words are answered with status 2.
 #![tactic(auto)]
 

@@ -10,7 +10,7 @@ pub use found::Found;
 pub use limits::limits_of;
 pub use lrat_form::Proof;
 pub use search::{search_lasso, search_target};
-pub use written::clauses_of;
+pub use written::{clauses_of, table_store};
 
 #[cfg(test)]
 mod tests;

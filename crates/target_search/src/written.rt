@@ -9,8 +9,9 @@ use gate_trait::Gates;
 use lasso_encoder::encode;
 use std::alloc::{AllocError, Global};
 
-/// A circuit whose inputs are the variables of a table with so many, under their own numbers.
-fn table_store(alloc: Global, variables: u64) -> Result<CircuitStore, AllocError> {
+/// A circuit whose inputs are the variables of a table with so many, under their own numbers. The only error is want of
+/// memory.
+pub fn table_store(alloc: Global, variables: u64) -> Result<CircuitStore, AllocError> {
     let mut store = CircuitStore::new(alloc);
     for variable in 0..variables {
         store.input(variable.saturating_add(1))?;

@@ -5,5 +5,5 @@ returns c = record {
   labels = c.args.labels.now;
   lasso = c.args.lasso.now;
   one = c.requires;
-  text_is = cc (c.in_ok-shown.ensures, c.deref.ensures.value, c.deref-2.ensures.value, c.in_ok-text.ensures, c.in_ok-trace.ensures);
+  text_is = c.in_ok-shown.ensures;
 }
