@@ -5,6 +5,7 @@
 #![tactic(auto)]
 
 mod activity;
+mod boxed;
 mod chooser;
 mod first_free;
 mod heap;
@@ -14,6 +15,7 @@ mod picks;
 mod tests;
 
 pub use activity::Activity;
+pub use boxed::Boxed;
 pub use chooser::Chooser;
 pub use first_free::FirstFree;
 pub use lying::Lying;

@@ -1,4 +1,4 @@
-use crate::{Activity, Chooser, FirstFree, Lying};
+use crate::{Activity, Boxed, Chooser, FirstFree, Lying};
 use std::test::Fail;
 
 #[test]
@@ -79,5 +79,20 @@ fn a_lying_chooser_repeats_its_number(rt: HostRuntime) -> Result<(), Fail> {
     chooser.bump(1);
     chooser.decay();
     assert_eq!(rt; chooser.pick(&[0]), i64::MIN);
+    Ok(())
+}
+
+#[test]
+fn a_boxed_chooser_hands_each_call_on(rt: HostRuntime) -> Result<(), Fail> {
+    let mut chooser = Boxed {
+        chooser: Box::new(rt.alloc(), Activity::new(rt.alloc()))?,
+    };
+    chooser.start(3)?;
+    chooser.bump(3);
+    chooser.bump(-2);
+    chooser.decay();
+    chooser.bump(-2);
+    assert_eq!(rt; chooser.pick(&[0, 0, 0]), -2);
+    assert_eq!(rt; chooser.pick(&[0, -1, 0]), 3);
     Ok(())
 }

@@ -32,8 +32,8 @@ pub record ForcesMore (literals : List ℤ) (ends : List ℕ) (level : ℕ) (a b
   pub kept : (j : ℕ) → j < length a.trail → (level_of b j ≡ level_of a j) × (reason_of b j ≡ reason_of a j)
   pub forced : (j : ℕ) → length a.trail ≤ j → j < length b.trail → IsForced literals ends level b j
 
--- each level begins at a literal, which has no reason; every other literal was forced; and a literal's level is above just
--- the levels that begin behind it
+-- each level begins at a literal, which has no reason; every other literal was forced; and the level of a literal is how
+-- many levels begin at its place or before
 pub record AreReasoned (s : Search) : Type 0 where
   pub opened : (f : ℕ) → f < length s.limits → slice_index s.limits f < length s.assignment.trail
   pub rising : (f g : ℕ) → f < g → g < length s.limits → slice_index s.limits f < slice_index s.limits g
