@@ -18,7 +18,7 @@ use als_lexer::{LexFault, lex};
 use als_tree::{Module, Text, Token};
 use expr_parser::ParseFault;
 use loading_state::{LoadFault, Source, Table, refused, start_of};
-use paragraph_parser::parse_module;
+use placed_parser::parse_module;
 use std::alloc::{AllocError, Global};
 
 /// Reads a text, which is the one of this number in the order of loading.
