@@ -19,25 +19,29 @@ pub fn push_in_room<T: Drop>(items: &mut Vec<T>, item: T)
     }
 }
 
+/// The most nodes, so that a pointer to one fits in 32 bits, which keeps the links in nearer memory.
+const MOST_NODES: usize = 4_294_967_290;
+
 /// Makes the next node, in front of a list.
-fn add(heads: &mut Vec<usize>, next: &mut Vec<usize>, list: usize)
+fn add(heads: &mut Vec<u32>, next: &mut Vec<u32>, list: usize)
     requires in_range { list < vec_len heads.old }
     requires room { vec_len next.old < vec_capacity next.old }
+    requires few { vec_len next.old + 1 < 2 ^ 32 }
     ensures heads { heads.new.items ≡ slice_set heads.old.items list (vec_len next.old + 1) }
     ensures next { next.new.items ≡ next.old.items ++ slice_index heads.old.items list ∷ [] }
     ensures capacity { vec_capacity next.old ≤ vec_capacity next.new }
 {
     let first = heads[list];
     push_in_room(next, first);
-    heads[list] = next.len();
+    heads[list] = next.len() as u32;
 }
 
 /// Lists of nodes. Each node is on one list, or on the loose one that is being taken apart.
 #[derive(Drop)]
 pub struct NodeLists {
-    heads: Vec<usize>,
-    next: Vec<usize>,
-    loose: usize,
+    heads: Vec<u32>,
+    next: Vec<u32>,
+    loose: u32,
 }
 
 impl Model for NodeLists {
@@ -62,13 +66,17 @@ impl NodeLists {
         })
     }
 
-    /// Makes the next two nodes, each in front of a list.
+    /// Makes the next two nodes, each in front of a list. The only error is want of memory, which is also that there
+    /// are about 2^32 nodes.
     pub fn add_pair(&mut self, one: usize, two: usize) -> Result<(), AllocError>
         requires one { one < length self.old.lists }
         requires two { two < length self.old.lists }
         ensures ok { OnOk result (self.new ≡ added (added self.old one) two) }
         ensures err { OnErr result (self.new ≡ self.old) }
     {
+        if self.next.len() > MOST_NODES {
+            return Err(AllocError);
+        }
         self.next.reserve(2)?;
         add(&mut self.heads, &mut self.next, one);
         add(&mut self.heads, &mut self.next, two);
@@ -95,7 +103,7 @@ impl NodeLists {
         if self.loose == 0 {
             None
         } else {
-            Some(self.loose - 1)
+            Some(self.loose as usize - 1)
         }
     }
 
@@ -106,10 +114,10 @@ impl NodeLists {
         requires some_loose { 0 < length self.old.loose }
         ensures { self.new ≡ settled self.old list }
     {
-        let node = self.loose - 1;
+        let node = self.loose as usize - 1;
         self.loose = self.next[node];
         self.next[node] = self.heads[list];
-        self.heads[list] = node + 1;
+        self.heads[list] = node as u32 + 1;
     }
 }
 
