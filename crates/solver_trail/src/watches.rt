@@ -31,7 +31,7 @@ fn other_node(node: usize) -> usize
 
 /// The first place of a literal that isn't false and isn't `other`, or `last`.
 #[inline]
-fn find_open(arena: &Arena, assigned: &Assigned, first: usize, last: usize, other: i64) -> usize
+fn find_first(arena: &Arena, assigned: &Assigned, first: usize, last: usize, other: i64) -> usize
     requires variables { length assigned.now.values ≡ arena.now.variables }
     requires ordered { first ≤ last }
     requires in_range { last ≤ length arena.now.literals.items }
@@ -47,6 +47,34 @@ fn find_open(arena: &Arena, assigned: &Assigned, first: usize, last: usize, othe
         }
     }
     last
+}
+
+/// The place of a literal that isn't false and isn't `other`, or `last`. It is looked for behind the place that was
+/// watched so far, and only then from the first on, since those before it are mostly still false.
+#[inline]
+fn find_open(
+    arena: &Arena,
+    assigned: &Assigned,
+    first: usize,
+    last: usize,
+    other: i64,
+    from: usize,
+) -> usize
+    requires variables { length assigned.now.values ≡ arena.now.variables }
+    requires ordered { first ≤ last }
+    requires in_range { last ≤ length arena.now.literals.items }
+    ensures within { (first ≤ result) × (result ≤ last) }
+    ensures unlike { result < last → value_at arena.now.literals.items result ≢ other }
+    ensures not_false { result < last → Contains assigned.now.trail (neg_ℤ (value_at arena.now.literals.items result)) → ⊥ }
+    ensures closed { result ≡ last → (p : ℕ) → first ≤ p → p < last → (value_at arena.now.literals.items p ≡ other) ⊎ Contains assigned.now.trail (neg_ℤ (value_at arena.now.literals.items p)) }
+{
+    if first <= from && from < last {
+        let place = find_first(arena, assigned, from, last, other);
+        if place < last {
+            return place;
+        }
+    }
+    find_first(arena, assigned, first, last, other)
 }
 
 /// What the clause of a node is.
@@ -74,7 +102,8 @@ impl Watches {
         }
         let clause = node / 2;
         let last = arena.ends[clause];
-        let place = find_open(arena, assigned, arena.start(clause), last, other);
+        let from = self.at[node];
+        let place = find_open(arena, assigned, arena.start(clause), last, other, from);
         if place < last {
             return Found::Open(place);
         }

@@ -29,7 +29,7 @@ is_false-requires c =
 pub returns-then-is_false : goal.returns-then-is_false
 returns-then-is_false c =
     let literal_fits : SFits w64 c.index-other.result.now = search rules in
-    let closed = simp to_z-of_z at c.find_open-place.ensures.closed in
+    let closed = simp to_z-of_z at (c.find_open-place.ensures.closed (omega (arith, c.find_open-place.ensures.within.1, c.if-place-last.false))) in
     let is_false = simp to_z-of_z at (c.if-is_false.ensures.0 refl) in
     let in_ends : c.args.node / 2 < length c.args.arena.now.ends.items = omega (arith, c.requires.two_each, c.requires.in_range) in
     let last = c.index-last.ensures ∙ get_or_default c.args.arena.now.ends.items (c.args.node / 2) c.index-last.result.now 0 in_ends in
@@ -40,7 +40,7 @@ returns-then-is_false c =
 pub returns : goal.returns
 returns c =
     let literal_fits : SFits w64 c.index-other.result.now = search rules in
-    let closed = simp to_z-of_z at c.find_open-place.ensures.closed in
+    let closed = simp to_z-of_z at (c.find_open-place.ensures.closed (omega (arith, c.find_open-place.ensures.within.1, c.if-place-last.false))) in
     let in_ends : c.args.node / 2 < length c.args.arena.now.ends.items = omega (arith, c.requires.two_each, c.requires.in_range) in
     let last = c.index-last.ensures ∙ get_or_default c.args.arena.now.ends.items (c.args.node / 2) c.index-last.result.now 0 in_ends in
     let other = copy_of_sibling _ _ _ _ _ c.args.node _ c.index-other.result.now c.args.arena.now.in_order c.requires.copied c.requires.two_each c.requires.in_range c.requires.pair c.other_node.ensures c.index-other.ensures in
