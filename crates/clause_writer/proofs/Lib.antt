@@ -1,4 +1,5 @@
 pub mod Definitions
+pub mod Marks
 pub mod Naming
 pub mod Ranges
 pub mod WrittenLaw

@@ -6,34 +6,33 @@ ghost use Rattle.gate_trait.specs.NodeWords.{number_of, is_negated};
 ghost use Rattle.gate_trait.specs.Circuit.{value_among, IsAbove};
 ghost use Rattle.gate_trait.specs.Built.{xor};
 ghost use Rattle.gate_trait.specs.declared.gate.Gate.{Gate as CircuitGate};
-ghost use Rattle.clause_writer.specs.Named.{satisfied, named_values, IsName, any_node, alike, defined, all_defined, IsNamed, literal_of};
+ghost use Rattle.clause_writer.specs.Named.{satisfied, named_values, any_node, alike, defined, defined_where, all_defined, IsNamed, literal_of};
 
+use crate::names::Names;
+use crate::reach::is_marked;
 use circuit_store::CircuitStore;
 use cnf_form::{Clause, Cnf};
 use gate_trait::{Gate, Node};
 use std::alloc::{AllocError, Global};
 
 /// The literal of a node.
-fn literal(names: &[u64], node: Node) -> i64
-    requires names { All IsName names.now }
-    requires there { number_of node < length names.now }
+fn literal(names: &Names, node: Node) -> i64
+    requires there { number_of node < length names.now.list.items }
     ensures literal { IsLiteral result }
-    ensures is { result ≡ literal_of names.now node }
-    ensures value { (v : ℕ → Bool) → literal_value v result ≡ value_among (named_values v names.now) node }
+    ensures is { result ≡ literal_of names.now.list.items node }
+    ensures value { (v : ℕ → Bool) → literal_value v result ≡ value_among (named_values v names.now.list.items) node }
 {
-    let name = names[node.number() as usize] as i64;
+    let name = names.list[node.number() as usize] as i64;
     if node.negated() { -name } else { name }
 }
 
 /// The clause that some node is true.
-fn clause_of(alloc: Global, names: &[u64], nodes: &[Node], most: u64) -> Result<Clause, AllocError>
-    requires names { All IsName names.now }
-    requires within { All (λ n. n ≤ length names.now) names.now }
-    requires room { length names.now ≤ most }
-    requires there { All (λ n. number_of n < length names.now) nodes.now }
-    ensures is { IfOk result (λ c. c ≡ map (literal_of names.now) nodes.now) }
+fn clause_of(alloc: Global, names: &Names, nodes: &[Node], most: u64) -> Result<Clause, AllocError>
+    requires room { names.now.count ≤ most }
+    requires there { All (λ n. number_of n < length names.now.list.items) nodes.now }
+    ensures is { IfOk result (λ c. c ≡ map (literal_of names.now.list.items) nodes.now) }
     ensures within { IfOk result (λ c. IsWithin most c) }
-    ensures value { IfOk result (λ c. (v : ℕ → Bool) → clause_value v c ≡ any_node (named_values v names.now) nodes.now) }
+    ensures value { IfOk result (λ c. (v : ℕ → Bool) → clause_value v c ≡ any_node (named_values v names.now.list.items) nodes.now) }
 {
     let mut clause = Clause::new(alloc);
     for node in nodes {
@@ -46,17 +45,15 @@ fn clause_of(alloc: Global, names: &[u64], nodes: &[Node], most: u64) -> Result<
 pub fn add_clause(
     alloc: Global,
     cnf: &mut Cnf,
-    names: &[u64],
+    names: &Names,
     nodes: &[Node],
 ) -> Result<(), AllocError>
-    requires names { All IsName names.now }
-    requires within { All (λ n. n ≤ length names.now) names.now }
-    requires room { length names.now ≤ cnf.old.variables }
-    requires there { All (λ n. number_of n < length names.now) nodes.now }
+    requires room { names.now.count ≤ cnf.old.variables }
+    requires there { All (λ n. number_of n < length names.now.list.items) nodes.now }
     ensures variables { OnOk result (cnf.new.variables ≡ cnf.old.variables) }
-    ensures is { OnOk result (cnf.new.clauses ≡ cnf.old.clauses ++ map (literal_of names.now) nodes.now ∷ []) }
+    ensures is { OnOk result (cnf.new.clauses ≡ cnf.old.clauses ++ map (literal_of names.now.list.items) nodes.now ∷ []) }
     ensures value { OnOk result ((v : ℕ → Bool) → satisfied v cnf.new.clauses
-        ≡ (satisfied v cnf.old.clauses && any_node (named_values v names.now) nodes.now)) }
+        ≡ (satisfied v cnf.old.clauses && any_node (named_values v names.now.list.items) nodes.now)) }
 {
     let clause = clause_of(alloc, names, nodes, cnf.variables)?;
     cnf.clauses.push(clause)
@@ -66,21 +63,19 @@ pub fn add_clause(
 fn define_and(
     alloc: Global,
     cnf: &mut Cnf,
-    names: &[u64],
+    names: &Names,
     output: Node,
     a: Node,
     b: Node,
 ) -> Result<(), AllocError>
-    requires names { All IsName names.now }
-    requires within { All (λ n. n ≤ length names.now) names.now }
-    requires room { length names.now ≤ cnf.old.variables }
-    requires output_there { number_of output < length names.now }
-    requires a_there { number_of a < length names.now }
-    requires b_there { number_of b < length names.now }
+    requires room { names.now.count ≤ cnf.old.variables }
+    requires output_there { number_of output < length names.now.list.items }
+    requires a_there { number_of a < length names.now.list.items }
+    requires b_there { number_of b < length names.now.list.items }
     ensures variables { OnOk result (cnf.new.variables ≡ cnf.old.variables) }
     ensures value { OnOk result ((v : ℕ → Bool) → satisfied v cnf.new.clauses ≡ (satisfied v cnf.old.clauses
-        && alike (value_among (named_values v names.now) output)
-        (value_among (named_values v names.now) a && value_among (named_values v names.now) b))) }
+        && alike (value_among (named_values v names.now.list.items) output)
+        (value_among (named_values v names.now.list.items) a && value_among (named_values v names.now.list.items) b))) }
 {
     add_clause(alloc, cnf, names, &[output.opposite(), a])?;
     add_clause(alloc, cnf, names, &[output.opposite(), b])?;
@@ -91,21 +86,19 @@ fn define_and(
 fn define_or(
     alloc: Global,
     cnf: &mut Cnf,
-    names: &[u64],
+    names: &Names,
     output: Node,
     a: Node,
     b: Node,
 ) -> Result<(), AllocError>
-    requires names { All IsName names.now }
-    requires within { All (λ n. n ≤ length names.now) names.now }
-    requires room { length names.now ≤ cnf.old.variables }
-    requires output_there { number_of output < length names.now }
-    requires a_there { number_of a < length names.now }
-    requires b_there { number_of b < length names.now }
+    requires room { names.now.count ≤ cnf.old.variables }
+    requires output_there { number_of output < length names.now.list.items }
+    requires a_there { number_of a < length names.now.list.items }
+    requires b_there { number_of b < length names.now.list.items }
     ensures variables { OnOk result (cnf.new.variables ≡ cnf.old.variables) }
     ensures value { OnOk result ((v : ℕ → Bool) → satisfied v cnf.new.clauses ≡ (satisfied v cnf.old.clauses
-        && alike (value_among (named_values v names.now) output)
-        ((value_among (named_values v names.now) a) || (value_among (named_values v names.now) b)))) }
+        && alike (value_among (named_values v names.now.list.items) output)
+        ((value_among (named_values v names.now.list.items) a) || (value_among (named_values v names.now.list.items) b)))) }
 {
     add_clause(alloc, cnf, names, &[output, a.opposite()])?;
     add_clause(alloc, cnf, names, &[output, b.opposite()])?;
@@ -116,21 +109,19 @@ fn define_or(
 fn define_where(
     alloc: Global,
     cnf: &mut Cnf,
-    names: &[u64],
+    names: &Names,
     output: Node,
     condition: Node,
     node: Node,
 ) -> Result<(), AllocError>
-    requires names { All IsName names.now }
-    requires within { All (λ n. n ≤ length names.now) names.now }
-    requires room { length names.now ≤ cnf.old.variables }
-    requires output_there { number_of output < length names.now }
-    requires condition_there { number_of condition < length names.now }
-    requires node_there { number_of node < length names.now }
+    requires room { names.now.count ≤ cnf.old.variables }
+    requires output_there { number_of output < length names.now.list.items }
+    requires condition_there { number_of condition < length names.now.list.items }
+    requires node_there { number_of node < length names.now.list.items }
     ensures variables { OnOk result (cnf.new.variables ≡ cnf.old.variables) }
     ensures value { OnOk result ((v : ℕ → Bool) → satisfied v cnf.new.clauses ≡ (satisfied v cnf.old.clauses
-        && (not (value_among (named_values v names.now) condition)
-        || alike (value_among (named_values v names.now) output) (value_among (named_values v names.now) node)))) }
+        && (not (value_among (named_values v names.now.list.items) condition)
+        || alike (value_among (named_values v names.now.list.items) output) (value_among (named_values v names.now.list.items) node)))) }
 {
     add_clause(
         alloc,
@@ -150,21 +141,19 @@ fn define_where(
 fn define_xor(
     alloc: Global,
     cnf: &mut Cnf,
-    names: &[u64],
+    names: &Names,
     output: Node,
     a: Node,
     b: Node,
 ) -> Result<(), AllocError>
-    requires names { All IsName names.now }
-    requires within { All (λ n. n ≤ length names.now) names.now }
-    requires room { length names.now ≤ cnf.old.variables }
-    requires output_there { number_of output < length names.now }
-    requires a_there { number_of a < length names.now }
-    requires b_there { number_of b < length names.now }
+    requires room { names.now.count ≤ cnf.old.variables }
+    requires output_there { number_of output < length names.now.list.items }
+    requires a_there { number_of a < length names.now.list.items }
+    requires b_there { number_of b < length names.now.list.items }
     ensures variables { OnOk result (cnf.new.variables ≡ cnf.old.variables) }
     ensures value { OnOk result ((v : ℕ → Bool) → satisfied v cnf.new.clauses ≡ (satisfied v cnf.old.clauses
-        && alike (value_among (named_values v names.now) output)
-        (xor (value_among (named_values v names.now) a) (value_among (named_values v names.now) b)))) }
+        && alike (value_among (named_values v names.now.list.items) output)
+        (xor (value_among (named_values v names.now.list.items) a) (value_among (named_values v names.now.list.items) b)))) }
 {
     define_where(alloc, cnf, names, output, a, b.opposite())?;
     define_where(alloc, cnf, names, output, a.opposite(), b)
@@ -174,25 +163,23 @@ fn define_xor(
 fn define_choose(
     alloc: Global,
     cnf: &mut Cnf,
-    names: &[u64],
+    names: &Names,
     output: Node,
     c: Node,
     a: Node,
     b: Node,
 ) -> Result<(), AllocError>
-    requires names { All IsName names.now }
-    requires within { All (λ n. n ≤ length names.now) names.now }
-    requires room { length names.now ≤ cnf.old.variables }
-    requires output_there { number_of output < length names.now }
-    requires c_there { number_of c < length names.now }
-    requires a_there { number_of a < length names.now }
-    requires b_there { number_of b < length names.now }
+    requires room { names.now.count ≤ cnf.old.variables }
+    requires output_there { number_of output < length names.now.list.items }
+    requires c_there { number_of c < length names.now.list.items }
+    requires a_there { number_of a < length names.now.list.items }
+    requires b_there { number_of b < length names.now.list.items }
     ensures variables { OnOk result (cnf.new.variables ≡ cnf.old.variables) }
     ensures value { OnOk result ((v : ℕ → Bool) → satisfied v cnf.new.clauses ≡ (satisfied v cnf.old.clauses
-        && alike (value_among (named_values v names.now) output)
-        (if value_among (named_values v names.now) c
-        then value_among (named_values v names.now) a
-        else value_among (named_values v names.now) b))) }
+        && alike (value_among (named_values v names.now.list.items) output)
+        (if value_among (named_values v names.now.list.items) c
+        then value_among (named_values v names.now.list.items) a
+        else value_among (named_values v names.now.list.items) b))) }
 {
     define_where(alloc, cnf, names, output, c, a)?;
     define_where(alloc, cnf, names, output, c.opposite(), b)
@@ -202,20 +189,18 @@ fn define_choose(
 fn define(
     alloc: Global,
     cnf: &mut Cnf,
-    names: &[u64],
+    names: &Names,
     number: u64,
     gate: Gate,
 ) -> Result<(), AllocError>
-    requires names { All IsName names.now }
-    requires within { All (λ n. n ≤ length names.now) names.now }
-    requires room { length names.now ≤ cnf.old.variables }
-    requires there { number < length names.now }
-    requires few { length names.now < 2 ^ 63 }
+    requires room { names.now.count ≤ cnf.old.variables }
+    requires there { number < length names.now.list.items }
+    requires few { length names.now.list.items < 2 ^ 63 }
     requires above { IsAbove number gate }
-    requires named { IsNamed names.now number gate }
+    requires named { IsNamed names.now.list.items number gate }
     ensures variables { OnOk result (cnf.new.variables ≡ cnf.old.variables) }
     ensures value { OnOk result ((v : ℕ → Bool) → satisfied v cnf.new.clauses
-        ≡ (satisfied v cnf.old.clauses && defined v names.now number gate)) }
+        ≡ (satisfied v cnf.old.clauses && defined v names.now.list.items number gate)) }
 {
     let output = Node::of_gate(number);
     match gate {
@@ -229,24 +214,50 @@ fn define(
     }
 }
 
-/// Adds the clauses of all gates.
+/// Adds the clauses of a gate, if it is marked.
+fn define_marked(
+    alloc: Global,
+    cnf: &mut Cnf,
+    names: &Names,
+    marks: &[bool],
+    number: u64,
+    gate: Gate,
+) -> Result<(), AllocError>
+    requires room { names.now.count ≤ cnf.old.variables }
+    requires there { number < length names.now.list.items }
+    requires few { length names.now.list.items < 2 ^ 63 }
+    requires each { length marks.now ≡ length names.now.list.items }
+    requires above { IsAbove number gate }
+    requires named { IsNamed names.now.list.items number gate }
+    ensures variables { OnOk result (cnf.new.variables ≡ cnf.old.variables) }
+    ensures value { OnOk result ((v : ℕ → Bool) → satisfied v cnf.new.clauses
+        ≡ (satisfied v cnf.old.clauses && defined_where v marks.now names.now.list.items number gate)) }
+{
+    if is_marked(marks, number) {
+        define(alloc, cnf, names, number, gate)
+    } else {
+        Ok(())
+    }
+}
+
+/// Adds the clauses of all marked gates.
 pub fn define_all(
     alloc: Global,
     cnf: &mut Cnf,
-    names: &[u64],
+    names: &Names,
+    marks: &[bool],
     store: &CircuitStore,
 ) -> Result<(), AllocError>
-    requires names { All IsName names.now }
-    requires within { All (λ n. n ≤ length names.now) names.now }
-    requires room { length names.now ≤ cnf.old.variables }
-    requires each { length names.now ≡ length store.now }
-    requires named { (k : ℕ) (g : CircuitGate) → slice_get store.now k ≡ Some g → IsNamed names.now k g }
+    requires room { names.now.count ≤ cnf.old.variables }
+    requires each { length names.now.list.items ≡ length store.now }
+    requires marks_each { length marks.now ≡ length store.now }
+    requires named { (k : ℕ) (g : CircuitGate) → slice_get store.now k ≡ Some g → IsNamed names.now.list.items k g }
     ensures variables { OnOk result (cnf.new.variables ≡ cnf.old.variables) }
     ensures value { OnOk result ((v : ℕ → Bool) → satisfied v cnf.new.clauses
-        ≡ (satisfied v cnf.old.clauses && all_defined v names.now 0 store.now)) }
+        ≡ (satisfied v cnf.old.clauses && all_defined v marks.now names.now.list.items 0 store.now)) }
 {
     for number in 0..store.gates() {
-        define(alloc, cnf, names, number, store.gate(number))?;
+        define_marked(alloc, cnf, names, marks, number, store.gate(number))?;
     }
     Ok(())
 }

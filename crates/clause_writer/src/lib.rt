@@ -3,6 +3,7 @@
 
 mod define;
 mod names;
+mod reach;
 mod write;
 
 pub use names::{are_numbered, count_inputs};

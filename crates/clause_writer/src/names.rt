@@ -1,11 +1,14 @@
 //! The variables that stand for the gates.
 
-ghost use Rattle.std.specs.Prelude.{◌≡◌, ◌+◌, ◌<◌, ◌≤◌, ◌↔◌, length, IfOk, IfSome, IsTrue};
-ghost use Rattle.clause_writer.specs.Named.{input_of, input_count, names_from};
+ghost use Rattle.std.specs.Prelude.{◌≡◌, ◌+◌, ◌<◌, ◌≤◌, ◌↔◌, length, All, IfOk, IfSome, IsTrue};
+ghost use Rattle.gate_trait.specs.Circuit.{BelongsTo};
+ghost use Rattle.clause_writer.specs.Named.{IsName, input_of, input_count, owns, name_at, names_from, variable_count};
+ghost use Rattle.clause_writer.specs.Reached.{HasMark};
 ghost use Rattle.clause_writer.specs.Written.{AreNumbered};
 
+use crate::reach::is_marked;
 use circuit_store::CircuitStore;
-use gate_trait::Gate;
+use gate_trait::{Gate, Node};
 use std::alloc::{AllocError, Global};
 
 /// An input's variable.
@@ -61,22 +64,65 @@ fn is_within(gate: Gate, most: u64) -> bool
     }
 }
 
-/// The variable of each gate: an input's is its own, and the others have the numbers after the
-/// inputs.
-pub fn names_of(alloc: Global, store: &CircuitStore) -> Result<Vec<u64>, AllocError>
-    ensures names { IfOk result (λ names. names.items ≡ names_from (input_count store.now + 1) store.now) }
+/// The variables of the gates, each from 1 to their count.
+#[derive(Drop, Debug)]
+pub struct Names {
+    /// One for each gate.
+    pub list: Vec<u64>,
+    /// How many variables there are.
+    pub count: u64,
+    ghost names: { All IsName list.items },
+    ghost within: { All (λ n. n ≤ count) list.items },
+}
+
+/// A gate's variable, where `next` is the first that no gate has.
+fn name_at(next: u64, gate: Gate, is_marked: bool) -> u64
+    ensures { result ≡ name_at next (input_of gate) is_marked }
 {
-    let mut names = Vec::new(alloc);
+    match input_of(gate) {
+        Some(variable) => variable,
+        None => if is_marked { next } else { 1 },
+    }
+}
+
+/// How many variables the gate takes that no input has.
+fn owns(gate: Gate, is_marked: bool) -> u64
+    ensures count { result ≡ owns (input_of gate) is_marked }
+    ensures most { result ≤ 1 }
+{
+    if is_marked && input_of(gate).is_none() {
+        1
+    } else {
+        0
+    }
+}
+
+/// The variable of each gate: an input's is its own, and the others that are marked have the
+/// numbers after the inputs.
+pub fn names_of(
+    alloc: Global,
+    store: &CircuitStore,
+    sure: Node,
+    marks: &[bool],
+) -> Result<Names, AllocError>
+    requires inputs { AreNumbered store.now }
+    requires each { length marks.now ≡ length store.now }
+    requires sure_there { BelongsTo store.now sure }
+    requires sure_marked { HasMark marks.now sure }
+    ensures names { IfOk result (λ names. names.list.items ≡ names_from marks.now (input_count store.now + 1) 0 store.now) }
+    ensures count { IfOk result (λ names. names.count ≡ variable_count marks.now store.now) }
+{
+    let mut list = Vec::new(alloc);
     let gates = store.gates();
     let mut next = count_inputs(store) + 1;
     for number in 0..gates {
-        match input_of(store.gate(number)) {
-            Some(variable) => names.push(variable)?,
-            None => {
-                names.push(next)?;
-                next += 1;
-            }
-        }
+        let gate = store.gate(number);
+        let has_mark = is_marked(marks, number);
+        list.push(name_at(next, gate, has_mark))?;
+        next += owns(gate, has_mark);
     }
-    Ok(names)
+    Ok(Names {
+        list,
+        count: next - 1,
+    })
 }

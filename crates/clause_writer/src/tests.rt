@@ -27,10 +27,10 @@ fn are_true(cnf: &Cnf, bits: u64) -> bool {
     true
 }
 
-/// How many assignments of four variables have these first two and satisfy the clauses.
+/// How many assignments of three variables have these first two and satisfy the clauses.
 fn count_extensions(cnf: &Cnf, inputs: u64) -> u64 {
     let mut found = 0u64;
-    for others in 0..4u64 {
+    for others in 0..2u64 {
         if are_true(cnf, inputs | (others << 2)) {
             found = found.wrapping_add(1);
         }
@@ -38,11 +38,12 @@ fn count_extensions(cnf: &Cnf, inputs: u64) -> u64 {
     found
 }
 
-/// The clauses of `x1 or x2`, which is to be true, without further roots.
+/// The clauses of `x1 or x2`, which is to be true, without further roots. Nothing reaches `x1 and x2`.
 fn written(rt: &impl AllocGlobal) -> Result<Cnf, Fail> {
     let mut store = CircuitStore::new(rt.alloc());
     let a = store.input(1)?;
     let b = store.input(2)?;
+    let _both = store.and(a, b)?;
     let sure = store.or(a, b)?;
     if !are_numbered(&store) {
         return Err("the inputs are the variables 1 and 2")?;
@@ -59,10 +60,10 @@ fn inputs_are_counted(rt: HostRuntime) -> Result<(), Fail> {
 }
 
 #[test]
-fn each_gate_has_a_variable(rt: HostRuntime) -> Result<(), Fail> {
+fn what_is_reached_has_a_variable(rt: HostRuntime) -> Result<(), Fail> {
     let cnf = written(&rt)?;
-    assert_eq!(rt; cnf.variables, 4);
-    assert_eq!(rt; cnf.clauses.len(), 5);
+    assert_eq!(rt; cnf.variables, 3);
+    assert_eq!(rt; cnf.clauses.len(), 4);
     Ok(())
 }
 

@@ -4,6 +4,6 @@ use Rattle.clause_writer.proofs.define.define_all.Goals as goal
 
 pub loop-number-preserved : goal.loop-number-preserved
 loop-number-preserved c = record {
-  variables = c.in_ok-define.ensures.variables ∙ c.loop-number.invariant.variables;
-  value = λ v. define_step v c.args.names.now c.args.store.now c.loop-number.number c.gate.result _ _ _ c.gate.ensures (c.in_ok-define.ensures.value v) (c.loop-number.invariant.value v);
+  variables = c.in_ok-define_marked.ensures.variables ∙ c.loop-number.invariant.variables;
+  value = λ v. define_step v c.args.marks.now c.args.names.now.list.items c.args.store.now c.loop-number.number c.gate.result _ _ _ c.gate.ensures (c.in_ok-define_marked.ensures.value v) (c.loop-number.invariant.value v);
 }

@@ -6,5 +6,5 @@ use Rattle.clause_writer.proofs.define.define_all.Given as goal
 abbrev pub invariant-loop-number : goal.invariant-loop-number
 invariant-loop-number l = record {
   variables : l.cnf.variables ≡ l.initial.cnf.variables;
-  value : (v : ℕ → Bool) → (satisfied v l.cnf.clauses && all_defined v l.names l.number (drop l.number l.store)) ≡ (satisfied v l.initial.cnf.clauses && all_defined v l.names 0 l.store);
+  value : (v : ℕ → Bool) → (satisfied v l.cnf.clauses && all_defined v l.marks l.names.list.items l.number (drop l.number l.store)) ≡ (satisfied v l.initial.cnf.clauses && all_defined v l.marks l.names.list.items 0 l.store);
 }

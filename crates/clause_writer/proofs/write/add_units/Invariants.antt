@@ -6,5 +6,5 @@ use Rattle.clause_writer.proofs.write.add_units.Given as goal
 abbrev pub invariant-loop-root : goal.invariant-loop-root
 invariant-loop-root l = record {
   variables : l.cnf.variables ≡ l.initial.cnf.variables;
-  units : l.cnf.clauses ≡ l.initial.cnf.clauses ++ map (unit_of l.names) (take l.root-index l.roots);
+  units : l.cnf.clauses ≡ l.initial.cnf.clauses ++ map (unit_of l.names.list.items) (take l.root-index l.roots);
 }

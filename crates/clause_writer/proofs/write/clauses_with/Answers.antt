@@ -1,55 +1,30 @@
-use Rattle.std.proofs.Common.{ℤ, ◌<◌, List, length, ap, arith}
+use Rattle.std.proofs.Common.{ℤ, ◌<◌, ◌∙◌, List, length, ap, arith}
 use Rattle.clause_writer.specs.Named.{satisfied}
 use Rattle.gate_trait.specs.NodeWords.{number_of}
-use Rattle.clause_writer.proofs.Naming.{all_names, names_within, names_each, names_named, one_there, all_there}
+use Rattle.clause_writer.proofs.Naming.{names_each, names_named, one_there, all_there}
 use Rattle.clause_writer.proofs.WrittenLaw.{written, says_all}
 use Rattle.clause_writer.proofs.write.clauses_with.Goals as goal
 
-pub define_all-requires-clause-names : goal.define_all-requires-clause-names
-define_all-requires-clause-names c = all_names c.args.store.now c.args.names.now c.requires.named c.requires.inputs c.gates.ensures.few
-
-pub define_all-requires-clause-within : goal.define_all-requires-clause-within
-define_all-requires-clause-within c = names_within c.args.store.now c.args.names.now c.requires.named c.requires.inputs
-
-pub define_all-requires-clause-room : goal.define_all-requires-clause-room
-define_all-requires-clause-room c = omega (arith, names_each c.args.store.now c.args.names.now c.requires.named, c.gates.ensures.count)
-
 pub define_all-requires-clause-each : goal.define_all-requires-clause-each
-define_all-requires-clause-each c = names_each c.args.store.now c.args.names.now c.requires.named
+define_all-requires-clause-each c = names_each c.args.marks.now c.args.store.now c.args.names.now.list.items c.requires.named
 
 pub define_all-requires-clause-named : goal.define_all-requires-clause-named
-define_all-requires-clause-named c = names_named c.args.store.now c.args.names.now c.requires.named
-
-pub add_clause-requires-clause-names : goal.add_clause-requires-clause-names
-add_clause-requires-clause-names c = all_names c.args.store.now c.args.names.now c.requires.named c.requires.inputs c.gates.ensures.few
-
-pub add_clause-requires-clause-within : goal.add_clause-requires-clause-within
-add_clause-requires-clause-within c = names_within c.args.store.now c.args.names.now c.requires.named c.requires.inputs
-
-pub add_clause-requires-clause-room : goal.add_clause-requires-clause-room
-add_clause-requires-clause-room c = omega (arith, names_each c.args.store.now c.args.names.now c.requires.named, c.gates.ensures.count, c.in_ok-define_all.ensures.variables)
+define_all-requires-clause-named c = names_named c.args.marks.now c.args.store.now c.args.names.now.list.items c.requires.named
 
 pub add_clause-requires-clause-there : goal.add_clause-requires-clause-there
 add_clause-requires-clause-there c =
-    let long = names_each c.args.store.now c.args.names.now c.requires.named in
-    let there : number_of c.args.sure < length c.args.names.now = omega (arith, c.requires.sure_there, long) in
-    one_there c.args.sure (length c.args.names.now) there
-
-pub add_units-requires-clause-names : goal.add_units-requires-clause-names
-add_units-requires-clause-names c = all_names c.args.store.now c.args.names.now c.requires.named c.requires.inputs c.gates.ensures.few
-
-pub add_units-requires-clause-within : goal.add_units-requires-clause-within
-add_units-requires-clause-within c = names_within c.args.store.now c.args.names.now c.requires.named c.requires.inputs
-
-pub add_units-requires-clause-room : goal.add_units-requires-clause-room
-add_units-requires-clause-room c = omega (arith, names_each c.args.store.now c.args.names.now c.requires.named, c.gates.ensures.count, c.in_ok-define_all.ensures.variables, c.in_ok-add_clause.ensures.variables)
+    let long = names_each c.args.marks.now c.args.store.now c.args.names.now.list.items c.requires.named in
+    let there : number_of c.args.sure < length c.args.names.now.list.items = omega (arith, c.requires.sure_there, long) in
+    one_there c.args.sure (length c.args.names.now.list.items) there
 
 pub add_units-requires-clause-there : goal.add_units-requires-clause-there
-add_units-requires-clause-there c = all_there c.args.roots.now (length c.args.names.now) (length c.args.store.now) (names_each c.args.store.now c.args.names.now c.requires.named) c.requires.roots_there
+add_units-requires-clause-there c = all_there c.args.roots.now (length c.args.names.now.list.items) (length c.args.store.now) (names_each c.args.marks.now c.args.store.now c.args.names.now.list.items c.requires.named) c.requires.roots_there
 
 pub returns-clause-written : goal.returns-clause-written
 returns-clause-written c =
-    written c.args.store.now c.args.names.now c.requires.named c.requires.inputs c.gates.ensures.layered c.args.sure c.args.roots.now c.add_clause.new.cnf.clauses c.add_units.new.cnf.clauses
+    written c.args.marks.now c.args.store.now c.args.names.now.list.items c.requires.named c.requires.inputs c.requires.layered c.requires.reached.closed
+    c.args.sure c.args.roots.now c.add_clause.new.cnf.clauses c.add_units.new.cnf.clauses
     c.in_ok-add_units.ensures.units
     (λ v. says_all _ _ _ _ _ (ap (λ (cs : List (List ℤ)). satisfied v cs) c.new.ensures) (c.in_ok-define_all.ensures.value v) (c.in_ok-add_clause.ensures.value v))
-    c.requires.sure_there c.requires.roots_there
+    c.requires.sure_there c.requires.roots_there c.requires.reached.surely c.requires.reached.rooted
+    c.add_units.new.cnf.variables (c.in_ok-add_units.ensures.variables ∙ c.in_ok-add_clause.ensures.variables ∙ c.in_ok-define_all.ensures.variables ∙ c.requires.counted)
