@@ -4,6 +4,7 @@
 
 pub mod decoding;
 pub mod kinds;
+pub mod laws;
 pub mod numbering;
 pub mod numbers;
 pub mod order;
@@ -15,6 +16,7 @@ pub mod tops;
 pub mod uppers;
 
 pub use decoding::decode;
+pub use laws::lassos_unroll;
 pub use numbering::layout;
 pub use places::{Cells, Layout};
 pub use shortening::shortest;

@@ -1,18 +1,29 @@
 // The lasso with fewest states and the same sequence.
 
-ghost use Rattle.std.specs.Prelude.{◌≡◌, ◌<◌, ◌≤◌, ◌+◌, ◌^◌, length, IfOk, IsTrue, All, map};
+ghost use Rattle.std.specs.Prelude.{◌≡◌, ◌≢◌, ◌<◌, ◌≤◌, ◌+◌, ◌-◌, ◌%◌, ◌↔◌, ℕ, length, take, slice_index, IfOk, IsTrue};
+ghost use Rattle.bounds_builder.specs.Shortest.{IsSameSequence, HasFewestStates, HasEarliestLoop};
+ghost use Rattle.bounds_builder.specs.Repeats.{AreFirsts, IsFirst, Repeats};
 
 use core_meaning::{Lasso, State, make_lasso};
 use std::alloc::{AllocError, Global};
-use tuple_sets::TupleSet;
+use tuple_sets::{Tuple, TupleSet};
 
-/// Whether two sets have the same tuples.
-fn are_same_sets(a: &TupleSet, b: &TupleSet) -> bool {
+/// Whether two tuples are the same.
+fn are_same_tuples(a: &Tuple, b: &Tuple) -> bool
+    ensures { IsTrue result ↔ a.now ≡ b.now }
+{
+    a.numbers() == b.numbers()
+}
+
+/// Whether two sets have the same columns and the same tuples.
+fn are_same_sets(a: &TupleSet, b: &TupleSet) -> bool
+    ensures { IsTrue result ↔ a.now ≡ b.now }
+{
     if a.arity() != b.arity() || a.len() != b.len() {
         return false;
     }
     for place in 0..a.len() {
-        if place >= b.len() || a.tuple(place) != b.tuple(place) {
+        if !are_same_tuples(a.tuple(place), b.tuple(place)) {
             return false;
         }
     }
@@ -20,12 +31,14 @@ fn are_same_sets(a: &TupleSet, b: &TupleSet) -> bool {
 }
 
 /// Whether two states have the same tuples in each relation.
-fn are_same(a: &State, b: &State) -> bool {
+fn are_same(a: &State, b: &State) -> bool
+    ensures { IsTrue result ↔ a.now ≡ b.now }
+{
     if a.len() != b.len() {
         return false;
     }
     for relation in 0..a.len() {
-        if relation >= b.len() || !are_same_sets(a.get(relation), b.get(relation)) {
+        if !are_same_sets(a.get(relation), b.get(relation)) {
             return false;
         }
     }
@@ -34,7 +47,7 @@ fn are_same(a: &State, b: &State) -> bool {
 
 /// For each state the first one that is the same.
 fn numbers(alloc: Global, lasso: &Lasso) -> Result<Vec<u32>, AllocError>
-    ensures { IfOk result (λ v. length v.items ≡ length lasso.now.states) }
+    ensures { IfOk result (λ v. AreFirsts lasso.now.states v.items) }
 {
     let mut all = Vec::new(alloc);
     for state in 0..lasso.states() {
@@ -44,7 +57,10 @@ fn numbers(alloc: Global, lasso: &Lasso) -> Result<Vec<u32>, AllocError>
 }
 
 /// The first state that is the same as this one.
-fn first_same(lasso: &Lasso, state: u32) -> u32 {
+fn first_same(lasso: &Lasso, state: u32) -> u32
+    requires { state < length lasso.now.states }
+    ensures { IsFirst lasso.now.states state result }
+{
     for other in 0..state {
         if are_same(lasso.at(other as u64), lasso.at(state as u64)) {
             return other;
@@ -53,8 +69,10 @@ fn first_same(lasso: &Lasso, state: u32) -> u32 {
     state
 }
 
-/// Whether the states from `from` on are the same `period` places later.
-fn repeats(numbers: &[u32], from: usize, period: usize) -> bool {
+/// Whether the states from `from` on are the same `period` places later, as far as there are states.
+fn repeats(numbers: &[u32], from: usize, period: usize) -> bool
+    ensures { IsTrue result ↔ Repeats numbers.now from period }
+{
     for place in from..numbers.len() {
         if period < numbers.len() - place && numbers[place] != numbers[place + period] {
             return false;
@@ -68,6 +86,9 @@ fn least_period(numbers: &[u32], start: usize) -> usize
     requires { start < length numbers.now }
     ensures some { 0 < result }
     ensures fits { start + result ≤ length numbers.now }
+    ensures divides { (length numbers.now - start) % result ≡ 0 }
+    ensures repeats { Repeats numbers.now start result }
+    ensures least { (q : ℕ) → 0 < q → q < result → (length numbers.now - start) % q ≡ 0 → Repeats numbers.now start q → ⊥ }
 {
     let round = numbers.len() - start;
     for period in 1..round {
@@ -82,7 +103,9 @@ fn least_period(numbers: &[u32], start: usize) -> usize
 fn least_start(numbers: &[u32], start: usize, period: usize) -> usize
     requires some { 0 < period }
     requires fits { start + period ≤ length numbers.now }
-    ensures { result ≤ start }
+    ensures most { result ≤ start }
+    ensures repeats { (i : ℕ) → result ≤ i → i < start → slice_index numbers.now i ≡ slice_index numbers.now (i + period) }
+    ensures least { 0 < result → slice_index numbers.now (result - 1) ≢ slice_index numbers.now (result - 1 + period) }
 {
     let mut place = start;
     while place > 0 {
@@ -96,7 +119,8 @@ fn least_start(numbers: &[u32], start: usize, period: usize) -> usize
 
 /// The first states, so many.
 fn first_states(alloc: Global, lasso: &Lasso, count: usize) -> Result<Vec<State>, AllocError>
-    ensures { IfOk result (λ v. length v.items ≡ count) }
+    requires { count ≤ length lasso.now.states }
+    ensures { IfOk result (λ v. v.items ≡ take count lasso.now.states) }
 {
     let mut all = Vec::new(alloc);
     for place in 0..count {
@@ -108,13 +132,14 @@ fn first_states(alloc: Global, lasso: &Lasso, count: usize) -> Result<Vec<State>
 /// The lasso with fewest states that shows the same sequence: its loop is as short as it can be,
 /// and begins as early as it can.
 pub fn shortest(alloc: Global, lasso: &Lasso) -> Result<Lasso, AllocError>
-    ensures { IfOk result (λ l. length l.states ≤ length lasso.now.states) }
+    ensures count { IfOk result (λ l. length l.states ≤ length lasso.now.states) }
+    ensures same { IfOk result (IsSameSequence lasso.now) }
+    ensures fewest { IfOk result HasFewestStates }
+    ensures earliest { IfOk result HasEarliestLoop }
 {
     let all = numbers(alloc, lasso)?;
+    let _count = lasso.states();
     let start = lasso.loop_start() as usize;
-    if start >= all.len() {
-        return lasso.copy(alloc);
-    }
     let period = least_period(&all, start);
     let begin = least_start(&all, start, period);
     cut(alloc, lasso, begin, period)
@@ -124,12 +149,9 @@ pub fn shortest(alloc: Global, lasso: &Lasso) -> Result<Lasso, AllocError>
 fn cut(alloc: Global, lasso: &Lasso, begin: usize, period: usize) -> Result<Lasso, AllocError>
     requires some { 0 < period }
     requires fits { begin + period ≤ length lasso.now.states }
-    ensures { IfOk result (λ l. length l.states ≡ begin + period) }
+    ensures { IfOk result (λ l. l ≡ record { states = take (begin + period) lasso.now.states; loop_start = begin }) }
 {
-    let count = lasso.states() as usize;
-    if begin + period > count {
-        return Err(AllocError);
-    }
+    let _count = lasso.states();
     let states = first_states(alloc, lasso, begin + period)?;
     match make_lasso(states, begin as u32) {
         Some(new) => Ok(new),

@@ -1,6 +1,6 @@
 // The bounds of an empty model, and the lasso of an assignment.
 
-use crate::{BoundsFault, bounds, decode, shortest};
+use crate::{BoundsFault, bounds, decode, lassos_unroll, shortest};
 use alloy_base::{Assignment, Place};
 use core_meaning::{Lasso, Scopes, SigScopeList};
 use core_tree::{AssertList, BodyList, CommandList, FactList, FieldList, Model, SigList};
@@ -45,4 +45,9 @@ fn least_states(alloc: Global, truths: &[bool]) -> Result<u32, BoundsFault> {
 fn equal_states_are_one(rt: HostRuntime) -> Result<(), Fail> {
     assert!(rt; least_states(rt.alloc(), &[false, true]) == Ok(1));
     Ok(())
+}
+
+#[test]
+fn laws_are_called(_rt: HostRuntime) {
+    lassos_unroll();
 }
