@@ -1,0 +1,2 @@
+pub mod SetOf
+pub mod Rows
