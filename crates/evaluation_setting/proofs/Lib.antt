@@ -1,0 +1,3 @@
+pub mod PowLaw
+pub mod SetLaw
+pub mod WindowLaw

@@ -1,8 +1,15 @@
-//! What formulas are judged in: a model with its scopes and a lasso, the sets of relations, the
-//! integers of a bitwidth, and what names stand for.
+//! What formulas are judged in: a model with its scopes and a lasso, which give a world of the
+//! meaning, its sets, the window of its lasso, and what names stand for.
 #![tactic(auto)]
 
-pub mod integers;
+pub mod names;
+pub mod sets;
 pub mod setting;
+pub mod sizes;
 
-pub use setting::Setting;
+pub use names::{Meant, look_up};
+pub use setting::{Setting, make_setting};
+pub use sizes::integer_count;
+
+#[cfg(test)]
+mod tests;
