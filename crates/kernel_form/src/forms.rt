@@ -1,94 +1,94 @@
 // Kernel formulas and expressions, one small function a form.
 
-ghost use Rattle.std.specs.Prelude.{◌≡◌, ◌+◌, IfOk};
+ghost use Rattle.std.specs.Prelude.{◌≡◌, ◌↔◌, ◌≤◌, ℕ, ℤ, Bool, Option, IfOk, map};
+ghost use Rattle.core_tree.specs.Trees.{claim_of, term_of, variable_of};
+ghost use Rattle.core_tree.specs.Past.{Depths, BodyDepths, past_of};
+ghost use Rattle.core_meaning.specs.World.{World};
+ghost use Rattle.core_meaning.specs.Meaning.{Holds};
+ghost use Rattle.core_meaning.specs.Called.{no_bodies};
+ghost use Rattle.call_inliner.specs.CallFree.{IsCallFree};
+ghost use Rattle.call_inliner.specs.Written.{atoms};
+ghost use Rattle.kernel_form.specs.Left.{IsLeft};
+ghost use Rattle.kernel_form.specs.Parts.{Allowed, IsMade};
+ghost use Rattle.kernel_form.specs.Written.{end as end_of_arrow, kernel_term, kernel_claim, kernel_binder};
 
-use crate::build::{always_true, choose, equal, inside, not};
+use crate::build::{always_true, not};
 use crate::derived::{combined, compare, connect, counted, happen_both, happens, test};
-use crate::variables::{comprehension, sum_under, under};
+use crate::variables::under;
 use core_tree::{Expr, Formula, Multiplicity, Variable};
 use std::alloc::{AllocError, Global};
 
-/// The formula with its derived operators written out. It has no call and no `let`; one that has is
-/// written out as if what is called never held and had no tuples.
-pub fn kernel(alloc: Global, formula: &Formula) -> Result<Formula, AllocError> {
-    kernel_of(alloc, formula, 0)
-}
-
-/// The next level. There is no memory for a tree with as many levels as there are numbers.
-fn deeper(level: u64) -> Result<u64, AllocError>
-    ensures { IfOk result (λ n. n ≡ level + 1) }
+/// The formula with its derived operators written out: it has the kernel's forms alone.
+///
+/// A formula without calls and `let` holds at the same positions of every lasso as before, whatever
+/// atoms its free names stand for. One with them is written out as if what is called or named never
+/// held and had no tuples.
+pub fn kernel(alloc: Global, formula: &Formula) -> Result<Formula, AllocError>
+    ensures forms { IfOk result (λ f. IsLeft (claim_of f)) }
+    ensures same { IsCallFree (claim_of formula.now) → IfOk result (λ f. (w : World) (m : ℕ → Option ℕ) (i : ℕ) → Holds w no_bodies (claim_of f) (atoms m) i ↔ Holds w no_bodies (claim_of formula.now) (atoms m) i) }
+    ensures past { IfOk result (λ f. (bodies : BodyDepths) (d : Depths) → past_of bodies (claim_of f) d ≤ past_of bodies (claim_of formula.now) d) }
+    ensures parts { IfOk result (λ f. (sigs : ℕ → Bool) (fields : ℕ → Bool) (numbers : ℤ → Bool) (names : Allowed) → IsMade sigs fields numbers (claim_of formula.now) names → IsMade sigs fields numbers (claim_of f) names) }
 {
-    if level == u64::MAX {
-        return Err(AllocError);
-    }
-    Ok(level + 1)
+    kernel_of(alloc, formula)
 }
 
-/// The kernel formula at a level of the tree.
+/// The kernel formula.
 #[cycle(kernel)]
-fn kernel_of(alloc: Global, formula: &Formula, level: u64) -> Result<Formula, AllocError> {
-    let next = deeper(level)?;
+fn kernel_of(alloc: Global, formula: &Formula) -> Result<Formula, AllocError>
+    ensures { IfOk result (λ f. claim_of f ≡ kernel_claim (claim_of formula.now)) }
+{
     match formula {
-        Formula::Inside(a, b) => {
-            let first = expr_of(alloc, a, next)?;
-            let second = expr_of(alloc, b, next)?;
-            inside(alloc, first, second)
-        }
-        Formula::Equal(a, b) => {
-            let first = expr_of(alloc, a, next)?;
-            let second = expr_of(alloc, b, next)?;
-            equal(alloc, first, second)
-        }
-        Formula::Within(a, word, b) => {
-            let first = expr_of(alloc, a, next)?;
-            let bound = bound_of(alloc, b, next)?;
-            Ok(Formula::Within(Box::new(alloc, first)?, *word, Box::new(alloc, bound)?))
-        }
+        Formula::Inside(a, b) => Ok(Formula::Inside(
+            boxed_expr(alloc, a, false)?,
+            boxed_expr(alloc, b, false)?,
+        )),
+        Formula::Equal(a, b) => Ok(Formula::Equal(
+            boxed_expr(alloc, a, false)?,
+            boxed_expr(alloc, b, false)?,
+        )),
+        Formula::Within(a, word, b) => Ok(Formula::Within(
+            boxed_expr(alloc, a, false)?,
+            *word,
+            boxed_expr(alloc, b, true)?,
+        )),
         Formula::Test(quantity, a) => {
-            let first = expr_of(alloc, a, next)?;
+            let first = expr_of(alloc, a, false)?;
             test(alloc, *quantity, first)
         }
         Formula::Compare(op, a, b) => {
-            let first = expr_of(alloc, a, next)?;
-            let second = expr_of(alloc, b, next)?;
+            let first = expr_of(alloc, a, false)?;
+            let second = expr_of(alloc, b, false)?;
             compare(alloc, *op, first, second)
         }
-        Formula::Not(f) => {
-            let first = kernel_of(alloc, f, next)?;
-            not(alloc, first)
-        }
-        Formula::Every(list) => {
-            let all = formulas(alloc, list, next)?;
-            Ok(Formula::Every(all))
-        }
+        Formula::Not(f) => Ok(Formula::Not(boxed(alloc, f)?)),
+        Formula::Every(list) => Ok(Formula::Every(formulas(alloc, list)?)),
         Formula::Connect(op, f, g) => {
-            let first = kernel_of(alloc, f, next)?;
-            let second = kernel_of(alloc, g, next)?;
+            let first = kernel_of(alloc, f)?;
+            let second = kernel_of(alloc, g)?;
             connect(alloc, *op, first, second)
         }
-        Formula::Choose(f, g, h) => {
-            let first = kernel_of(alloc, f, next)?;
-            let second = kernel_of(alloc, g, next)?;
-            let third = kernel_of(alloc, h, next)?;
-            choose(alloc, first, second, third)
-        }
+        Formula::Choose(f, g, h) => Ok(Formula::Choose(
+            boxed(alloc, f)?,
+            boxed(alloc, g)?,
+            boxed(alloc, h)?,
+        )),
         Formula::ForAll(list, f) => {
-            let inner = kernel_of(alloc, f, next)?;
-            let bounds = variables(alloc, list, next)?;
-            under(alloc, &bounds, inner)
+            let inner = kernel_of(alloc, f)?;
+            let bounds = variables(alloc, list)?;
+            under(alloc, bounds, inner)
         }
         Formula::Counted(quantity, list, f) => {
-            let inner = kernel_of(alloc, f, next)?;
-            let bounds = variables(alloc, list, next)?;
-            counted(alloc, *quantity, &bounds, inner)
+            let inner = kernel_of(alloc, f)?;
+            let bounds = variables(alloc, list)?;
+            counted(alloc, *quantity, bounds, inner)
         }
         Formula::Temporal(op, f) => {
-            let first = kernel_of(alloc, f, next)?;
+            let first = kernel_of(alloc, f)?;
             happens(alloc, *op, first)
         }
         Formula::TemporalPair(op, f, g) => {
-            let first = kernel_of(alloc, f, next)?;
-            let second = kernel_of(alloc, g, next)?;
+            let first = kernel_of(alloc, f)?;
+            let second = kernel_of(alloc, g)?;
             happen_both(alloc, *op, first, second)
         }
         Formula::Let(_, _, _) => not(alloc, always_true(alloc)),
@@ -96,10 +96,21 @@ fn kernel_of(alloc: Global, formula: &Formula, level: u64) -> Result<Formula, Al
     }
 }
 
-/// The kernel expression at a level of the tree.
+/// The multiplicity at an arrow's end, which says something in a bound alone.
+fn end(in_bound: bool, word: Multiplicity) -> Multiplicity
+    ensures { result ≡ end_of_arrow in_bound word }
+{
+    if in_bound {
+        return word;
+    }
+    Multiplicity::Set
+}
+
+/// The kernel expression. Of a bound the arrows keep their multiplicities.
 #[cycle(kernel)]
-fn expr_of(alloc: Global, expr: &Expr, level: u64) -> Result<Expr, AllocError> {
-    let next = deeper(level)?;
+fn expr_of(alloc: Global, expr: &Expr, in_bound: bool) -> Result<Expr, AllocError>
+    ensures { IfOk result (λ e. term_of e ≡ kernel_term in_bound (term_of expr.now)) }
+{
     match expr {
         Expr::Sig(sig) => Ok(Expr::Sig(*sig)),
         Expr::Field(field) => Ok(Expr::Field(*field)),
@@ -108,108 +119,85 @@ fn expr_of(alloc: Global, expr: &Expr, level: u64) -> Result<Expr, AllocError> {
         Expr::Iden => Ok(Expr::Iden),
         Expr::Empty => Ok(Expr::Empty),
         Expr::Int => Ok(Expr::Int),
-        Expr::Combine(op, a, b) => {
-            let first = expr_of(alloc, a, next)?;
-            let second = expr_of(alloc, b, next)?;
-            Ok(Expr::Combine(*op, Box::new(alloc, first)?, Box::new(alloc, second)?))
-        }
-        Expr::Product(a, _, _, b) => {
-            let first = expr_of(alloc, a, next)?;
-            let second = expr_of(alloc, b, next)?;
-            Ok(Expr::Product(
-                Box::new(alloc, first)?,
-                Multiplicity::Set,
-                Multiplicity::Set,
-                Box::new(alloc, second)?,
-            ))
-        }
+        Expr::Combine(op, a, b) => Ok(Expr::Combine(
+            *op,
+            boxed_expr(alloc, a, false)?,
+            boxed_expr(alloc, b, false)?,
+        )),
+        Expr::Product(a, left, right, b) => Ok(Expr::Product(
+            boxed_expr(alloc, a, in_bound)?,
+            end(in_bound, *left),
+            end(in_bound, *right),
+            boxed_expr(alloc, b, in_bound)?,
+        )),
         Expr::Unary(op, a) => {
-            let first = expr_of(alloc, a, next)?;
+            let first = expr_of(alloc, a, false)?;
             combined(alloc, *op, first)
         }
-        Expr::Prime(a) => {
-            let first = expr_of(alloc, a, next)?;
-            Ok(Expr::Prime(Box::new(alloc, first)?))
-        }
-        Expr::Choose(f, a, b) => {
-            let test = kernel_of(alloc, f, next)?;
-            let first = expr_of(alloc, a, next)?;
-            let second = expr_of(alloc, b, next)?;
-            Ok(Expr::Choose(
-                Box::new(alloc, test)?,
-                Box::new(alloc, first)?,
-                Box::new(alloc, second)?,
-            ))
-        }
-        Expr::Comprehension(list, f) => {
-            let inner = kernel_of(alloc, f, next)?;
-            let bounds = variables(alloc, list, next)?;
-            comprehension(alloc, bounds, inner)
-        }
+        Expr::Prime(a) => Ok(Expr::Prime(boxed_expr(alloc, a, false)?)),
+        Expr::Choose(f, a, b) => Ok(Expr::Choose(
+            boxed(alloc, f)?,
+            boxed_expr(alloc, a, false)?,
+            boxed_expr(alloc, b, false)?,
+        )),
+        Expr::Comprehension(list, f) => Ok(Expr::Comprehension(
+            variables(alloc, list)?,
+            boxed(alloc, f)?,
+        )),
         Expr::Number(number, place) => Ok(Expr::Number(*number, *place)),
-        Expr::Count(a) => {
-            let first = expr_of(alloc, a, next)?;
-            Ok(Expr::Count(Box::new(alloc, first)?))
-        }
-        Expr::Arithmetic(op, a, b) => {
-            let first = expr_of(alloc, a, next)?;
-            let second = expr_of(alloc, b, next)?;
-            Ok(Expr::Arithmetic(*op, Box::new(alloc, first)?, Box::new(alloc, second)?))
-        }
-        Expr::Sum(list, a) => {
-            let inner = expr_of(alloc, a, next)?;
-            let bounds = variables(alloc, list, next)?;
-            sum_under(alloc, &bounds, inner)
-        }
+        Expr::Count(a) => Ok(Expr::Count(boxed_expr(alloc, a, false)?)),
+        Expr::Arithmetic(op, a, b) => Ok(Expr::Arithmetic(
+            *op,
+            boxed_expr(alloc, a, false)?,
+            boxed_expr(alloc, b, false)?,
+        )),
+        Expr::Sum(list, a) => Ok(Expr::Sum(variables(alloc, list)?, boxed_expr(alloc, a, false)?)),
         Expr::Let(_, _, _) => Ok(Expr::Empty),
         Expr::Call(_, _) => Ok(Expr::Empty),
     }
 }
 
-/// The bound at a level of the tree: the multiplicities of its arrows stay.
+/// The kernel formula in a box.
 #[cycle(kernel)]
-fn bound_of(alloc: Global, expr: &Expr, level: u64) -> Result<Expr, AllocError> {
-    let next = deeper(level)?;
-    match expr {
-        Expr::Product(a, left, right, b) => {
-            let first = bound_of(alloc, a, next)?;
-            let second = bound_of(alloc, b, next)?;
-            Ok(Expr::Product(
-                Box::new(alloc, first)?,
-                *left,
-                *right,
-                Box::new(alloc, second)?,
-            ))
-        }
-        _ => {
-            let inner = expr_of(alloc, expr, next)?;
-            Ok(inner)
-        }
-    }
+fn boxed(alloc: Global, formula: &Formula) -> Result<Box<Formula>, AllocError>
+    ensures { IfOk result (λ f. claim_of f.value ≡ kernel_claim (claim_of formula.now)) }
+{
+    Ok(Box::new(alloc, kernel_of(alloc, formula)?)?)
+}
+
+/// The kernel expression in a box.
+#[cycle(kernel)]
+fn boxed_expr(alloc: Global, expr: &Expr, in_bound: bool) -> Result<Box<Expr>, AllocError>
+    ensures { IfOk result (λ e. term_of e.value ≡ kernel_term in_bound (term_of expr.now)) }
+{
+    Ok(Box::new(alloc, expr_of(alloc, expr, in_bound)?)?)
 }
 
 /// The kernel formulas of a list.
 #[cycle(kernel)]
-fn formulas(alloc: Global, list: &[Formula], level: u64) -> Result<Vec<Formula>, AllocError> {
-    let next = deeper(level)?;
+#[tactic(auto, using(crate::proofs::Lists::pushed))]
+fn formulas(alloc: Global, list: &[Formula]) -> Result<Vec<Formula>, AllocError>
+    ensures { IfOk result (λ all. map claim_of all.items ≡ map kernel_claim (map claim_of list.now)) }
+{
     let mut all = Vec::new(alloc);
     for formula in list {
-        all.push(kernel_of(alloc, formula, next)?)?;
+        all.push(kernel_of(alloc, formula)?)?;
     }
     Ok(all)
 }
 
 /// The variables of a list with kernel expressions as bounds.
 #[cycle(kernel)]
-fn variables(alloc: Global, list: &[Variable], level: u64) -> Result<Vec<Variable>, AllocError> {
-    let next = deeper(level)?;
+#[tactic(auto, using(crate::proofs::Lists::pushed))]
+fn variables(alloc: Global, list: &[Variable]) -> Result<Vec<Variable>, AllocError>
+    ensures { IfOk result (λ all. map variable_of all.items ≡ map kernel_binder (map variable_of list.now)) }
+{
     let mut all = Vec::new(alloc);
     for variable in list {
-        let bound = expr_of(alloc, &variable.bound, next)?;
         all.push(Variable {
             name: variable.name,
             apart: variable.apart,
-            bound,
+            bound: expr_of(alloc, &variable.bound, false)?,
         })?;
     }
     Ok(all)

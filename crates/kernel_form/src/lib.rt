@@ -4,6 +4,8 @@
 pub mod build;
 pub mod derived;
 pub mod forms;
+#[cfg(test)]
+mod tests;
 pub mod variables;
 
 pub use forms::kernel;

@@ -1,17 +1,10 @@
-use Rattle.std.proofs.Common.{◌-◌, ◌^◌}
+use Rattle.std.proofs.Common.{◌≡◌, map, take}
+use Rattle.core_tree.specs.Trees.{claim_of, variable_of}
+use Rattle.kernel_form.specs.Written.{kernel_claim, kernel_binder}
 use Rattle.kernel_form.proofs.forms.+kernel.Given as goal
 
-abbrev pub decreases-kernel_of : goal.decreases-kernel_of
-decreases-kernel_of l = 2 ^ 64 - l.level
+abbrev pub invariant-formulas-loop-formula : goal.invariant-formulas-loop-formula
+invariant-formulas-loop-formula l = map claim_of l.all.items ≡ map kernel_claim (map claim_of (take l.formula-index l.list))
 
-abbrev pub decreases-expr_of : goal.decreases-expr_of
-decreases-expr_of l = 2 ^ 64 - l.level
-
-abbrev pub decreases-bound_of : goal.decreases-bound_of
-decreases-bound_of l = 2 ^ 64 - l.level
-
-abbrev pub decreases-formulas : goal.decreases-formulas
-decreases-formulas l = 2 ^ 64 - l.level
-
-abbrev pub decreases-variables : goal.decreases-variables
-decreases-variables l = 2 ^ 64 - l.level
+abbrev pub invariant-variables-loop-variable : goal.invariant-variables-loop-variable
+invariant-variables-loop-variable l = map variable_of l.all.items ≡ map kernel_binder (map variable_of (take l.variable-index l.list))
