@@ -3,15 +3,20 @@
 use crate::fields::{bound_rounds, field_holds};
 use core_meaning::{Lasso, Scope, Scopes};
 use core_tree::{Column, Formula, Model, RelationOp, Sig, SigKind};
+use set_operators::{EvaluationFault, has_multiplicity};
 use std::alloc::{AllocError, Global};
-use tree_evaluator::parts::{allows, combined, integers_at, is_inside, nothing};
+use tree_evaluator::parts::{combined, integers_at, is_inside, nothing};
 use tree_evaluator::{
     DEEP, Held, Judge, atom_at, claim_repeats, holds_in, judge_of, relation_at, set_of,
 };
 use tuple_sets::TupleSet;
 
 /// The members of a parent at a position.
-fn column_at<'a>(judge: &Judge<'a>, column: Column, position: u64) -> Result<Held<'a>, AllocError> {
+fn column_at<'a>(
+    judge: &Judge<'a>,
+    column: Column,
+    position: u64,
+) -> Result<Held<'a>, EvaluationFault> {
     match column {
         Column::Sig(sig) => Ok(relation_at(judge, sig as usize, position)),
         Column::Int => integers_at(judge),
@@ -23,17 +28,24 @@ fn columns_at<'a>(
     judge: &Judge<'a>,
     columns: &[Column],
     position: u64,
-) -> Result<Held<'a>, AllocError> {
-    let mut all = nothing(judge);
-    for column in columns {
-        let here = column_at(judge, *column, position)?;
-        all = combined(judge, RelationOp::Union, &all, &here)?;
+) -> Result<Held<'a>, EvaluationFault> {
+    match columns.split_first() {
+        None => Ok(nothing(judge)),
+        Some((first, rest)) => {
+            let here = column_at(judge, *first, position)?;
+            let others = columns_at(judge, rest, position)?;
+            combined(judge, RelationOp::Union, &here, &others)
+        }
     }
-    Ok(all)
 }
 
 /// Whether a sig's set lies inside its parent, or inside the union of its parents.
-fn is_placed(judge: &Judge, kind: &SigKind, set: &Held, position: u64) -> Result<bool, AllocError> {
+fn is_placed(
+    judge: &Judge,
+    kind: &SigKind,
+    set: &Held,
+    position: u64,
+) -> Result<bool, EvaluationFault> {
     match kind {
         SigKind::Top => Ok(true),
         SigKind::Extends(parent) => {
@@ -56,7 +68,7 @@ fn is_child(sig: &Sig, parent: usize) -> bool {
 }
 
 /// Whether two sets share a tuple.
-pub fn shares(judge: &Judge, a: &Held, b: &Held) -> Result<bool, AllocError> {
+pub fn shares(judge: &Judge, a: &Held, b: &Held) -> Result<bool, EvaluationFault> {
     let common = combined(judge, RelationOp::Intersection, a, b)?;
     Ok(set_of(&common).len() > 0)
 }
@@ -68,8 +80,8 @@ fn children_hold(
     sig: &Sig,
     set: &Held,
     position: u64,
-) -> Result<bool, AllocError> {
-    let sigs = &judge.model().sigs;
+) -> Result<bool, EvaluationFault> {
+    let sigs = &judge.setting().model().sigs;
     let mut all = nothing(judge);
     let mut some = false;
     for place in 0..sigs.len() {
@@ -91,7 +103,7 @@ fn holds_for_each(
     set: &TupleSet,
     fact: &Formula,
     position: u64,
-) -> Result<bool, AllocError> {
+) -> Result<bool, EvaluationFault> {
     if set.arity() != 1 {
         return Ok(true);
     }
@@ -106,9 +118,14 @@ fn holds_for_each(
 
 /// Whether a sig lies where it is declared, its children are disjoint and fill it where it is
 /// abstract, it has its multiplicity, and its appended fact holds.
-fn sig_holds(judge: &Judge, place: usize, sig: &Sig, position: u64) -> Result<bool, AllocError> {
+fn sig_holds(
+    judge: &Judge,
+    place: usize,
+    sig: &Sig,
+    position: u64,
+) -> Result<bool, EvaluationFault> {
     let set = relation_at(judge, place, position);
-    if !allows(sig.multiplicity, set_of(&set)) {
+    if !has_multiplicity(sig.multiplicity, set_of(&set)) {
         return Ok(false);
     }
     if !is_placed(judge, &sig.kind, &set, position)? {
@@ -124,8 +141,8 @@ fn sig_holds(judge: &Judge, place: usize, sig: &Sig, position: u64) -> Result<bo
 }
 
 /// Whether the declarations hold at a position.
-fn declared_at(judge: &Judge, position: u64) -> Result<bool, AllocError> {
-    let model = judge.model();
+fn declared_at(judge: &Judge, position: u64) -> Result<bool, EvaluationFault> {
+    let model = judge.setting().model();
     for place in 0..model.sigs.len() {
         if !sig_holds(judge, place, model.sigs.get(place), position)? {
             return Ok(false);
@@ -141,7 +158,7 @@ fn declared_at(judge: &Judge, position: u64) -> Result<bool, AllocError> {
 
 /// From how many rounds of the loop on the declarations have the same truth in each round.
 fn declaration_rounds(judge: &Judge) -> u32 {
-    let model = judge.model();
+    let model = judge.setting().model();
     let mut most: u32 = 0;
     for sig in model.sigs.as_slice() {
         if let Some(fact) = &sig.appended {
@@ -160,7 +177,7 @@ fn first_failing(
     model: &Model,
     scopes: &Scopes,
     lasso: &Lasso,
-) -> Result<Option<u64>, AllocError> {
+) -> Result<Option<u64>, EvaluationFault> {
     let judge = judge_of(alloc, model, scopes, lasso)?;
     let end = judge.rounds_end(declaration_rounds(&judge))?;
     for position in 0..end {

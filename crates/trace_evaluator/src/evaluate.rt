@@ -2,6 +2,7 @@
 
 use core_meaning::{Lasso, Scope, Scopes};
 use core_tree::{Expr, Formula, Model};
+use set_operators::EvaluationFault;
 use std::alloc::{AllocError, Global};
 use tree_evaluator::{DEEP, claim_place, holds_in, judge_of, owned, term_place, tuples_in};
 use tuple_sets::TupleSet;
@@ -14,7 +15,7 @@ fn judged(
     lasso: &Lasso,
     formula: &Formula,
     position: u64,
-) -> Result<bool, AllocError> {
+) -> Result<bool, EvaluationFault> {
     let judge = judge_of(alloc, model, scopes, lasso)?;
     let place = claim_place(&judge, formula, position)?;
     holds_in(&judge, formula, &Scope::Empty, place, DEEP)
@@ -24,8 +25,8 @@ fn judged(
 ///
 /// The lasso has one set for each sig and field of the model, with its columns and numbers of the
 /// universe alone; the scopes have an entry for each sig, and a body's rank is above that of each
-/// body that it calls. Where a rank isn't, or past operators nest more than a million deep, the
-/// answer is that of want of memory. A set whose parts have columns that don't fit is empty.
+/// body that it calls. Where that isn't so, a set is asked for that has tuples of two lengths, or
+/// past operators nest more than a million deep, the answer is that of want of memory.
 pub fn holds(
     alloc: Global,
     model: &Model,
@@ -48,7 +49,7 @@ fn found(
     lasso: &Lasso,
     expr: &Expr,
     position: u64,
-) -> Result<TupleSet, AllocError> {
+) -> Result<TupleSet, EvaluationFault> {
     let judge = judge_of(alloc, model, scopes, lasso)?;
     let place = term_place(&judge, expr, position)?;
     let set = tuples_in(&judge, expr, &Scope::Empty, place, DEEP)?;

@@ -3,14 +3,13 @@
 use crate::declarations::shares;
 use core_meaning::Scope;
 use core_tree::{Bound, Field, RelationOp};
-use set_operators::{empty_of, rows_after};
-use std::alloc::AllocError;
-use tree_evaluator::parts::{combined, field_of, is_inside};
+use set_operators::{EvaluationFault, rows_after};
+use tree_evaluator::parts::{combined, field_of, is_inside, nothing};
 use tree_evaluator::{DEEP, Held, Judge, atom_at, is_within, relation_at, set_of, term_repeats};
 use tuple_sets::TupleSet;
 
 /// Whether each tuple begins with an atom of a set.
-fn is_owned(judge: &Judge, set: &Held, atoms: &Held) -> Result<bool, AllocError> {
+fn is_owned(judge: &Judge, set: &Held, atoms: &Held) -> Result<bool, EvaluationFault> {
     let begun = combined(judge, RelationOp::LeftRestrict, atoms, set)?;
     Ok(is_inside(set, &begun))
 }
@@ -22,7 +21,7 @@ fn values_hold(
     atoms: &TupleSet,
     bound: &Bound,
     position: u64,
-) -> Result<bool, AllocError> {
+) -> Result<bool, EvaluationFault> {
     if atoms.arity() != 1 {
         return Ok(true);
     }
@@ -46,12 +45,11 @@ fn values_hold(
 }
 
 /// Whether different atoms have disjoint values in a field.
-fn values_differ(judge: &Judge, set: &TupleSet, atoms: &TupleSet) -> Result<bool, AllocError> {
+fn values_differ(judge: &Judge, set: &TupleSet, atoms: &TupleSet) -> Result<bool, EvaluationFault> {
     if atoms.arity() != 1 {
         return Ok(true);
     }
-    let columns = (set.arity() as usize).saturating_sub(1);
-    let mut all = Held::Owned(empty_of(judge.alloc(), columns));
+    let mut all = nothing(judge);
     for place in 0..atoms.len() {
         let value = Held::Owned(rows_after(judge.alloc(), set, &[atom_at(atoms, place)])?);
         if shares(judge, &all, &value)? {
@@ -83,11 +81,11 @@ fn is_alone(
     field: &Field,
     set: &Held,
     position: u64,
-) -> Result<bool, AllocError> {
-    let fields = &judge.model().fields;
+) -> Result<bool, EvaluationFault> {
+    let fields = &judge.setting().model().fields;
     for other in 0..fields.len() {
         if other > u32::MAX as usize {
-            return Err(AllocError);
+            return Err(EvaluationFault::Unfit);
         }
         if other != place && are_listed(field, fields.get(other)) {
             let others = field_of(judge, other, position);
@@ -105,7 +103,7 @@ pub fn field_holds(
     place: usize,
     field: &Field,
     position: u64,
-) -> Result<bool, AllocError> {
+) -> Result<bool, EvaluationFault> {
     let Some(owner) = field.owner else {
         return Ok(true)
     };
@@ -113,7 +111,7 @@ pub fn field_holds(
         return Ok(true)
     };
     if place > u32::MAX as usize {
-        return Err(AllocError);
+        return Err(EvaluationFault::Unfit);
     }
     let set = field_of(judge, place, position);
     let atoms = relation_at(judge, owner as usize, position);

@@ -2,8 +2,7 @@
 
 use core_meaning::{Lasso, Scopes, SigScope};
 use core_tree::{Column, Model, SigKind};
-use evaluation_setting::setting::relation;
-use set_operators::are_equal;
+use set_operators::{EvaluationFault, are_equal};
 use std::alloc::{AllocError, Global};
 use tree_evaluator::{Judge, judge_of};
 use tuple_sets::TupleSet;
@@ -24,7 +23,12 @@ pub fn keeps(
 }
 
 /// Whether the lasso keeps the scopes, or why that isn't known.
-fn kept(alloc: Global, model: &Model, scopes: &Scopes, lasso: &Lasso) -> Result<bool, AllocError> {
+fn kept(
+    alloc: Global,
+    model: &Model,
+    scopes: &Scopes,
+    lasso: &Lasso,
+) -> Result<bool, EvaluationFault> {
     let judge = judge_of(alloc, model, scopes, lasso)?;
     for place in 0..model.sigs.len() {
         if !sig_keeps(&judge, place)? {
@@ -73,14 +77,15 @@ fn first_atom(scopes: &Scopes, sig: usize) -> u64 {
 /// `var`.
 fn sig_keeps(judge: &Judge, place: usize) -> Result<bool, AllocError> {
     let setting = judge.setting();
-    let sigs = &judge.model().sigs;
-    if place >= sigs.len() || place >= setting.scopes.numbers.len() {
+    let sigs = &setting.model().sigs;
+    let numbers = &setting.scopes().numbers;
+    if place >= sigs.len() || place >= numbers.len() {
         return Ok(false);
     }
     let mut seen: Vec<bool> = vec![in judge.alloc(); false; 16384]?;
     let mut count: u64 = 0;
-    for number in 0..setting.lasso.states() {
-        let Some(set) = relation(setting, place, u64::from(number)) else {
+    for number in 0..setting.lasso().states() {
+        let Some(set) = setting.relation(place, u64::from(number)) else {
             return Ok(false)
         };
         if !is_bounded(judge, place, set) {
@@ -89,10 +94,7 @@ fn sig_keeps(judge: &Judge, place: usize) -> Result<bool, AllocError> {
         count = count.saturating_add(mark_new(set, &mut seen));
     }
     let is_var = sigs.get(place).is_var;
-    Ok(
-        keeps_number(setting.scopes.numbers.get(place), count)
-            && (is_var || is_static(judge, place)),
-    )
+    Ok(keeps_number(numbers.get(place), count) && (is_var || is_static(judge, place)))
 }
 
 /// Marks the atoms of a set, and answers how many were not marked before.
@@ -124,11 +126,11 @@ fn keeps_number(scope: &SigScope, count: u64) -> bool {
 
 /// Whether a relation is the same in all states.
 fn is_static(judge: &Judge, number: usize) -> bool {
-    let Some(first) = relation(judge.setting(), number, 0) else {
+    let Some(first) = judge.setting().relation(number, 0) else {
         return false
     };
-    for position in 1..judge.setting().lasso.states() {
-        match relation(judge.setting(), number, u64::from(position)) {
+    for position in 1..judge.setting().lasso().states() {
+        match judge.setting().relation(number, u64::from(position)) {
             None => return false,
             Some(set) => {
                 if !are_equal(first, set) {
@@ -144,7 +146,7 @@ fn is_static(judge: &Judge, number: usize) -> bool {
 fn is_bounded(judge: &Judge, sig: usize, set: &TupleSet) -> bool {
     for place in 0..set.len() {
         let atom = first_at(set, place);
-        if !is_allowed(judge, sig, atom, judge.model().sigs.len()) {
+        if !is_allowed(judge, sig, atom, judge.setting().model().sigs.len()) {
             return false;
         }
     }
@@ -153,12 +155,13 @@ fn is_bounded(judge: &Judge, sig: usize, set: &TupleSet) -> bool {
 
 /// Whether an atom is in the upper bound of a sig.
 fn is_allowed(judge: &Judge, sig: usize, atom: u32, more: usize) -> bool {
-    let sigs = &judge.model().sigs;
-    let first = judge.setting().atoms;
+    let setting = judge.setting();
+    let sigs = &setting.model().sigs;
+    let first = setting.atoms();
     if more == 0 || sig >= sigs.len() {
         return false;
     }
-    let integers = 1u64.wrapping_shl(judge.setting().scopes.bits);
+    let integers = 1u64.wrapping_shl(setting.bits());
     match &sigs.get(sig).kind {
         SigKind::Top => is_atom_of(judge, sig, atom),
         SigKind::Extends(parent) => {
@@ -182,11 +185,11 @@ fn is_allowed(judge: &Judge, sig: usize, atom: u32, more: usize) -> bool {
 
 /// Whether a sig is not that of a literal, or an atom is the literal's own.
 fn is_literal_right(judge: &Judge, sig: usize, parent: u32, atom: u32) -> bool {
-    let sigs = &judge.model().sigs;
+    let sigs = &judge.setting().model().sigs;
     if sig >= sigs.len() || sigs.get(sig).origin.is_some() {
         return true;
     }
-    let first = first_atom(judge.setting().scopes, parent as usize);
+    let first = first_atom(judge.setting().scopes(), parent as usize);
     let place = (sig as u64)
         .saturating_sub(u64::from(parent))
         .saturating_sub(1);
@@ -195,7 +198,7 @@ fn is_literal_right(judge: &Judge, sig: usize, parent: u32, atom: u32) -> bool {
 
 /// The top-level sig above a sig.
 fn top_above(judge: &Judge, sig: usize, more: usize) -> usize {
-    let sigs = &judge.model().sigs;
+    let sigs = &judge.setting().model().sigs;
     let mut top = sig;
     for _ in 0..more {
         if top >= sigs.len() {
@@ -211,7 +214,7 @@ fn top_above(judge: &Judge, sig: usize, more: usize) -> usize {
 
 /// Whether an atom is one of those of a top-level sig.
 fn is_atom_of(judge: &Judge, top: usize, atom: u32) -> bool {
-    let scopes = judge.setting().scopes;
+    let scopes = judge.setting().scopes();
     if top >= scopes.numbers.len() {
         return false;
     }

@@ -85,7 +85,9 @@ fn scopes_of(alloc: Global) -> Result<Scopes, AllocError> {
 fn atoms(alloc: Global, list: &[u32]) -> Result<TupleSet, AllocError> {
     let mut set = TupleSet::empty(alloc, 1);
     for atom in list {
-        put(&mut set, Tuple::of(alloc, &[*atom])?)?;
+        if put(&mut set, Tuple::of(alloc, &[*atom])?).is_err() {
+            return Err(AllocError);
+        }
     }
     Ok(set)
 }

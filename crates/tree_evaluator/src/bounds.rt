@@ -2,14 +2,12 @@
 
 use crate::held::set_of;
 use crate::judge::Judge;
-use crate::parts::allows;
 use crate::sides::{asks, heads, tails};
 use crate::steps::deeper;
 use crate::walk::tuples_in;
 use core_meaning::Scope;
 use core_tree::{Expr, Multiplicity};
-use set_operators::{rows_after, rows_before};
-use std::alloc::AllocError;
+use set_operators::{EvaluationFault, has_multiplicity, rows_after, rows_before};
 use tuple_sets::{TupleSet, inside};
 
 /// Whether a set lies in a bound and has its multiplicities.
@@ -22,9 +20,9 @@ pub fn is_within(
     scope: &Scope,
     position: u64,
     deep: u32,
-) -> Result<bool, AllocError> {
+) -> Result<bool, EvaluationFault> {
     let next = deeper(deep)?;
-    if !allows(word, set) {
+    if !has_multiplicity(word, set) {
         return Ok(false);
     }
     if !lies_in(judge, set, bound, scope, position, next)? {
@@ -41,7 +39,7 @@ fn columns_of(
     scope: &Scope,
     position: u64,
     deep: u32,
-) -> Result<usize, AllocError> {
+) -> Result<usize, EvaluationFault> {
     let next = deeper(deep)?;
     match expr {
         Expr::Product(a, _, _, b) => {
@@ -65,7 +63,7 @@ fn lies_in(
     scope: &Scope,
     position: u64,
     deep: u32,
-) -> Result<bool, AllocError> {
+) -> Result<bool, EvaluationFault> {
     let next = deeper(deep)?;
     match expr {
         Expr::Product(a, _, _, b) => {
@@ -93,7 +91,7 @@ fn fits(
     scope: &Scope,
     position: u64,
     deep: u32,
-) -> Result<bool, AllocError> {
+) -> Result<bool, EvaluationFault> {
     let next = deeper(deep)?;
     match bound {
         Expr::Product(a, left, right, b) => {
@@ -118,7 +116,7 @@ fn fits_after(
     scope: &Scope,
     position: u64,
     deep: u32,
-) -> Result<bool, AllocError> {
+) -> Result<bool, EvaluationFault> {
     let next = deeper(deep)?;
     if !asks(word, other) {
         return Ok(true);
@@ -147,11 +145,11 @@ fn each_after(
     scope: &Scope,
     position: u64,
     deep: u32,
-) -> Result<bool, AllocError> {
+) -> Result<bool, EvaluationFault> {
     let next = deeper(deep)?;
     for place in 0..sides.len() {
         let rest = rows_after(judge.alloc(), set, sides.tuple(place).numbers())?;
-        if !allows(word, &rest) {
+        if !has_multiplicity(word, &rest) {
             return Ok(false);
         }
         if !fits(judge, &rest, other, scope, position, next)? {
@@ -173,7 +171,7 @@ fn fits_before(
     scope: &Scope,
     position: u64,
     deep: u32,
-) -> Result<bool, AllocError> {
+) -> Result<bool, EvaluationFault> {
     let next = deeper(deep)?;
     if !asks(word, other) {
         return Ok(true);
@@ -202,11 +200,11 @@ fn each_before(
     scope: &Scope,
     position: u64,
     deep: u32,
-) -> Result<bool, AllocError> {
+) -> Result<bool, EvaluationFault> {
     let next = deeper(deep)?;
     for place in 0..sides.len() {
         let rest = rows_before(judge.alloc(), set, sides.tuple(place).numbers())?;
-        if !allows(word, &rest) {
+        if !has_multiplicity(word, &rest) {
             return Ok(false);
         }
         if !fits(judge, &rest, other, scope, position, next)? {

@@ -9,7 +9,7 @@ use crate::steps::{deeper, says};
 use crate::walk::{holds_in, number_in, tuples_in};
 use core_meaning::Scope;
 use core_tree::{Formula, Quantity, Variable};
-use std::alloc::AllocError;
+use set_operators::EvaluationFault;
 use tuple_sets::TupleSet;
 
 /// All choices of atoms for variables at which a formula holds, or with the value of an expression.
@@ -21,7 +21,7 @@ pub fn every_row(
     scope: &Scope,
     position: u64,
     deep: u32,
-) -> Result<Vec<Row>, AllocError> {
+) -> Result<Vec<Row>, EvaluationFault> {
     let next = deeper(deep)?;
     let start = Earlier::Start;
     let rows = rows_in(
@@ -35,7 +35,7 @@ pub fn every_row(
         next,
     )?;
     if rows.len() == usize::MAX {
-        return Err(AllocError);
+        return Err(EvaluationFault::Unfit);
     }
     Ok(rows)
 }
@@ -48,7 +48,7 @@ fn last_row(
     scope: &Scope,
     position: u64,
     deep: u32,
-) -> Result<Vec<Row>, AllocError> {
+) -> Result<Vec<Row>, EvaluationFault> {
     let next = deeper(deep)?;
     match goal {
         Goal::Passes(formula) => {
@@ -75,7 +75,7 @@ fn rows_in(
     scope: &Scope,
     position: u64,
     deep: u32,
-) -> Result<Vec<Row>, AllocError> {
+) -> Result<Vec<Row>, EvaluationFault> {
     let next = deeper(deep)?;
     match variables.split_first() {
         None => last_row(judge, goal, scope, position, next),
@@ -110,7 +110,7 @@ fn rows_of_atoms(
     scope: &Scope,
     position: u64,
     deep: u32,
-) -> Result<Vec<Row>, AllocError> {
+) -> Result<Vec<Row>, EvaluationFault> {
     let next = deeper(deep)?;
     let mut rows: Vec<Row> = Vec::new(judge.alloc());
     if atoms.arity() != 1 {
@@ -143,7 +143,7 @@ pub fn for_each(
     scope: &Scope,
     position: u64,
     deep: u32,
-) -> Result<bool, AllocError> {
+) -> Result<bool, EvaluationFault> {
     let next = deeper(deep)?;
     match variables.split_first() {
         None => Ok(says(sense, holds_in(judge, formula, scope, position, next)?)),
@@ -178,7 +178,7 @@ fn for_each_atom(
     scope: &Scope,
     position: u64,
     deep: u32,
-) -> Result<bool, AllocError> {
+) -> Result<bool, EvaluationFault> {
     let next = deeper(deep)?;
     if atoms.arity() != 1 {
         return Ok(true);
@@ -207,7 +207,7 @@ pub fn quantified(
     scope: &Scope,
     position: u64,
     deep: u32,
-) -> Result<bool, AllocError> {
+) -> Result<bool, EvaluationFault> {
     let next = deeper(deep)?;
     let start = Earlier::Start;
     match quantity {

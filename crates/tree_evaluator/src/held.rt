@@ -1,6 +1,7 @@
 // Sets of tuples that are lent or owned.
 
-use std::alloc::{AllocError, Global};
+use set_operators::EvaluationFault;
+use std::alloc::Global;
 use tuple_sets::TupleSet;
 
 /// A set of tuples: a relation's set as it stands in a lasso, or one that was computed.
@@ -19,7 +20,7 @@ pub fn set_of<'b>(held: &'b Held<'_>) -> &'b TupleSet {
 }
 
 /// The set, to own.
-pub fn owned(alloc: Global, held: Held<'_>) -> Result<TupleSet, AllocError> {
+pub fn owned(alloc: Global, held: Held<'_>) -> Result<TupleSet, EvaluationFault> {
     match held {
         Held::Lent(set) => Ok(set.copy(alloc)?),
         Held::Owned(set) => Ok(set),

@@ -2,81 +2,66 @@
 
 use call_weights::{MANY, MOST, of_expr, of_formula, weigh};
 use core_meaning::{Lasso, Scope, Scopes};
-use core_tree::{BodyList, Expr, Formula, Model};
-use evaluation_setting::Setting;
-use evaluation_setting::setting::atom_count;
-use std::alloc::{AllocError, Global};
+use core_tree::{BodyList, Expr, Formula};
+use evaluation_setting::{Setting, make_setting};
+use set_operators::EvaluationFault;
+use std::alloc::Global;
 
 /// A model with its scopes and a lasso, and a weight for each body: how many past operators it nests
-/// at most. Contracts see the setting's value.
+/// at most.
 #[derive(Drop)]
 pub struct Judge<'a> {
     setting: Setting<'a>,
     weights: Vec<u32>,
 }
 
-/// What formulas of a model are judged by on a lasso. There is no answer where memory is wanting,
-/// or where a body's rank isn't above the rank of each body that it calls.
+/// What formulas of a model are judged by on a lasso. Unfit are a body whose rank isn't above the
+/// rank of each body that it calls, and what is unfit for a setting.
 pub fn judge_of<'a>(
     alloc: Global,
-    model: &'a Model,
+    model: &'a core_tree::Model,
     scopes: &'a Scopes,
     lasso: &'a Lasso,
-) -> Result<Judge<'a>, AllocError> {
-    let setting = Setting {
-        alloc,
-        model,
-        scopes,
-        lasso,
-        depth: 0,
-        atoms: atom_count(scopes),
-    };
+) -> Result<Judge<'a>, EvaluationFault> {
+    let setting = make_setting(alloc, model, scopes, lasso, 0)?;
     match weigh(alloc, &model.bodies)? {
         Some(weights) => Ok(Judge { setting, weights }),
-        None => Err(AllocError),
+        None => Err(EvaluationFault::Unfit),
     }
 }
 
 impl<'a> Judge<'a> {
     /// What is judged in.
     pub fn setting(&self) -> &Setting<'a> {
-        let _ = &self.weights;
         &self.setting
     }
 
     /// The allocator.
     pub fn alloc(&self) -> Global {
-        self.setting.alloc
-    }
-
-    /// The model.
-    pub fn model(&self) -> &'a Model {
-        self.setting.model
+        self.setting.alloc()
     }
 
     /// The model's bodies.
     pub fn bodies(&self) -> &'a BodyList {
-        let _ = &self.weights;
-        &self.setting.model.bodies
+        &self.setting.model().bodies
     }
 
     /// The number of states in the loop.
     pub fn period(&self) -> u64 {
-        let lasso = self.setting.lasso;
-        u64::from(lasso.states() - lasso.loop_start())
+        self.setting.round()
     }
 
     /// The position after so many rounds of the loop.
     fn repeats_from(&self, rounds: u32) -> u64 {
-        u64::from(self.setting.lasso.loop_start()).saturating_add(u64::from(rounds).saturating_mul(
-            self.period(),
-        ))
+        u64::from(self.setting.lasso().loop_start()).saturating_add(u64::from(
+            rounds,
+        ).saturating_mul(self.period()))
     }
 
     /// The end of the first positions that show all, where everything repeats after so many rounds.
-    pub fn rounds_end(&self, rounds: u32) -> Result<u64, AllocError> {
+    pub fn rounds_end(&self, rounds: u32) -> Result<u64, EvaluationFault> {
         if rounds >= MANY {
-            return Err(AllocError);
+            return Err(EvaluationFault::Unfit);
         }
         Ok(self.repeats_from(rounds).saturating_add(self.period()))
     }
@@ -130,16 +115,16 @@ pub fn limit(
     formula: &Formula,
     scope: &Scope,
     position: u64,
-) -> Result<u64, AllocError> {
+) -> Result<u64, EvaluationFault> {
     let rounds = claim_repeats(judge, formula, scope);
     if rounds >= MANY {
-        return Err(AllocError);
+        return Err(EvaluationFault::Unfit);
     }
     let from = judge.repeats_from(rounds);
     let round = judge.period();
     match position.max(from).checked_add(round) {
         Some(end) => Ok(end),
-        None => Err(AllocError),
+        None => Err(EvaluationFault::Unfit),
     }
 }
 
@@ -154,19 +139,23 @@ fn folded(judge: &Judge, rounds: u32, position: u64) -> u64 {
 }
 
 /// An early position at which a closed formula has the same truth.
-pub fn claim_place(judge: &Judge, formula: &Formula, position: u64) -> Result<u64, AllocError> {
+pub fn claim_place(
+    judge: &Judge,
+    formula: &Formula,
+    position: u64,
+) -> Result<u64, EvaluationFault> {
     let rounds = claim_repeats(judge, formula, &Scope::Empty);
     if rounds >= MANY {
-        return Err(AllocError);
+        return Err(EvaluationFault::Unfit);
     }
     Ok(folded(judge, rounds, position))
 }
 
 /// An early position at which a closed expression has the same tuples.
-pub fn term_place(judge: &Judge, expr: &Expr, position: u64) -> Result<u64, AllocError> {
+pub fn term_place(judge: &Judge, expr: &Expr, position: u64) -> Result<u64, EvaluationFault> {
     let rounds = term_repeats(judge, expr, &Scope::Empty);
     if rounds >= MANY {
-        return Err(AllocError);
+        return Err(EvaluationFault::Unfit);
     }
     Ok(folded(judge, rounds, position))
 }

@@ -5,6 +5,7 @@ pub mod bounds;
 pub mod choices;
 pub mod earlier;
 pub mod held;
+pub mod integers;
 pub mod judge;
 pub mod parts;
 pub mod rows;

@@ -1,15 +1,10 @@
 // The operators on sets that were found.
 
 use crate::held::{Held, set_of};
+use crate::integers::{arithmetic, compare, count_of, literal};
 use crate::judge::Judge;
-use core_tree::{Comparison, IntOp, Multiplicity, Quantity, RelationOp, UnaryRelation};
-use evaluation_setting::integers::{arithmetic, atom_of, compares, sum_of, wrap};
-use evaluation_setting::setting::{integers, relation, single, universe};
-use set_operators::{
-    are_equal, closure, combine, empty_of, first_at, has_multiplicity, has_quantity, identity,
-    paired, turned,
-};
-use std::alloc::AllocError;
+use core_tree::{Comparison, IntOp, Quantity, RelationOp, UnaryRelation};
+use set_operators::{EvaluationFault, are_equal, combine, empty_of, has_quantity, paired, single};
 use tuple_sets::{TupleSet, inside};
 
 /// The empty set.
@@ -19,7 +14,7 @@ pub fn nothing<'a>(judge: &Judge<'a>) -> Held<'a> {
 
 /// The set of a relation at a position.
 pub fn relation_at<'a>(judge: &Judge<'a>, number: usize, position: u64) -> Held<'a> {
-    match relation(judge.setting(), number, position) {
+    match judge.setting().relation(number, position) {
         Some(set) => Held::Lent(set),
         None => nothing(judge),
     }
@@ -27,34 +22,33 @@ pub fn relation_at<'a>(judge: &Judge<'a>, number: usize, position: u64) -> Held<
 
 /// The set of a field at a position: fields' relations come after those of sigs.
 pub fn field_of<'a>(judge: &Judge<'a>, field: usize, position: u64) -> Held<'a> {
-    let sigs = judge.setting().scopes.numbers.len();
+    let sigs = judge.setting().scopes().numbers.as_slice().len();
     relation_at(judge, sigs.saturating_add(field), position)
 }
 
 /// What `univ` is at a position.
-pub fn universe_at<'a>(judge: &Judge<'a>, position: u64) -> Result<Held<'a>, AllocError> {
-    Ok(Held::Owned(universe(judge.setting(), position)?))
+pub fn universe_at<'a>(judge: &Judge<'a>, position: u64) -> Result<Held<'a>, EvaluationFault> {
+    Ok(Held::Owned(judge.setting().universe(position)?))
 }
 
 /// What `iden` is at a position.
-pub fn identity_at<'a>(judge: &Judge<'a>, position: u64) -> Result<Held<'a>, AllocError> {
-    let all = universe(judge.setting(), position)?;
-    Ok(Held::Owned(identity(judge.alloc(), &all)?))
+pub fn identity_at<'a>(judge: &Judge<'a>, position: u64) -> Result<Held<'a>, EvaluationFault> {
+    Ok(Held::Owned(judge.setting().iden(position)?))
 }
 
 /// The integers.
-pub fn integers_at<'a>(judge: &Judge<'a>) -> Result<Held<'a>, AllocError> {
-    Ok(Held::Owned(integers(judge.setting())?))
+pub fn integers_at<'a>(judge: &Judge<'a>) -> Result<Held<'a>, EvaluationFault> {
+    Ok(Held::Owned(judge.setting().integers()?))
 }
 
 /// The set of one atom.
-pub fn one_atom<'a>(judge: &Judge<'a>, atom: u32) -> Result<Held<'a>, AllocError> {
+pub fn one_atom<'a>(judge: &Judge<'a>, atom: u32) -> Result<Held<'a>, EvaluationFault> {
     Ok(Held::Owned(single(judge.alloc(), atom)?))
 }
 
 /// The set of one integer, which is wrapped.
-pub fn one_integer<'a>(judge: &Judge<'a>, number: i64) -> Result<Held<'a>, AllocError> {
-    one_atom(judge, atom_of(judge.setting(), number))
+pub fn one_integer<'a>(judge: &Judge<'a>, number: i64) -> Result<Held<'a>, EvaluationFault> {
+    Ok(Held::Owned(literal(judge.setting(), number)?))
 }
 
 /// An operator on two relations.
@@ -63,12 +57,12 @@ pub fn combined<'a>(
     op: RelationOp,
     a: &Held,
     b: &Held,
-) -> Result<Held<'a>, AllocError> {
+) -> Result<Held<'a>, EvaluationFault> {
     Ok(Held::Owned(combine(judge.alloc(), op, set_of(a), set_of(b))?))
 }
 
 /// The product.
-pub fn multiplied<'a>(judge: &Judge<'a>, a: &Held, b: &Held) -> Result<Held<'a>, AllocError> {
+pub fn multiplied<'a>(judge: &Judge<'a>, a: &Held, b: &Held) -> Result<Held<'a>, EvaluationFault> {
     Ok(Held::Owned(paired(judge.alloc(), set_of(a), set_of(b))?))
 }
 
@@ -78,23 +72,13 @@ pub fn transformed<'a>(
     op: UnaryRelation,
     a: &Held,
     position: u64,
-) -> Result<Held<'a>, AllocError> {
-    let set = set_of(a);
-    match op {
-        UnaryRelation::Transpose => Ok(Held::Owned(turned(judge.alloc(), set)?)),
-        UnaryRelation::Closure => Ok(Held::Owned(closure(judge.alloc(), set)?)),
-        UnaryRelation::ReflexiveClosure => {
-            let walks = Held::Owned(closure(judge.alloc(), set)?);
-            let same = identity_at(judge, position)?;
-            combined(judge, RelationOp::Union, &walks, &same)
-        }
-    }
+) -> Result<Held<'a>, EvaluationFault> {
+    Ok(Held::Owned(judge.setting().unary(op, set_of(a), position)?))
 }
 
 /// The wrapped number of tuples.
-pub fn counted<'a>(judge: &Judge<'a>, a: &Held) -> Result<Held<'a>, AllocError> {
-    let count = i64::try_from(set_of(a).len()).unwrap_or(0);
-    one_integer(judge, wrap(judge.setting(), count))
+pub fn counted<'a>(judge: &Judge<'a>, a: &Held) -> Result<Held<'a>, EvaluationFault> {
+    Ok(Held::Owned(count_of(judge.setting(), set_of(a))?))
 }
 
 /// An operator on two integers.
@@ -103,10 +87,8 @@ pub fn calculated<'a>(
     op: IntOp,
     a: &Held,
     b: &Held,
-) -> Result<Held<'a>, AllocError> {
-    let x = sum_of(judge.setting(), set_of(a));
-    let y = sum_of(judge.setting(), set_of(b));
-    one_integer(judge, arithmetic(judge.setting(), op, x, y))
+) -> Result<Held<'a>, EvaluationFault> {
+    Ok(Held::Owned(arithmetic(judge.setting(), op, set_of(a), set_of(b))?))
 }
 
 /// Whether one set lies inside another.
@@ -121,22 +103,28 @@ pub fn is_equal(a: &Held, b: &Held) -> bool {
 
 /// Whether a set is as a test asks.
 pub fn has(quantity: Quantity, a: &Held) -> bool {
-    has_quantity(quantity, set_of(a).len())
+    has_quantity(quantity, set_of(a))
 }
 
 /// Whether what two sets stand for compares as an operator asks.
-pub fn compared(judge: &Judge, op: Comparison, a: &Held, b: &Held) -> Result<bool, AllocError> {
-    let x = sum_of(judge.setting(), set_of(a));
-    let y = sum_of(judge.setting(), set_of(b));
-    Ok(compares(op, x, y))
+pub fn compared(
+    judge: &Judge,
+    op: Comparison,
+    a: &Held,
+    b: &Held,
+) -> Result<bool, EvaluationFault> {
+    compare(judge.setting(), op, set_of(a), set_of(b))
 }
 
-/// Whether a set is as a multiplicity allows.
-pub fn allows(multiplicity: Multiplicity, set: &TupleSet) -> bool {
-    has_multiplicity(multiplicity, set.len())
-}
-
-/// The atom at a place of a set of one column.
+/// The atom at a place of a set of one column, or 0 where there is none.
 pub fn atom_at(set: &TupleSet, place: usize) -> u32 {
-    first_at(set, place)
+    let tuples = set.keyed();
+    if place >= tuples.len() {
+        return 0;
+    }
+    let numbers = tuples[place].numbers();
+    if numbers.len() == 0 {
+        return 0;
+    }
+    numbers[0]
 }

@@ -1,10 +1,10 @@
 // Choices of atoms for the variables of a list.
 
 use crate::held::Held;
+use crate::integers::literal;
 use crate::judge::Judge;
-use crate::parts::one_integer;
 use core_tree::{Expr, Formula};
-use set_operators::{empty_of, put};
+use set_operators::{EvaluationFault, empty_of, put};
 use std::alloc::{AllocError, Global};
 use tuple_sets::Tuple;
 
@@ -74,7 +74,7 @@ pub fn chosen_set<'a>(
     judge: &Judge<'a>,
     columns: usize,
     rows: &[Row],
-) -> Result<Held<'a>, AllocError> {
+) -> Result<Held<'a>, EvaluationFault> {
     let mut set = empty_of(judge.alloc(), columns);
     for row in rows {
         put(&mut set, row.chosen.copy(judge.alloc())?)?;
@@ -83,13 +83,13 @@ pub fn chosen_set<'a>(
 }
 
 /// The set of the sum of the values.
-pub fn sum_of_rows<'a>(judge: &Judge<'a>, rows: &[Row]) -> Result<Held<'a>, AllocError> {
+pub fn sum_of_rows<'a>(judge: &Judge<'a>, rows: &[Row]) -> Result<Held<'a>, EvaluationFault> {
     let mut sum: i64 = 0;
     for row in rows {
         match sum.checked_add(row.value) {
             Some(more) => sum = more,
-            None => return Err(AllocError),
+            None => return Err(EvaluationFault::Unfit),
         }
     }
-    one_integer(judge, sum)
+    Ok(Held::Owned(literal(judge.setting(), sum)?))
 }

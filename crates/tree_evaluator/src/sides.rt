@@ -1,8 +1,8 @@
 // The sides of arrows.
 
 use core_tree::{Expr, Multiplicity};
-use set_operators::{empty_of, put};
-use std::alloc::{AllocError, Global};
+use set_operators::{EvaluationFault, empty_of, put};
+use std::alloc::Global;
 use tuple_sets::{Tuple, TupleSet};
 
 /// Whether a multiplicity is `set`.
@@ -40,12 +40,12 @@ fn asks_in(bound: &Expr) -> bool {
 }
 
 /// The first so many columns of a set. Unfit is a set with tuples that have fewer.
-pub fn heads(alloc: Global, set: &TupleSet, columns: usize) -> Result<TupleSet, AllocError> {
+pub fn heads(alloc: Global, set: &TupleSet, columns: usize) -> Result<TupleSet, EvaluationFault> {
     let mut all = empty_of(alloc, columns);
     for tuple in set.keyed() {
         let numbers = tuple.numbers();
         if columns > numbers.len() {
-            return Err(AllocError);
+            return Err(EvaluationFault::Unfit);
         }
         put(&mut all, Tuple::of(alloc, &numbers[..columns])?)?;
     }
@@ -53,12 +53,12 @@ pub fn heads(alloc: Global, set: &TupleSet, columns: usize) -> Result<TupleSet, 
 }
 
 /// The other columns of a set. Unfit is a set with tuples that have fewer.
-pub fn tails(alloc: Global, set: &TupleSet, columns: usize) -> Result<TupleSet, AllocError> {
+pub fn tails(alloc: Global, set: &TupleSet, columns: usize) -> Result<TupleSet, EvaluationFault> {
     let mut all = empty_of(alloc, (set.arity() as usize).saturating_sub(columns));
     for tuple in set.keyed() {
         let numbers = tuple.numbers();
         if columns > numbers.len() {
-            return Err(AllocError);
+            return Err(EvaluationFault::Unfit);
         }
         put(&mut all, Tuple::of(alloc, &numbers[columns..])?)?;
     }

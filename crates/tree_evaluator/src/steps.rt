@@ -2,34 +2,34 @@
 
 ghost use Rattle.std.specs.Prelude.{◌<◌, IfOk};
 
-use std::alloc::AllocError;
+use set_operators::EvaluationFault;
 
 /// More calls than any walk nests.
 pub const DEEP: u32 = 4_294_967_295;
 
 /// One call deeper. Where there have been 2^32 - 1 already there is no answer.
-pub fn deeper(deep: u32) -> Result<u32, AllocError>
+pub fn deeper(deep: u32) -> Result<u32, EvaluationFault>
     ensures { IfOk result (λ n. n < deep) }
 {
     if deep == 0 {
-        return Err(AllocError);
+        return Err(EvaluationFault::Unfit);
     }
     Ok(deep - 1)
 }
 
 /// The next position. There is none after the greatest 64-bit number.
-pub fn after(position: u64) -> Result<u64, AllocError> {
+pub fn after(position: u64) -> Result<u64, EvaluationFault> {
     match position.checked_add(1) {
         Some(next) => Ok(next),
-        None => Err(AllocError),
+        None => Err(EvaluationFault::Unfit),
     }
 }
 
 /// The number of the next parameter.
-pub fn next_name(name: u32) -> Result<u32, AllocError> {
+pub fn next_name(name: u32) -> Result<u32, EvaluationFault> {
     match name.checked_add(1) {
         Some(next) => Ok(next),
-        None => Err(AllocError),
+        None => Err(EvaluationFault::Unfit),
     }
 }
 

@@ -4,6 +4,7 @@ use crate::bounds::is_within;
 use crate::choices::{every_row, for_each, quantified};
 use crate::earlier::Earlier;
 use crate::held::{Held, set_of};
+use crate::integers::number_of;
 use crate::judge::{Judge, limit};
 use crate::parts::{
     calculated, combined, compared, counted, field_of, has, identity_at, integers_at, is_equal,
@@ -13,9 +14,8 @@ use crate::rows::{First, Goal, chosen_set, sum_of_rows};
 use crate::steps::{after, deeper, next_name, says};
 use core_meaning::Scope;
 use core_tree::{BodyForm, Connective, Expr, Formula, TemporalBinary, TemporalUnary};
-use evaluation_setting::integers::sum_of;
-use evaluation_setting::setting::{Meant, look_up};
-use std::alloc::AllocError;
+use evaluation_setting::{Meant, look_up};
+use set_operators::EvaluationFault;
 
 /// The tuples of an expression at a position.
 #[cycle(walk)]
@@ -25,7 +25,7 @@ pub fn tuples_in<'a>(
     scope: &Scope,
     position: u64,
     deep: u32,
-) -> Result<Held<'a>, AllocError> {
+) -> Result<Held<'a>, EvaluationFault> {
     let next = deeper(deep)?;
     match expr {
         Expr::Sig(sig) => Ok(relation_at(judge, *sig as usize, position)),
@@ -100,10 +100,10 @@ pub fn number_in(
     scope: &Scope,
     position: u64,
     deep: u32,
-) -> Result<i64, AllocError> {
+) -> Result<i64, EvaluationFault> {
     let next = deeper(deep)?;
     let set = tuples_in(judge, expr, scope, position, next)?;
-    Ok(sum_of(judge.setting(), set_of(&set)))
+    number_of(judge.setting(), set_of(&set))
 }
 
 /// The tuples of a function's body whose parameters from a number on stand for the arguments, in
@@ -118,7 +118,7 @@ fn enter_term<'a>(
     inner: &Scope,
     position: u64,
     deep: u32,
-) -> Result<Held<'a>, AllocError> {
+) -> Result<Held<'a>, EvaluationFault> {
     let next = deeper(deep)?;
     match arguments.split_first() {
         Some((first, rest)) => {
@@ -159,7 +159,7 @@ fn enter_claim(
     inner: &Scope,
     position: u64,
     deep: u32,
-) -> Result<bool, AllocError> {
+) -> Result<bool, EvaluationFault> {
     let next = deeper(deep)?;
     match arguments.split_first() {
         Some((first, rest)) => {
@@ -196,7 +196,7 @@ pub fn holds_in(
     scope: &Scope,
     position: u64,
     deep: u32,
-) -> Result<bool, AllocError> {
+) -> Result<bool, EvaluationFault> {
     let next = deeper(deep)?;
     match formula {
         Formula::Inside(a, b) => {
@@ -266,7 +266,7 @@ fn every(
     scope: &Scope,
     position: u64,
     deep: u32,
-) -> Result<bool, AllocError> {
+) -> Result<bool, EvaluationFault> {
     let next = deeper(deep)?;
     match list.split_first() {
         None => Ok(true),
@@ -289,7 +289,7 @@ fn connect(
     scope: &Scope,
     position: u64,
     deep: u32,
-) -> Result<bool, AllocError> {
+) -> Result<bool, EvaluationFault> {
     let next = deeper(deep)?;
     let first = holds_in(judge, f, scope, position, next)?;
     match op {
@@ -321,7 +321,7 @@ fn temporal(
     scope: &Scope,
     position: u64,
     deep: u32,
-) -> Result<bool, AllocError> {
+) -> Result<bool, EvaluationFault> {
     let next = deeper(deep)?;
     match op {
         TemporalUnary::After => holds_in(judge, f, scope, after(position)?, next),
@@ -356,7 +356,7 @@ fn temporal_pair(
     scope: &Scope,
     position: u64,
     deep: u32,
-) -> Result<bool, AllocError> {
+) -> Result<bool, EvaluationFault> {
     let next = deeper(deep)?;
     match op {
         TemporalBinary::Until => forward(judge, First::Each(f), g, true, scope, position, next),
@@ -397,7 +397,7 @@ fn goes_on(
     scope: &Scope,
     position: u64,
     deep: u32,
-) -> Result<bool, AllocError> {
+) -> Result<bool, EvaluationFault> {
     let next = deeper(deep)?;
     match first {
         First::Any => Ok(true),
@@ -416,7 +416,7 @@ fn forward(
     scope: &Scope,
     position: u64,
     deep: u32,
-) -> Result<bool, AllocError> {
+) -> Result<bool, EvaluationFault> {
     let next = deeper(deep)?;
     let end = limit(judge, second, scope, position)?;
     for place in position..end {
@@ -441,7 +441,7 @@ fn backward(
     scope: &Scope,
     position: u64,
     deep: u32,
-) -> Result<bool, AllocError> {
+) -> Result<bool, EvaluationFault> {
     let next = deeper(deep)?;
     if says(sense, holds_in(judge, second, scope, position, next)?) {
         return Ok(true);
