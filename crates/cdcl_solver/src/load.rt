@@ -35,6 +35,24 @@ pub(crate) fn are_within(variables: usize, literals: &[i64]) -> bool
     true
 }
 
+/// A bit for the level that a literal's variable had last, by the level's rest at 64.
+#[inline]
+fn level_bit(trail: &Trail, literal: i64) -> u64 {
+    if !is_literal(trail.values().len(), literal) {
+        return 0;
+    }
+    1 << (trail.level(literal.unsigned_abs()) % 64)
+}
+
+/// How many levels the variables of some literals had last, where those with one rest at 64 count once.
+pub(crate) fn level_count(trail: &Trail, literals: &[i64]) -> u64 {
+    let mut bits = 0;
+    for literal in literals {
+        bits |= level_bit(trail, *literal);
+    }
+    u64::from(bits.count_ones())
+}
+
 /// The clause of some literals, where each is one.
 pub(crate) fn clause_of(alloc: Global, literals: &[i64]) -> Result<Option<Clause>, AllocError> {
     let mut clause = Clause::new(alloc);

@@ -1,32 +1,81 @@
-/// How many conflicts the shortest span between restarts has.
-const UNIT: u64 = 100;
+/// How many conflicts the shortest span between restarts of a steady phase has.
+const UNIT: u64 = 1024;
 
-/// How many conflicts there are between two decays.
-const DECAY_SPAN: u64 = 14;
+/// How many conflicts there are at least between two restarts of an eager phase.
+const LEAST_SPAN: u64 = 10;
 
-/// When a search goes back to level 0, and when old weights count less.
+/// Over how many lemmas, about, the average of the latest ones goes.
+const SHORT_SPAN: u64 = 16;
+
+/// Over how many lemmas, about, the average of all goes.
+const LONG_SPAN: u64 = 8192;
+
+/// By what the numbers of levels are multiplied, so that averages in whole numbers are exact enough.
+const SCALE: u64 = 1 << 20;
+
+/// How many conflicts the n-th phase has for each n, where it is a steady one.
+const PHASE: u64 = 1000;
+
+/// How many times as many conflicts an eager phase has.
+const EAGER_TIMES: u64 = 4;
+
+/// When a search goes back to level 0.
 ///
-/// The spans between restarts follow the series of Luby, Sinclair and Zuckerman: 1, 1, 2, 1, 1, 2, 4, 1, ..
+/// Eager and steady phases take turns. The fewer levels a lemma has, the more it serves: in an eager phase the search
+/// begins anew where the latest lemmas have, by moving averages, more than 23/20 as many levels as all lemmas. In a steady
+/// phase the spans between restarts follow the series of Luby, Sinclair and Zuckerman: 1, 1, 2, 1, 1, 2, 4, 1, ..
 #[derive(Clone, Copy, Debug, Drop)]
 pub(crate) struct Pace {
+    is_steady: bool,
+    phase: u64,
+    phase_left: u64,
+    short_average: u64,
+    long_average: u64,
+    count: u64,
+    to_restart: u64,
     left: u64,
     turn: u64,
     span: u64,
-    to_decay: u64,
+}
+
+/// An average over so many numbers, once one more has come.
+fn moved(average: u64, number: u64, span: u64) -> u64 {
+    if span == 0 {
+        return number;
+    }
+    if number >= average {
+        average.saturating_add((number - average) / span)
+    } else {
+        average.saturating_sub((average - number) / span)
+    }
 }
 
 impl Pace {
-    /// The first span.
+    /// No conflict yet, in an eager phase.
     pub fn new() -> Pace {
         Pace {
+            is_steady: false,
+            phase: PHASE,
+            phase_left: PHASE * EAGER_TIMES,
+            short_average: 0,
+            long_average: 0,
+            count: 0,
+            to_restart: LEAST_SPAN,
             left: UNIT,
             turn: 1,
             span: 1,
-            to_decay: DECAY_SPAN,
         }
     }
 
-    /// Goes on to the next span.
+    /// Counts a lemma with so many levels in both averages.
+    pub fn take_levels(&mut self, levels: u64) {
+        let number = levels.saturating_mul(SCALE);
+        self.count = self.count.saturating_add(1);
+        self.short_average = moved(self.short_average, number, self.count.min(SHORT_SPAN));
+        self.long_average = moved(self.long_average, number, self.count.min(LONG_SPAN));
+    }
+
+    /// Goes on to the next span of a steady phase.
     ///
     /// `turn` counts the turns that begin with 1, and each span doubles up to the greatest power of two that divides
     /// the turn's number.
@@ -40,8 +89,8 @@ impl Pace {
         self.left = self.span.saturating_mul(UNIT);
     }
 
-    /// Counts a conflict, and tells whether a restart is due.
-    pub fn is_restart_due(&mut self) -> bool {
+    /// Counts a conflict of a steady phase, and tells whether a restart is due.
+    fn is_span_over(&mut self) -> bool {
         if self.left > 1 {
             self.left -= 1;
             return false;
@@ -50,20 +99,51 @@ impl Pace {
         true
     }
 
-    /// Counts a conflict, and tells whether a decay is due.
-    pub fn is_decay_due(&mut self) -> bool {
-        if self.to_decay > 1 {
-            self.to_decay -= 1;
+    /// Counts a conflict of an eager phase, and tells whether a restart is due.
+    fn are_levels_many(&mut self) -> bool {
+        if self.to_restart > 1 {
+            self.to_restart -= 1;
             return false;
         }
-        self.to_decay = DECAY_SPAN;
+        if self.short_average.saturating_mul(20) <= self.long_average.saturating_mul(23) {
+            return false;
+        }
+        self.to_restart = LEAST_SPAN;
         true
+    }
+
+    /// Counts a conflict towards the end of the phase.
+    fn count_phase(&mut self) {
+        if self.phase_left > 1 {
+            self.phase_left -= 1;
+            return;
+        }
+        self.is_steady = !self.is_steady;
+        self.phase = self.phase.saturating_add(PHASE);
+        self.phase_left = if self.is_steady {
+            self.phase
+        } else {
+            self.phase.saturating_mul(EAGER_TIMES)
+        };
+        self.left = UNIT;
+        self.turn = 1;
+        self.span = 1;
+    }
+
+    /// Counts a conflict, and tells whether a restart is due.
+    pub fn is_restart_due(&mut self) -> bool {
+        self.count_phase();
+        if self.is_steady {
+            self.is_span_over()
+        } else {
+            self.are_levels_many()
+        }
     }
 }
 
 #[cfg(test)]
 mod tests {
-    use super::{Pace, UNIT};
+    use super::{LEAST_SPAN, Pace, UNIT};
 
     #[test]
     fn spans_follow_the_series(rt: HostRuntime) {
@@ -72,5 +152,25 @@ mod tests {
             assert_eq!(rt; pace.left, span * UNIT);
             pace.go_on();
         }
+    }
+
+    #[test]
+    fn restarts_come_where_lemmas_have_more_levels(rt: HostRuntime) {
+        let mut pace = Pace::new();
+        for _ in 0..200 {
+            pace.take_levels(8);
+            assert!(rt; !pace.is_restart_due());
+        }
+        // The average over 16 passes 23/20 of the other with the third lemma of 16 levels.
+        for _ in 0..2 {
+            pace.take_levels(16);
+            assert!(rt; !pace.is_restart_due());
+        }
+        pace.take_levels(16);
+        assert!(rt; pace.is_restart_due());
+        for _ in 1..LEAST_SPAN {
+            assert!(rt; !pace.is_restart_due());
+        }
+        assert!(rt; pace.is_restart_due());
     }
 }

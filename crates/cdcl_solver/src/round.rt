@@ -7,7 +7,7 @@ ghost use Rattle.lrat_form.specs.declared.line.Line.{Line};
 ghost use Rattle.lrat_form.specs.Step.{State};
 ghost use Rattle.cdcl_solver.specs.Turn.{IsTurn};
 
-use crate::load::{are_within, clause_of, hints_of, is_literal};
+use crate::load::{are_within, clause_of, hints_of, is_literal, level_count};
 use crate::pace::Pace;
 use chooser_box::Chooser;
 use conflict_analysis::Analysis;
@@ -98,7 +98,7 @@ fn turn_of(taken: Taken) -> Turn
 }
 
 /// Keeps what was learnt: the trail goes back and has the clause, and the checker takes the lemma.
-fn keep(
+pub(crate) fn keep(
     alloc: Global,
     log: &mut LemmaLog,
     trail: &mut Trail,
@@ -147,13 +147,13 @@ fn take_conflict<C: Chooser>(
     keep(alloc, log, trail, analysis)
 }
 
-/// Lets the conflict count: old weights count less, and the trail goes back to level 0, where these are due.
-fn count_conflict<C: Chooser>(trail: &mut Trail, chooser: &mut C, pace: &mut Pace)
+/// Lets the conflict count: old weights count less, and the trail goes back to level 0 where this is due.
+fn count_conflict<C: Chooser>(trail: &mut Trail, learnt: &[i64], chooser: &mut C, pace: &mut Pace)
     ensures { trail.new.variables ≡ trail.old.variables }
 {
-    if pace.is_decay_due() {
-        chooser.decay();
-    }
+    chooser.decay();
+    // A variable that has been undone keeps the level that it had last.
+    pace.take_levels(level_count(trail, learnt));
     if pace.is_restart_due() {
         trail.undo_to(0);
     }
@@ -178,7 +178,7 @@ pub(crate) fn take_turn<C: Chooser>(
     match trail.propagate() {
         Some(conflict) => {
             let turn = take_conflict(alloc, log, trail, analysis, chooser, budget, conflict)?;
-            count_conflict(trail, chooser, pace);
+            count_conflict(trail, &analysis.literals, chooser, pace);
             Ok(turn)
         }
         None => Ok(decide(trail, chooser)),

@@ -1,9 +1,14 @@
-use crate::{solve, solve_by};
+use crate::round::{Turn, keep};
+use crate::{solve, solve_by, solve_with};
 use chooser_box::{Activity, Chooser, FirstFree, Lying};
 use cnf_form::{Cnf, read_cnf, satisfies};
+use conflict_analysis::Analysis;
+use lemma_log::LemmaLog;
 use lrat_checker::{Checker, Step};
 use lrat_form::{LineList, Outcome};
-use std::alloc::Global;
+use solver_trail::Trail;
+use split_solver::split;
+use std::alloc::{AllocError, Global};
 use std::test::Fail;
 
 /// Three holes are too few for four pigeons: variable `3 * pigeon + hole + 1` says that a pigeon
@@ -156,5 +161,41 @@ fn clauses_without_a_solution_are_refuted(rt: HostRuntime) -> Result<(), Fail> {
         by_activity(alloc, b"p cnf 2 3\n1 1 2 0\n-2 -2 0\n-1 2 2 0\n", None)?.0,
         20
     );
+    Ok(())
+}
+
+/// What `split` and what `solve_with` tell of the clauses of a text, in short.
+fn by_both(alloc: Global, text: &[u8]) -> Result<(u8, u8), Fail> {
+    let cnf = cnf_of(alloc, text)?;
+    let outcome = split(alloc, &cnf)?;
+    let (by_split, _) = told(alloc, &cnf, &outcome)?;
+    let outcome = solve_with(alloc, &cnf, &mut FirstFree::new(), None)?;
+    let (by_search, _) = told(alloc, &cnf, &outcome)?;
+    Ok((by_split, by_search))
+}
+
+#[test]
+fn the_plain_search_answers_alike(rt: HostRuntime) -> Result<(), Fail> {
+    assert_eq!(rt; by_both(rt.alloc(), FOUR_INTO_THREE)?, (20, 20));
+    assert_eq!(rt;
+        by_both(rt.alloc(), b"p cnf 3 4\n1 2 0\n-1 3 0\n-2 -3 0\n3 -3 0\n")?,
+        (10, 10)
+    );
+    Ok(())
+}
+
+/// What it comes to that the literal 1 is to be kept as learnt, without a hint.
+fn kept_without_hints(alloc: Global, cnf: &Cnf) -> Result<Turn, AllocError> {
+    let mut log = LemmaLog::new(alloc, cnf)?;
+    let mut trail = Trail::new(alloc, cnf)?;
+    let mut analysis = Analysis::new(alloc, 2)?;
+    analysis.literals.push(1)?;
+    keep(alloc, &mut log, &mut trail, &analysis)
+}
+
+#[test]
+fn a_lemma_that_does_not_pass_is_lost(rt: HostRuntime) -> Result<(), Fail> {
+    let cnf = cnf_of(rt.alloc(), b"p cnf 2 1\n1 2 0\n")?;
+    assert_eq!(rt; kept_without_hints(rt.alloc(), &cnf)?, Turn::Lost);
     Ok(())
 }

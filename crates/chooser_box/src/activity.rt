@@ -12,6 +12,9 @@ const LIMIT: u64 = 1 << 58;
 /// The power of two by which weights and step are scaled down.
 const SHIFT: u32 = 30;
 
+/// By the how manieth part of itself a decay raises what later bumps add.
+const DECAY: u64 = 19;
+
 /// Notes the sign of a variable.
 fn note_sign(signs: &mut [bool], variable: usize, is_true: bool) {
     if variable < signs.len() {
@@ -21,8 +24,8 @@ fn note_sign(signs: &mut [bool], variable: usize, is_true: bool) {
 
 /// Picks a free variable of greatest weight, with the sign that it had last; at first it is false.
 ///
-/// Weights are whole numbers that a bump raises and that count half after a decay: in place of halving all of them
-/// a decay doubles what later bumps add. Where numbers grow too great, all are scaled down, which keeps their order.
+/// Weights are whole numbers that a bump raises and that count 19/20 after a decay: in place of lowering all of them
+/// a decay raises what later bumps add. Where numbers grow too great, all are scaled down, which keeps their order.
 /// The free variables wait in a heap. One that is found assigned is set aside, and waits again once a pick before
 /// it has been undone.
 #[derive(Drop)]
@@ -88,7 +91,7 @@ impl Activity {
     /// Scales the weights and the step down.
     fn scale_down(&mut self) {
         self.heap.scale_down(SHIFT);
-        self.step = (self.step >> SHIFT).max(1);
+        self.step = (self.step >> SHIFT).max(FIRST_STEP);
     }
 }
 
@@ -127,7 +130,7 @@ impl Chooser for Activity {
 
     fn decay(&mut self) {
         self.has_conflict = true;
-        self.step = self.step.saturating_mul(2);
+        self.step = self.step.saturating_add(self.step / DECAY);
         if self.step > LIMIT {
             self.scale_down();
         }

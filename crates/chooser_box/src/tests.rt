@@ -17,10 +17,12 @@ fn activity_picks_the_most_bumped_with_its_sign(rt: HostRuntime) -> Result<(), F
     chooser.decay();
     chooser.bump(4);
     assert_eq!(rt; chooser.pick(&[0, 0, 0, 0]), 3);
-    // A bump behind a decay counts twice, so variable 4 comes before variable 2.
+    // A bump behind a decay counts more, so variable 4 comes before variable 2.
     assert_eq!(rt; chooser.pick(&[0, 0, 1, 0]), 4);
     chooser.decay();
-    chooser.bump(-1);
+    for _ in 0..3 {
+        chooser.bump(-1);
+    }
     assert_eq!(rt; chooser.pick(&[0, 0, 0, 0]), -1);
     assert_eq!(rt; chooser.pick(&[1, 1, 1, 1]), 0);
     Ok(())
