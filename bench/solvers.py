@@ -67,6 +67,66 @@ def chain(length):
     return length, [[-k, k + 1] for k in range(1, length)] + [[1]]
 
 
+class Circuit:
+    """Gates as clauses, each gate once. A signal is a literal, or True or False."""
+
+    def __init__(self):
+        self.count = 0
+        self.clauses = []
+        self.known = {}
+
+    def variable(self):
+        self.count += 1
+        return self.count
+
+    def negation(self, a):
+        return not a if isinstance(a, bool) else -a
+
+    def both(self, a, b):
+        if a is False or b is False:
+            return False
+        if a is True or b is True:
+            return b if a is True else a
+        if a == -b:
+            return False
+        if a == b:
+            return a
+        pair = (min(a, b), max(a, b))
+        if pair not in self.known:
+            gate = self.known[pair] = self.variable()
+            self.clauses += [[-gate, a], [-gate, b], [gate, -a, -b]]
+        return self.known[pair]
+
+    def either(self, a, b):
+        return self.negation(self.both(self.negation(a), self.negation(b)))
+
+    def one_of(self, a, b):
+        return self.both(self.either(a, b), self.negation(self.both(a, b)))
+
+    def product(self, left, right):
+        """The bits of a product, from the least on."""
+        total = [False] * (len(left) + len(right))
+        for shift, factor in enumerate(right):
+            carry = False
+            for place in range(shift, len(total)):
+                bit = self.both(left[place - shift], factor) if place - shift < len(left) else False
+                one = total[place]
+                total[place] = self.one_of(self.one_of(one, bit), carry)
+                carry = self.either(self.both(one, bit), self.both(carry, self.either(one, bit)))
+        return total
+
+
+def products(bits):
+    """Two numbers have different products in the two orders."""
+    circuit = Circuit()
+    left = [circuit.variable() for _ in range(bits)]
+    right = [circuit.variable() for _ in range(bits)]
+    differ = False
+    for a, b in zip(circuit.product(left, right), circuit.product(right, left)):
+        differ = circuit.either(differ, circuit.one_of(a, b))
+    return circuit.count, circuit.clauses + [[differ]]
+
+
 def instances():
     """The made clauses, by name."""
     yield "pigeons 7 into 6", pigeons(7, 6)
@@ -78,6 +138,8 @@ def instances():
     for length in (12, 16, 20):
         yield f"parity {length}, odd", parity(length, length, True)
     yield "parity 40, even", parity(40, 40, False)
+    for bits in (5, 6):
+        yield f"products of {bits} bits", products(bits)
     yield "chain of 1,000,000", chain(1000000)
 
 
