@@ -5,7 +5,7 @@ use Rattle.int_circuits.specs.Numbers.{from_bits, low_bits, wrap}
 use Rattle.int_products.specs.Quotients.{quotient, quotient_by_zero, remainder}
 use Rattle.core_meaning.specs.Integers.{from_bits as read_bits, low_bits as cut_bits, wrap as wrap_to, quotient as quotient_of, remainder as remainder_of}
 
-low_same : (w : ℕ) (z : ℤ) → low_bits w z ≡ cut_bits w z
+pub low_same : (w : ℕ) (z : ℤ) → low_bits w z ≡ cut_bits w z
 unfolding low_bits
 low_same w (pos n) = refl
 low_same w (negsuc n) = refl

@@ -1,2 +1,4 @@
 pub mod IntLaws
 pub mod MemberLaw
+pub mod SingleLaw
+pub mod SumLaw

@@ -1,8 +1,14 @@
-//! Integers of the language as circuits: its five operators, and the integer that a set stands for.
+//! Integers of the language as circuits: its five operators, the integer that a set stands for, and
+//! the set of an integer.
 #![tactic(auto)]
 
 pub mod integers;
 pub mod members;
+pub mod singles;
 
 pub use integers::{integer_op, operate};
 pub use members::integer_of;
+pub use singles::matrix_of;
+
+#[cfg(test)]
+mod tests;

@@ -1,11 +1,12 @@
 //! The integer that a set stands for in an integer place.
 
-ghost use Rattle.std.specs.Prelude.{◌≡◌, ◌+◌, ◌*◌, ◌%◌, ◌^◌, ◌<◌, ◌≤◌, ◌&&◌, ℕ, Bool, length, IfOk, pos};
+ghost use Rattle.std.specs.Prelude.{◌≡◌, ◌+◌, ◌*◌, ◌%◌, ◌^◌, ◌<◌, ◌≤◌, ◌&&◌, ℕ, Bool, length, IfOk};
 ghost use Rattle.gate_trait.specs.Built.{Keeps, AllIn};
-ghost use Rattle.int_circuits.specs.Numbers.{number, bit, signed, wrap};
+ghost use Rattle.int_circuits.specs.Numbers.{number, bit, signed};
+ghost use Rattle.core_meaning.specs.Integers.{wrap};
 ghost use Rattle.bool_matrix.specs.Matrices.{AllBelong};
 ghost use Rattle.expr_encoder.specs.Sets.{IsUniverse};
-ghost use Rattle.int_encoder.specs.Members.{amount_for, sum_of_members};
+ghost use Rattle.int_encoder.specs.Members.{amount_from, amount_for, integer_sum};
 
 use bool_matrix::Matrix;
 use gate_trait::{Gates, Node};
@@ -25,7 +26,7 @@ fn bit_or_false<G: Gates>(gates: &G, set: bool, node: Node) -> Node
 }
 
 /// A number where the node is true, else 0.
-fn weighted<G: Gates>(
+pub(crate) fn weighted<G: Gates>(
     alloc: Global,
     gates: &G,
     width: u32,
@@ -48,6 +49,18 @@ fn weighted<G: Gates>(
     Ok(bits)
 }
 
+/// The low bits of the integer that has this place among them, counted from the least.
+pub(crate) fn amount_at(universe: Universe, place: u32) -> u32
+    requires universe { IsUniverse universe }
+    requires within { place < 16384 }
+    ensures amount { result ≡ amount_from universe place }
+    ensures small { result < 2 ^ universe.bits }
+{
+    let whole = 2_u32.pow(universe.bits);
+    let half = 2_u32.pow(universe.bits - 1);
+    (place + half) % whole
+}
+
 /// The low bits of the integer for which a number of the universe stands, or 0 for an atom.
 fn amount_of(universe: Universe, member: u32) -> u32
     requires universe { IsUniverse universe }
@@ -56,11 +69,10 @@ fn amount_of(universe: Universe, member: u32) -> u32
     ensures small { result < 2 ^ universe.bits }
 {
     if member < universe.atoms {
-        return 0;
+        0
+    } else {
+        amount_at(universe, member - universe.atoms)
     }
-    let whole = 2_u32.pow(universe.bits);
-    let half = 2_u32.pow(universe.bits - 1);
-    (member - universe.atoms + half) % whole
 }
 
 /// The sum so far and what one more number adds, where the node says whether it is in the set.
@@ -103,7 +115,7 @@ pub fn integer_of<G: Gates>(
     ensures belongs { IfOk result (λ s. AllIn (G.belongs gates.new) s) }
     ensures width { IfOk result (λ s. length s ≡ universe.bits) }
     ensures value { IfOk result (λ s. (x : ℕ → Bool) → signed (G.node_value gates.new x) s
-        ≡ wrap universe.bits (pos (sum_of_members universe (G.node_value gates.old x) matrix.now.entries))) }
+        ≡ wrap universe.bits (integer_sum universe (G.node_value gates.old x) matrix.now.entries)) }
 {
     let mut total = zeros(alloc, gates, universe.bits as usize)?;
     let entries = matrix.entries();

@@ -12,6 +12,7 @@ use Rattle.bool_matrix.specs.declared.entry.Entry.{Entry}
 use Rattle.bool_matrix.specs.Joined.{first_of}
 use Rattle.bool_matrix.specs.Basics.{all_here, all_as}
 use Rattle.int_encoder.specs.Members.{amount_for, sum_of_members}
+use Rattle.int_encoder.proofs.SumLaw.{members_sum}
 use Rattle.int_encoder.proofs.members.integer_of.Goals as goal
 
 pub loop-entry-init : goal.loop-entry-init
@@ -88,3 +89,4 @@ returns-clause-value g c = λ x.
     ap (λ (k : ℕ). from_bits k (number w c.loop-entry.total)) c.loop-entry.invariant.width
     ∙ ap (λ (k : ℕ). from_bits u.bits k) (c.loop-entry.invariant.sum x ∙ ap (λ (fs : List Entry). sum_of_members u v fs % 2 ^ u.bits) (take_all c.loop-entry.entry-index es over ∙ c.entries-entries.ensures.all))
     ∙ wrap_count u.bits (sum_of_members u v c.args.matrix.now.entries)
+    ∙ members_sum u v c.args.matrix.now.entries c.requires.universe.least
