@@ -36,3 +36,24 @@ pub fn one(
     libraries.push(library(alloc, files, failing)?)?;
     Ok(libraries)
 }
+
+/// A list of one library that holds `m.als`, which opens so many modules, and these without a line.
+pub fn many(alloc: Global, count: u32) -> Result<Vec<MemoryLibrary>, AllocError> {
+    let mut list = Vec::new(alloc);
+    let mut root = String::new(alloc);
+    for number in 0..count {
+        root.push_str(format!(in alloc; "open a{number}\n")?.as_str())?;
+        list.push((format!(in alloc; "a{number}.als")?, Vec::new(alloc)))?;
+    }
+    list.push((
+        String::from_str(alloc, "m.als")?,
+        root.as_str().as_bytes().to_vec(alloc)?,
+    ))?;
+    list.push((
+        String::from_str(alloc, "util/integer.als")?,
+        Vec::new(alloc),
+    ))?;
+    let mut libraries = Vec::new(alloc);
+    libraries.push(MemoryLibrary::new(list, Vec::new(alloc)))?;
+    Ok(libraries)
+}

@@ -1,4 +1,5 @@
 pub mod Causes
+pub mod Keys
 pub mod Names
 pub mod Refusals
 pub mod Weights

@@ -1,6 +1,7 @@
 //! A model is put together.
 ghost use Rattle.std.specs.Prelude.{◌≡◌, IfOk, map};
 ghost use Rattle.als_tree.specs.Instances.{sig_count};
+ghost use Rattle.loading_state.specs.Keys.{pair_of, pairs_of};
 ghost use Rattle.loading_state.specs.Weights.{Weighs};
 
 use crate::check::are_closed;
@@ -29,7 +30,10 @@ pub fn finished_model(
     alloc: Global,
     loading: Loading,
     integer: Option<usize>,
-) -> Result<Loaded, AllocError> {
+) -> Result<Loaded, AllocError>
+    ensures texts { IfOk result (λ m. m.texts ≡ map (λ s. s.text) loading.sources.items) }
+    ensures instances { IfOk result (λ m. pairs_of m.instances ≡ map pair_of loading.keys.items) }
+{
     let Loading {
         sources,
         keys,
@@ -54,6 +58,7 @@ pub fn finished_model(
 fn count_all(alloc: Global, sources: Vec<Source>) -> Result<Counted, AllocError>
     ensures sigs { IfOk result (λ c. c.sigs.items ≡ map (λ t. sig_count t.tree) c.texts) }
     ensures weights { IfOk result (λ c. Weighs c.texts c.weights.items) }
+    ensures texts { IfOk result (λ c. c.texts ≡ map (λ s. s.text) sources.items) }
 {
     let mut texts = Items::new(alloc);
     let mut sigs = Vec::new(alloc);
@@ -81,22 +86,21 @@ fn instances_of(
     keys: Vec<Key>,
     mut finished: Vec<Finished>,
     integer: Option<usize>,
-) -> Result<InstanceList, AllocError> {
+) -> Result<InstanceList, AllocError>
+    ensures { IfOk result (λ instances. pairs_of instances ≡ map pair_of keys.items) }
+{
     let integer_text = match integer {
         Some(instance) => keys.get(instance).map(|key| key.text),
         None => None,
     };
     let mut instances = Items::new(alloc);
-    for (instance, key) in keys.into_iter().enumerate() {
-        let mut opens = opens_of(&mut finished, instance)?;
-        if let Some(integer) = integer
-            && integer_text != Some(key.text)
-        {
-            opens.push(Opened {
-                alias: Name::copy(alloc, "integer")?,
-                instance: small(integer)?,
-            })?;
-        }
+    for key in keys {
+        let implicit = if integer_text == Some(key.text) {
+            None
+        } else {
+            integer
+        };
+        let opens = all_opens(alloc, &mut finished, instances.len(), implicit)?;
         instances.push(Instance {
             text: key.text,
             arguments: key.arguments,
@@ -105,6 +109,23 @@ fn instances_of(
         })?;
     }
     Ok(instances)
+}
+
+/// The opens of an instance, the implicit one of the integers last, where there is one.
+fn all_opens(
+    alloc: Global,
+    finished: &mut Vec<Finished>,
+    instance: usize,
+    integer: Option<usize>,
+) -> Result<OpenedList, AllocError> {
+    let mut opens = opens_of(finished, instance)?;
+    if let Some(integer) = integer {
+        opens.push(Opened {
+            alias: Name::copy(alloc, "integer")?,
+            instance: small(integer)?,
+        })?;
+    }
+    Ok(opens)
 }
 
 /// Takes the opens of an instance out of the list.

@@ -1,9 +1,13 @@
 //! What has been loaded so far.
+ghost use Rattle.std.specs.Prelude.{◌≡◌, ◌++◌, [], ◌∷◌, OnOk, IfOk, MatchOption};
+ghost use Rattle.std.specs.Bool.{Decides};
+ghost use Rattle.loading_state.specs.Keys.{pair_of, Lacks, IsAt, answer_in, is_followed, is_open_from};
+
 use crate::reach::{InstanceSet, Reach};
 use crate::source::Source;
 use alloy_base::Name;
 use als_items::Items;
-use als_tree::{ArgumentList, Opened, OpenedList};
+use als_tree::{ArgumentList, Opened, OpenedList, SigRef};
 use std::alloc::{AllocError, Global};
 use std::collections::HashMap;
 
@@ -87,7 +91,11 @@ impl Doors {
 
 impl Loading {
     /// Nothing.
-    pub fn new(alloc: Global) -> Loading {
+    pub fn new(alloc: Global) -> Loading
+        ensures asked { result.asked.items ≡ [] }
+        ensures sources { result.sources.items ≡ [] }
+        ensures keys { result.keys.items ≡ [] }
+    {
         Loading {
             asked: Vec::new(alloc),
             sources: Vec::new(alloc),
@@ -98,7 +106,9 @@ impl Loading {
 }
 
 /// The answer for a name, where the libraries were asked for it.
-pub fn answer_to(asked: &[Asked], name: &str) -> Option<Option<u32>> {
+pub fn answer_to(asked: &[Asked], name: &str) -> Option<Option<u32>>
+    ensures { result ≡ answer_in asked.now name.now }
+{
     for answer in asked {
         if answer.name.text() == name {
             return Some(answer.text);
@@ -108,12 +118,16 @@ pub fn answer_to(asked: &[Asked], name: &str) -> Option<Option<u32>> {
 }
 
 /// Whether the opens of the instance are all followed.
-pub fn is_finished(finished: &[Finished], instance: usize) -> bool {
+pub fn is_finished(finished: &[Finished], instance: usize) -> bool
+    ensures { result ≡ is_followed finished.now instance }
+{
     finished.iter().any(|f| f.instance as usize == instance)
 }
 
 /// Whether some instance of the text has opens that aren't all followed: then it stands on the chain of opens from the root.
-pub fn is_being_opened(keys: &[Key], finished: &[Finished], text: u32) -> bool {
+pub fn is_being_opened(keys: &[Key], finished: &[Finished], text: u32) -> bool
+    ensures { result ≡ is_open_from finished.now text 0 keys.now }
+{
     for (instance, key) in keys.iter().enumerate() {
         if key.text == text && !is_finished(finished, instance) {
             return true;
@@ -123,13 +137,29 @@ pub fn is_being_opened(keys: &[Key], finished: &[Finished], text: u32) -> bool {
 }
 
 /// The instance with this text and these arguments.
-pub fn instance_with(keys: &[Key], text: u32, arguments: &ArgumentList) -> Option<usize> {
-    for (instance, key) in keys.iter().enumerate() {
-        if key.text == text && key.arguments.as_slice() == arguments.as_slice() {
+pub fn instance_with(keys: &[Key], text: u32, arguments: &ArgumentList) -> Option<usize>
+    ensures { MatchOption result (Lacks keys.now (text, arguments.now)) (λ n. IsAt keys.now n (text, arguments.now)) }
+{
+    for instance in 0..keys.len() {
+        if has_pair(&keys[instance], text, arguments.as_slice()) {
             return Some(instance);
         }
     }
     None
+}
+
+/// Whether an instance has this text and these arguments.
+fn has_pair(key: &Key, text: u32, arguments: &[Option<SigRef>]) -> bool
+    ensures { Decides result (pair_of key.now ≡ (text, arguments.now)) }
+{
+    key.text == text && are_same(key.arguments.as_slice(), arguments)
+}
+
+/// Whether two lists of arguments are equal.
+fn are_same(a: &[Option<SigRef>], b: &[Option<SigRef>]) -> bool
+    ensures { Decides result (a.now ≡ b.now) }
+{
+    a == b
 }
 
 /// The instances that are reached from this one by opens that aren't private.

@@ -1,8 +1,9 @@
 //! Opens, and the instances to which they lead.
 #![tactic(auto, using(crate::proofs::Faults::memory_is_quiet, crate::proofs::Faults::refusal_is_quiet))]
 
-ghost use Rattle.std.specs.Prelude.{◌≡◌, ◌+◌, ◌<◌, ◌≤◌, true, IsTrue, IfErr, IfOk, OnOk, length};
+ghost use Rattle.std.specs.Prelude.{◌≡◌, ◌+◌, ◌<◌, ◌≤◌, true, false, IsTrue, IfErr, IfOk, OnOk, OnErr, length, map, [], ◌∷◌, ◌++◌};
 ghost use Rattle.loading_state.specs.Causes.{IsQuietFault};
+ghost use Rattle.loading_state.specs.Keys.{pair_of, AreDistinct, IsAt, is_open_from};
 ghost use Rattle.loading_state.specs.Refusals.{is_of_loading};
 
 use crate::argument::Opener;
@@ -30,6 +31,7 @@ pub fn note(
 ) -> Result<Option<u32>, LoadFault>
     ensures quiet { IfErr result IsQuietFault }
     ensures same { IfOk result (λ answer. answer ≡ text) }
+    ensures noted { OnOk result (asked.new.items ≡ asked.old.items ++ record { name = name.now; text = text } ∷ []) }
 {
     let name = Name::copy(alloc, name)?;
     asked.push(Asked { name, text })?;
@@ -95,6 +97,11 @@ pub fn placed(
     ensures quiet { IfErr result IsQuietFault }
     ensures grows { length loading.old.keys.items ≤ length loading.new.keys.items }
     ensures new { IfOk result (λ t. t.is_new ≡ true → (length loading.old.keys.items < length loading.new.keys.items) × (length loading.new.keys.items ≤ limit)) }
+    ensures texts { loading.new.sources.items ≡ loading.old.sources.items }
+    ensures asked { loading.new.asked.items ≡ loading.old.asked.items }
+    ensures off_chain { IfOk result (λ t. is_open_from loading.old.finished.items text 0 loading.old.keys.items ≡ false) }
+    ensures reached { IfOk result (λ t. IsAt loading.new.keys.items t.instance (text, request.now.arguments)) }
+    ensures distinct { AreDistinct (map pair_of loading.old.keys.items) → AreDistinct (map pair_of loading.new.keys.items) }
 {
     if is_being_opened(&loading.keys, &loading.finished, text) {
         return Err(refused_open(alloc, loading, instance, request, Rule::ModuleCycle));
@@ -153,6 +160,9 @@ fn add_instance(
 ) -> Result<usize, AllocError>
     ensures grows { length keys.old.items ≤ length keys.new.items }
     ensures added { OnOk result (length keys.new.items ≡ length keys.old.items + 1) }
+    ensures pairs { OnOk result (map pair_of keys.new.items ≡ map pair_of keys.old.items ++ (text, request.now.arguments) ∷ []) }
+    ensures number { IfOk result (λ n. n ≡ length keys.old.items) }
+    ensures kept { OnErr result (keys.new.items ≡ keys.old.items) }
 {
     let before = key_at(keys, opener)?;
     let path = longer_path(alloc, before.path.text(), request.alias.text())?;
@@ -171,6 +181,8 @@ fn add_instance(
 /// Notes that the opens of an instance are all followed.
 pub fn finish(loading: &mut Loading, instance: usize, doors: Doors) -> Result<(), AllocError>
     ensures instances { loading.new.keys.items ≡ loading.old.keys.items }
+    ensures texts { loading.new.sources.items ≡ loading.old.sources.items }
+    ensures asked { loading.new.asked.items ≡ loading.old.asked.items }
 {
     let instance = small(instance)?;
     loading.finished.push(Finished { instance, doors })?;

@@ -1,1 +1,4 @@
+pub mod Instances
+pub mod Order
 pub mod Reading
+pub mod Told

@@ -1,12 +1,14 @@
 //! Loading of a model.
-#![tactic(auto, using(loading_state::proofs::Faults::quiet_causes, loading_state::proofs::Faults::later_causes, loading_state::proofs::Faults::memory_is_quiet, loading_state::proofs::Faults::later_fault, loading_state::proofs::Faults::quiet_fault, loading_state::proofs::Faults::memory_fault, loading_state::proofs::Faults::refusal_is_quiet))]
+#![tactic(auto, using(loading_state::proofs::Faults::quiet_causes, loading_state::proofs::Faults::later_causes, loading_state::proofs::Faults::memory_is_quiet, loading_state::proofs::Faults::later_fault, loading_state::proofs::Faults::quiet_fault, loading_state::proofs::Faults::memory_fault, loading_state::proofs::Faults::refusal_is_quiet, crate::proofs::Known::keeps_itself, crate::proofs::Known::keeps_same, crate::proofs::Known::keeps_on, crate::proofs::Known::keeps_path, crate::proofs::Known::stays_itself, crate::proofs::Known::stays_same, crate::proofs::Known::stays_on, crate::proofs::Known::stays_plain))]
 
-ghost use Rattle.std.specs.Prelude.{◌≡◌, ◌≤◌, length};
+ghost use Rattle.std.specs.Prelude.{◌≡◌, ◌≤◌, ◌++◌, ◌∷◌, [], IfOk, OnOk, length, map};
 ghost use Rattle.als_tree.specs.Instances.{literals_of};
 ghost use Rattle.loading_state.specs.Causes.{Causes};
+ghost use Rattle.loading_state.specs.Keys.{pair_of, pairs_of, AreDistinct};
+ghost use Rattle.module_loader.specs.Told.{Keeps, LoadsTold, LoadsGiven, LoadsTree, Follows, StaysDistinct};
 
 use crate::source::with_tree;
-use crate::walk::{ask, open_all, take_in, text_of_path};
+use crate::walk::{fetch_text, open_all, take_in, text_of_path};
 use alloy_base::limits::MODULE_INSTANCES;
 use alloy_base::{Libraries, Name, Rule};
 use als_items::Items;
@@ -26,19 +28,21 @@ const LIMIT: usize = MODULE_INSTANCES as usize;
 /// has the text of the first library that holds it. `util/integer` is opened by every other module, where a library has it. A
 /// model is refused by the first rule of loading that its texts break in the order of the walk: each open is followed to its
 /// end before the next one, those that enums imply after the written ones.
-#[tactic(auto, using(loading_state::proofs::Faults::root_is_tried, loading_state::proofs::Faults::quiet_fault, loading_state::proofs::Faults::refusal_is_quiet, loading_state::proofs::Faults::later_causes))]
+#[tactic(auto, using(loading_state::proofs::Faults::root_is_tried, loading_state::proofs::Faults::quiet_fault, loading_state::proofs::Faults::refusal_is_quiet, loading_state::proofs::Faults::later_causes, crate::proofs::Known::loads_told))]
 pub fn load<L: Libraries>(alloc: Global, libraries: &mut L, root: &str) -> Result<Loaded, LoadFault>
     ensures keeps { L.told libraries.new ≡ L.told libraries.old }
     ensures cause { Causes root.now (L.counts libraries.old) (L.counts libraries.new) result }
+    ensures texts { IfOk result (λ m. LoadsTold (L.told libraries.old) root.now m.texts) }
+    ensures distinct { IfOk result (λ m. AreDistinct (pairs_of m.instances)) }
 {
-    let mut loading = Loading::new(alloc);
-    match ask(alloc, libraries, &mut loading, root, root)? {
-        Some(_) => follow(alloc, libraries, loading, root),
+    match fetch_text(alloc, libraries, root, root)? {
+        Some(bytes) => load_text(alloc, libraries, root, &bytes),
         None => Err(refused(alloc, Rule::NoModule, start_of(0), root)),
     }
 }
 
 /// The same for a root whose text is given. No library is asked for its name.
+#[tactic(auto, using(loading_state::proofs::Faults::quiet_causes, loading_state::proofs::Faults::later_causes, loading_state::proofs::Faults::quiet_fault, loading_state::proofs::Faults::memory_fault, crate::proofs::Known::loads_given))]
 pub fn load_text<L: Libraries>(
     alloc: Global,
     libraries: &mut L,
@@ -47,6 +51,8 @@ pub fn load_text<L: Libraries>(
 ) -> Result<Loaded, LoadFault>
     ensures keeps { L.told libraries.new ≡ L.told libraries.old }
     ensures cause { Causes root.now (L.counts libraries.old) (L.counts libraries.new) result }
+    ensures texts { IfOk result (λ m. LoadsGiven (L.told libraries.old) root.now text.now m.texts) }
+    ensures distinct { IfOk result (λ m. AreDistinct (pairs_of m.instances)) }
 {
     let mut loading = Loading::new(alloc);
     let number = take_in(alloc, &mut loading.sources, root, text)?;
@@ -55,6 +61,7 @@ pub fn load_text<L: Libraries>(
 }
 
 /// The same for a root that was read: its tree, and how many tokens spell it.
+#[tactic(auto, using(loading_state::proofs::Faults::quiet_causes, loading_state::proofs::Faults::later_causes, loading_state::proofs::Faults::quiet_fault, loading_state::proofs::Faults::memory_fault, crate::proofs::Known::loads_tree))]
 pub fn load_tree<L: Libraries>(
     alloc: Global,
     libraries: &mut L,
@@ -65,6 +72,8 @@ pub fn load_tree<L: Libraries>(
     requires { length (literals_of tree) ≤ tokens }
     ensures keeps { L.told libraries.new ≡ L.told libraries.old }
     ensures cause { Causes root.now (L.counts libraries.old) (L.counts libraries.new) result }
+    ensures texts { IfOk result (λ m. LoadsTree (L.told libraries.old) root.now tree m.texts) }
+    ensures distinct { IfOk result (λ m. AreDistinct (pairs_of m.instances)) }
 {
     let mut loading = Loading::new(alloc);
     loading.sources.push(with_tree(alloc, root, tree, tokens)?)?;
@@ -73,14 +82,18 @@ pub fn load_tree<L: Libraries>(
 }
 
 /// Loads what a root opens.
+#[tactic(auto, using(loading_state::proofs::Faults::quiet_causes, loading_state::proofs::Faults::later_causes, loading_state::proofs::Faults::later_fault, loading_state::proofs::Faults::quiet_fault, loading_state::proofs::Faults::memory_fault, loading_state::proofs::Faults::refusal_is_quiet, loading_state::proofs::Faults::memory_is_quiet, crate::proofs::Known::keeps_same, crate::proofs::Known::keeps_on, crate::proofs::Known::follows, crate::proofs::Known::distinct_end, crate::proofs::Known::stays_on, crate::proofs::Known::stays_same))]
 fn follow<L: Libraries>(
     alloc: Global,
     libraries: &mut L,
     mut loading: Loading,
     root: &str,
 ) -> Result<Loaded, LoadFault>
+    requires { loading.keys.items ≡ [] }
     ensures keeps { L.told libraries.new ≡ L.told libraries.old }
     ensures cause { Causes root.now (L.counts libraries.old) (L.counts libraries.new) result }
+    ensures texts { IfOk result (λ m. Follows (L.told libraries.old) root.now loading m.texts) }
+    ensures distinct { IfOk result (λ m. AreDistinct (pairs_of m.instances)) }
 {
     if parameter_count(&loading.sources, 0) != 0 {
         return Err(refused(alloc, Rule::ModuleArguments, start_of(0), root));
@@ -98,7 +111,9 @@ fn add_plain(
     keys: &mut Vec<Key>,
     text: u32,
     alias: &str,
-) -> Result<usize, AllocError> {
+) -> Result<usize, AllocError>
+    ensures pairs { OnOk result (map pair_of keys.new.items ≡ map pair_of keys.old.items ++ (text, []) ∷ []) }
+{
     let instance = keys.len();
     let arguments = Items::new(alloc);
     let path = Name::copy(alloc, alias)?;
@@ -121,6 +136,8 @@ fn open_integer<L: Libraries>(
 ) -> Result<Option<usize>, LoadFault>
     ensures keeps { L.told libraries.new ≡ L.told libraries.old }
     ensures cause { Causes root.now (L.counts libraries.old) (L.counts libraries.new) result }
+    ensures texts { OnOk result (Keeps (L.told libraries.old) root.now loading.old loading.new) }
+    ensures distinct { OnOk result (StaysDistinct loading.old.keys.items loading.new.keys.items) }
 {
     let Some(text) = text_of_path(alloc, libraries, loading, root, "util/integer")? else {
         return Ok(None);

@@ -1,8 +1,9 @@
 //! The walk over opens.
-#![tactic(auto, using(loading_state::proofs::Faults::quiet_causes, loading_state::proofs::Faults::later_causes, loading_state::proofs::Faults::later_fault, loading_state::proofs::Faults::quiet_fault, loading_state::proofs::Faults::memory_fault, loading_state::proofs::Faults::memory_is_quiet, loading_state::proofs::Faults::refusal_is_quiet))]
+#![tactic(auto, using(loading_state::proofs::Faults::quiet_causes, loading_state::proofs::Faults::later_causes, loading_state::proofs::Faults::later_fault, loading_state::proofs::Faults::quiet_fault, loading_state::proofs::Faults::memory_fault, loading_state::proofs::Faults::memory_is_quiet, loading_state::proofs::Faults::refusal_is_quiet, crate::proofs::Known::keeps_itself, crate::proofs::Known::keeps_same, crate::proofs::Known::keeps_on, crate::proofs::Known::keeps_learnt, crate::proofs::Known::keeps_path, crate::proofs::Known::stays_itself, crate::proofs::Known::stays_same, crate::proofs::Known::stays_on, crate::proofs::Known::stays_placed))]
 
-ghost use Rattle.std.specs.Prelude.{◌≡◌, ◌<◌, ◌≤◌, true, IsTrue, IfErr, IfOk, length};
+ghost use Rattle.std.specs.Prelude.{◌≡◌, ◌<◌, ◌≤◌, true, IsTrue, IfErr, IfOk, OnOk, length, map};
 ghost use Rattle.loading_state.specs.Causes.{IsTried, Causes, IsQuietFault};
+ghost use Rattle.module_loader.specs.Told.{IsFront, Learns, LearnsPath, Keeps, StaysDistinct, IsTaken};
 
 use crate::source::read_text;
 use alloy_base::limits::MODULE_BYTES;
@@ -14,8 +15,29 @@ use loading_state::{
 use std::alloc::Global;
 use std::collections::HashSet;
 
+/// Asks for the text of a name. The answer is its front, where it is over the limit of a text.
+#[tactic(auto, using(crate::proofs::Known::front_found, crate::proofs::Known::front_absent, loading_state::proofs::Faults::failed_fault, loading_state::proofs::Faults::quiet_fault, loading_state::proofs::Faults::memory_fault))]
+pub fn fetch_text<L: Libraries>(
+    alloc: Global,
+    libraries: &mut L,
+    root: &str,
+    name: &str,
+) -> Result<Option<Vec<u8>>, LoadFault>
+    requires { IsTried root.now name.now }
+    ensures keeps { L.told libraries.new ≡ L.told libraries.old }
+    ensures cause { Causes root.now (L.counts libraries.old) (L.counts libraries.new) result }
+    ensures answer { IfOk result (IsFront (L.told libraries.old) name.now) }
+{
+    match libraries.fetch_first(alloc, name, MODULE_BYTES + 1) {
+        Ok(Fetch::Absent) => Ok(None),
+        Ok(Fetch::Found(bytes)) => Ok(Some(bytes)),
+        Err(FetchFault::Failed) => Err(unread(alloc, name)),
+        Err(FetchFault::Memory) => Err(LoadFault::Memory),
+    }
+}
+
 /// Asks for the text of a name, and reads it. A name that was answered isn't asked again.
-#[tactic(auto, using(loading_state::proofs::Faults::failed_fault, loading_state::proofs::Faults::quiet_causes, loading_state::proofs::Faults::quiet_fault, loading_state::proofs::Faults::memory_fault))]
+#[tactic(auto, using(crate::proofs::Known::learns_again, crate::proofs::Known::learns_absent, crate::proofs::Known::learns_found, loading_state::proofs::Faults::quiet_causes, loading_state::proofs::Faults::later_causes, loading_state::proofs::Faults::later_fault, loading_state::proofs::Faults::quiet_fault))]
 pub fn ask<L: Libraries>(
     alloc: Global,
     libraries: &mut L,
@@ -27,18 +49,17 @@ pub fn ask<L: Libraries>(
     ensures keeps { L.told libraries.new ≡ L.told libraries.old }
     ensures cause { Causes root.now (L.counts libraries.old) (L.counts libraries.new) result }
     ensures instances { loading.new.keys.items ≡ loading.old.keys.items }
+    ensures answer { IfOk result (Learns (L.told libraries.old) root.now loading.old loading.new name.now) }
 {
     if let Some(answer) = answer_to(&loading.asked, name) {
         return Ok(answer);
     }
-    match libraries.fetch_first(alloc, name, MODULE_BYTES + 1) {
-        Ok(Fetch::Absent) => note(alloc, &mut loading.asked, name, None),
-        Ok(Fetch::Found(bytes)) => {
+    match fetch_text(alloc, libraries, root, name)? {
+        None => note(alloc, &mut loading.asked, name, None),
+        Some(bytes) => {
             let number = take_in(alloc, &mut loading.sources, name, &bytes)?;
             note(alloc, &mut loading.asked, name, Some(number))
         }
-        Err(FetchFault::Failed) => Err(unread(alloc, name)),
-        Err(FetchFault::Memory) => Err(LoadFault::Memory),
     }
 }
 
@@ -50,6 +71,8 @@ pub fn take_in(
     bytes: &[u8],
 ) -> Result<u32, LoadFault>
     ensures quiet { IfErr result IsQuietFault }
+    ensures number { IfOk result (λ n. n ≡ length sources.old.items) }
+    ensures taken { IfOk result (λ n. IsTaken bytes.now name.now n (map (λ s. s.text) sources.old.items) (map (λ s. s.text) sources.new.items)) }
 {
     let number = small(sources.len())?;
     let source = read_text(alloc, number, name, bytes)?;
@@ -58,7 +81,7 @@ pub fn take_in(
 }
 
 /// The number of the text of a path: that of the first of its two names that a library has.
-#[tactic(auto, using(loading_state::proofs::Faults::near_is_tried, loading_state::proofs::Faults::far_is_tried, loading_state::proofs::Faults::later_fault, loading_state::proofs::Faults::later_causes, loading_state::proofs::Faults::memory_fault))]
+#[tactic(auto, using(loading_state::proofs::Faults::near_is_tried, loading_state::proofs::Faults::far_is_tried, loading_state::proofs::Faults::later_fault, loading_state::proofs::Faults::later_causes, loading_state::proofs::Faults::memory_fault, crate::proofs::Known::path_near, crate::proofs::Known::path_far))]
 pub fn text_of_path<L: Libraries>(
     alloc: Global,
     libraries: &mut L,
@@ -69,6 +92,7 @@ pub fn text_of_path<L: Libraries>(
     ensures keeps { L.told libraries.new ≡ L.told libraries.old }
     ensures cause { Causes root.now (L.counts libraries.old) (L.counts libraries.new) result }
     ensures instances { loading.new.keys.items ≡ loading.old.keys.items }
+    ensures answer { IfOk result (LearnsPath (L.told libraries.old) root.now loading.old loading.new path.now) }
 {
     let folder = folder_of(alloc, root)?;
     let near = file_name(alloc, folder.as_str(), path)?;
@@ -91,6 +115,8 @@ pub fn open_all<L: Libraries>(
     ensures keeps { L.told libraries.new ≡ L.told libraries.old }
     ensures cause { Causes root.now (L.counts libraries.old) (L.counts libraries.new) result }
     ensures grows { length loading.old.keys.items ≤ length loading.new.keys.items }
+    ensures texts { OnOk result (Keeps (L.told libraries.old) root.now loading.old loading.new) }
+    ensures distinct { OnOk result (StaysDistinct loading.old.keys.items loading.new.keys.items) }
 {
     let mut doors = Doors::new(alloc);
     let mut aliases = HashSet::new(alloc);
@@ -120,6 +146,8 @@ fn target_of<L: Libraries>(
     ensures cause { Causes root.now (L.counts libraries.old) (L.counts libraries.new) result }
     ensures grows { length loading.old.keys.items ≤ length loading.new.keys.items }
     ensures new { IfOk result (λ t. t.is_new ≡ true → (length loading.old.keys.items < length loading.new.keys.items) × (length loading.new.keys.items ≤ limit)) }
+    ensures texts { OnOk result (Keeps (L.told libraries.old) root.now loading.old loading.new) }
+    ensures distinct { OnOk result (StaysDistinct loading.old.keys.items loading.new.keys.items) }
 {
     let Some(text) = text_of_path(alloc, libraries, loading, root, request.path.as_str())? else {
         return Err(refused_open(alloc, loading, instance, request, Rule::NoModule));

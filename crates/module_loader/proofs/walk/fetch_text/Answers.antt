@@ -1,6 +1,6 @@
 use Rattle.std.proofs.Common.{sym}
 use Rattle.loading_state.proofs.Faults.{failed_fault}
-use Rattle.module_loader.proofs.walk.ask.Goals as goal
+use Rattle.module_loader.proofs.walk.fetch_text.Goals as goal
 
 pub returns-in-Err-Failed-clause-cause : goal.returns-in-Err-Failed-clause-cause
 returns-in-Err-Failed-clause-cause g c =
