@@ -1,5 +1,8 @@
 pub mod Faults
 pub mod Folders
 pub mod Heavy
+pub mod Led
+pub mod Opens
 pub mod Pairs
 pub mod Ranges
+pub mod Refusals

@@ -1,8 +1,9 @@
 -- Instances as texts with arguments.
-use Rattle.std.specs.Prelude.{◌≡◌, ◌≢◌, ℕ, ◌+◌, ◌<◌, ◌==◌, Bool, false, not, ◌&&◌, ◌||◌, cond, List, [], ◌∷◌, ◌++◌, map, length, slice_index_or, slice_get, bytes_eq, Option, Some, None, option_map}
+use Rattle.std.specs.Prelude.{◌≡◌, ◌≢◌, ℕ, ◌+◌, ◌<◌, ◌==◌, Bool, false, not, ◌&&◌, ◌||◌, cond, List, [], ◌∷◌, map, length, slice_index_or, slice_get, bytes_eq, Option, Some, None}
 use Rattle.std.specs.List.{AllPairs, list_any}
 use Rattle.als_tree.specs.declared.instance.Instance.{Instance}
 use Rattle.als_tree.specs.declared.instance.SigRef.{SigRef}
+use Rattle.als_tree.specs.declared.instance.Text.{Text}
 use Rattle.loading_state.specs.declared.loading.Asked.{Asked}
 use Rattle.loading_state.specs.declared.loading.Finished.{Finished}
 use Rattle.loading_state.specs.declared.loading.Key.{Key}
@@ -44,6 +45,13 @@ abbrev pub answer_in : List Asked → List ℕ → Option (Option ℕ)
 answer_in [] name = None
 answer_in (a ∷ rest) name = cond (bytes_eq a.name name) (Some a.text) (answer_in rest name)
 
--- the name of the text of this number
-abbrev pub name_at : List Source → ℕ → Option (List ℕ)
-name_at sources n = option_map (λ s. s.text.name) (slice_get sources n)
+abbrev pub texts_of : List Source → List Text
+texts_of sources = map (λ s. s.text) sources
+
+abbrev pub text_of_key : List Text → Option Key → Option Text
+text_of_key texts None = None
+text_of_key texts (Some k) = slice_get texts k.text
+
+-- the text of the instance of this number
+abbrev pub text_at : List Key → List Text → ℕ → Option Text
+text_at keys texts n = text_of_key texts (slice_get keys n)

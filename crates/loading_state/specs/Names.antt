@@ -1,5 +1,5 @@
 -- The names under which the text of a path is sought.
-use Rattle.std.specs.Prelude.{ℕ, ◌==◌, if◌then◌else◌, List, [], ◌∷◌, ◌++◌, codes}
+use Rattle.std.specs.Prelude.{ℕ, ◌-◌, length, slice_get, unwrap_or, ◌==◌, if◌then◌else◌, List, [], ◌∷◌, ◌++◌, codes}
 use Rattle.std.specs.List.{list_any}
 use Rattle.als_tree.specs.declared.expr.QualName.{QualName}
 
@@ -24,3 +24,7 @@ path_bytes path = if path.is_own then codes "this/" ++ slashed path.parts else s
 -- the name of the file of a path in a folder
 abbrev pub file_name : List ℕ → List ℕ → List ℕ
 file_name folder path = (folder ++ path) ++ codes ".als"
+
+-- the last part of a path
+abbrev pub last_part : List (List ℕ) → List ℕ
+last_part parts = unwrap_or (slice_get parts (length parts - 1)) []

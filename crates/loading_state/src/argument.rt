@@ -1,8 +1,10 @@
 //! What an argument of an open stands for.
-#![tactic(auto, using(crate::proofs::Faults::refusal_is_quiet))]
+#![tactic(auto, using(crate::proofs::Faults::refusal_is_quiet, crate::proofs::Refusals::refused_argument))]
 
-ghost use Rattle.std.specs.Prelude.{IfErr};
+ghost use Rattle.std.specs.Prelude.{IfErr, IfOk};
 ghost use Rattle.loading_state.specs.Causes.{IsQuietFault};
+ghost use Rattle.loading_state.specs.Opens.{Fits};
+ghost use Rattle.loading_state.specs.Places.{IsAtArgument};
 
 use crate::LoadFault;
 use crate::loading::{Doors, Finished, Key};
@@ -53,6 +55,8 @@ pub fn argument(
     written: &SigName,
 ) -> Result<Option<SigRef>, LoadFault>
     ensures quiet { IfErr result IsQuietFault }
+    ensures refused { IfErr result (IsAtArgument opener.entry.source.now.text.name written.now) }
+    ensures fits { IfOk result (Fits written.now) }
 {
     match written {
         SigName::Int(_) => Ok(None),

@@ -1,12 +1,14 @@
 //! A model is put together.
 ghost use Rattle.std.specs.Prelude.{◌≡◌, IfOk, map};
 ghost use Rattle.als_tree.specs.Instances.{sig_count};
-ghost use Rattle.loading_state.specs.Keys.{pair_of, pairs_of};
+ghost use Rattle.loading_state.specs.Keys.{pair_of, pairs_of, texts_of};
+ghost use Rattle.loading_state.specs.Leads.{IsAnswered, AllLed};
 ghost use Rattle.loading_state.specs.Weights.{Weighs};
 
 use crate::check::are_closed;
 use crate::count::{names_of, plus, sig_count, weight};
-use crate::loading::{Finished, Key, Loading};
+use crate::leads::all_led;
+use crate::loading::{Asked, Finished, Key, Loading};
 use crate::refuse::small;
 use crate::source::Source;
 use alloy_base::Name;
@@ -24,23 +26,26 @@ struct Counted {
     weights: Vec<usize>,
 }
 
-/// The model: each instance with its opens, the implicit one of the integers last.
+/// The model: each instance with its opens, the implicit one of the integers last. Where an open did not lead to the text
+/// that was found for it, the answer would be want of memory.
 #[tactic(auto, using(crate::proofs::Heavy::counted_at_most))]
 pub fn finished_model(
     alloc: Global,
     loading: Loading,
     integer: Option<usize>,
+    root: &str,
 ) -> Result<Loaded, AllocError>
     ensures texts { IfOk result (λ m. m.texts ≡ map (λ s. s.text) loading.sources.items) }
+    ensures led { IfOk result (λ m. AllLed (IsAnswered loading.asked.items root.now) m.instances m.texts) }
     ensures instances { IfOk result (λ m. pairs_of m.instances ≡ map pair_of loading.keys.items) }
 {
     let Loading {
         sources,
         keys,
         finished,
-        asked: _,
+        asked,
     } = loading;
-    let instances = instances_of(alloc, keys, finished, integer)?;
+    let instances = led_instances(alloc, &asked, root, &sources, keys, finished, integer)?;
     let Counted {
         texts,
         sigs,
@@ -78,6 +83,27 @@ fn count_all(alloc: Global, sources: Vec<Source>) -> Result<Counted, AllocError>
         sigs,
         weights,
     })
+}
+
+/// The instances with their opens, which lead to the texts that were answered.
+fn led_instances(
+    alloc: Global,
+    asked: &Vec<Asked>,
+    root: &str,
+    sources: &Vec<Source>,
+    keys: Vec<Key>,
+    finished: Vec<Finished>,
+    integer: Option<usize>,
+) -> Result<InstanceList, AllocError>
+    ensures pairs { IfOk result (λ instances. pairs_of instances ≡ map pair_of keys.items) }
+    ensures led { IfOk result (λ instances. AllLed (IsAnswered asked.now.items root.now) instances (texts_of sources.now.items)) }
+{
+    let instances = instances_of(alloc, keys, finished, integer)?;
+    let led = all_led(alloc, asked, root, sources, instances.as_slice())?;
+    if !led {
+        return Err(AllocError);
+    }
+    Ok(instances)
 }
 
 /// The instances with their opens.

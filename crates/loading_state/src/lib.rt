@@ -8,6 +8,7 @@ mod check;
 mod count;
 mod fault;
 mod label;
+mod leads;
 mod loading;
 mod names;
 mod placing;

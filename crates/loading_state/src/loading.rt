@@ -1,7 +1,7 @@
 //! What has been loaded so far.
-ghost use Rattle.std.specs.Prelude.{◌≡◌, ◌++◌, [], ◌∷◌, OnOk, IfOk, MatchOption};
+ghost use Rattle.std.specs.Prelude.{◌≡◌, ◌++◌, [], ◌∷◌, OnOk, IfOk, MatchOption, slice_get, Some};
 ghost use Rattle.std.specs.Bool.{Decides};
-ghost use Rattle.loading_state.specs.Keys.{pair_of, Lacks, IsAt, answer_in, is_followed, is_open_from};
+ghost use Rattle.loading_state.specs.Keys.{pair_of, Lacks, IsAt, answer_in, is_followed, is_open_from, texts_of, text_at};
 
 use crate::reach::{InstanceSet, Reach};
 use crate::source::Source;
@@ -63,7 +63,9 @@ pub struct Loading {
 
 impl Doors {
     /// No open.
-    pub fn new(alloc: Global) -> Doors {
+    pub fn new(alloc: Global) -> Doors
+        ensures { result.opens ≡ [] }
+    {
         Doors {
             opens: Items::new(alloc),
             aliases: HashMap::new(alloc),
@@ -78,7 +80,9 @@ impl Doors {
         opened: Opened,
         beyond: InstanceSet,
         is_private: bool,
-    ) -> Result<(), AllocError> {
+    ) -> Result<(), AllocError>
+        ensures { OnOk result (self.new.opens ≡ self.old.opens ++ opened ∷ []) }
+    {
         let instance = InstanceSet::of(opened.instance);
         let alias = String::from_str(alloc, opened.alias.text())?;
         let reach = self.aliases.entry(alias)?.or_insert(Reach::EMPTY);
@@ -95,6 +99,7 @@ impl Loading {
         ensures asked { result.asked.items ≡ [] }
         ensures sources { result.sources.items ≡ [] }
         ensures keys { result.keys.items ≡ [] }
+        ensures finished { result.finished.items ≡ [] }
     {
         Loading {
             asked: Vec::new(alloc),
@@ -173,12 +178,16 @@ pub fn public_reach(finished: &[Finished], instance: usize) -> InstanceSet {
 }
 
 /// The instance of this number.
-pub fn key_at(keys: &[Key], instance: usize) -> Result<&Key, AllocError> {
+pub fn key_at(keys: &[Key], instance: usize) -> Result<&Key, AllocError>
+    ensures { IfOk result (λ key. slice_get keys.now instance ≡ Some key.now) }
+{
     keys.get(instance).ok_or(AllocError)
 }
 
 /// The text of the instance of this number.
-pub fn source_of(loading: &Loading, instance: usize) -> Result<&Source, AllocError> {
+pub fn source_of(loading: &Loading, instance: usize) -> Result<&Source, AllocError>
+    ensures { IfOk result (λ source. text_at loading.now.keys.items (texts_of loading.now.sources.items) instance ≡ Some source.now.text) }
+{
     let key = key_at(&loading.keys, instance)?;
     loading.sources.get(key.text as usize).ok_or(AllocError)
 }

@@ -1,6 +1,6 @@
 //! The names under which the text of a path is sought.
 ghost use Rattle.std.specs.Prelude.{◌≡◌, ◌++◌, IfOk, OnOk, string_bytes};
-ghost use Rattle.loading_state.specs.Names.{folder_of, slashed, path_bytes, file_name};
+ghost use Rattle.loading_state.specs.Names.{folder_of, slashed, path_bytes, file_name, last_part};
 
 use alloy_base::Name;
 use als_tree::QualName;
@@ -54,4 +54,14 @@ pub fn file_name(alloc: Global, folder: &str, path: &str) -> Result<String, Allo
     name.push_str(path)?;
     name.push_str(".als")?;
     Ok(name)
+}
+
+/// The last part of a path.
+pub fn last_part(parts: &[Name]) -> &str
+    ensures { result.now ≡ last_part parts.now }
+{
+    if parts.is_empty() {
+        return "";
+    }
+    parts[parts.len() - 1].text()
 }

@@ -1,10 +1,13 @@
 //! Opens, and the instances to which they lead.
-#![tactic(auto, using(crate::proofs::Faults::memory_is_quiet, crate::proofs::Faults::refusal_is_quiet))]
+#![tactic(auto, using(crate::proofs::Faults::memory_is_quiet, crate::proofs::Faults::refusal_is_quiet, crate::proofs::Refusals::memory_in_text, crate::proofs::Refusals::refused_at, crate::proofs::Refusals::refused_written, crate::proofs::Opens::asked_written, crate::proofs::Opens::asked_implied, crate::proofs::Opens::opens_counted))]
 
 ghost use Rattle.std.specs.Prelude.{◌≡◌, ◌+◌, ◌<◌, ◌≤◌, true, false, IsTrue, IfErr, IfOk, OnOk, OnErr, length, map, [], ◌∷◌, ◌++◌};
 ghost use Rattle.loading_state.specs.Causes.{IsQuietFault};
-ghost use Rattle.loading_state.specs.Keys.{pair_of, AreDistinct, IsAt, is_open_from};
+ghost use Rattle.loading_state.specs.Keys.{pair_of, AreDistinct, IsAt, is_open_from, texts_of, text_at};
+ghost use Rattle.loading_state.specs.Opens.{IsAsked, IsPlaceOf, IsOpenCount};
+ghost use Rattle.loading_state.specs.Places.{IsInText};
 ghost use Rattle.loading_state.specs.Refusals.{is_of_loading};
+ghost use Rattle.loading_state.specs.declared.fault.LoadFault.TheVariants.{Memory};
 
 use crate::argument::Opener;
 use crate::label::{longer_path, new_label};
@@ -30,6 +33,7 @@ pub fn note(
     text: Option<u32>,
 ) -> Result<Option<u32>, LoadFault>
     ensures quiet { IfErr result IsQuietFault }
+    ensures memory { IfErr result (λ fault. fault ≡ Memory) }
     ensures same { IfOk result (λ answer. answer ≡ text) }
     ensures noted { OnOk result (asked.new.items ≡ asked.old.items ++ record { name = name.now; text = text } ∷ []) }
 {
@@ -39,10 +43,12 @@ pub fn note(
 }
 
 /// How many opens an instance has, with those that enums imply.
-pub fn open_count(loading: &Loading, instance: usize) -> Result<usize, AllocError> {
+pub fn open_count(loading: &Loading, instance: usize) -> Result<usize, AllocError>
+    ensures { IfOk result (IsOpenCount (text_at loading.now.keys.items (texts_of loading.now.sources.items) instance)) }
+{
     let source = source_of(loading, instance)?;
     let written = source.text.tree.opens.len();
-    Ok(written.saturating_add(source.table.enums().len()))
+    count::plus(written, source.table.enums().len())
 }
 
 /// What the open of this number asks for.
@@ -55,6 +61,8 @@ pub fn request_at(
     number: usize,
 ) -> Result<Request, LoadFault>
     ensures quiet { IfErr result IsQuietFault }
+    ensures refused { IfErr result (IsInText (text_at loading.now.keys.items (texts_of loading.now.sources.items) instance)) }
+    ensures asked { IfOk result (IsAsked (text_at loading.now.keys.items (texts_of loading.now.sources.items) instance) instance number) }
 {
     let key = key_at(&loading.keys, instance)?;
     let source = source_of(loading, instance)?;
@@ -71,8 +79,8 @@ pub fn request_at(
     if number < written.len() {
         return written_request(alloc, opener, aliases, &written[number]);
     }
-    match source.table.enums().get(number - written.len()) {
-        Some(implied) => implied_request(alloc, opener.number, *implied),
+    match source.table.enum_at(number - written.len()) {
+        Some(enumerated) => implied_request(alloc, opener.number, enumerated),
         None => Err(LoadFault::Memory),
     }
 }
@@ -99,6 +107,8 @@ pub fn placed(
     ensures new { IfOk result (λ t. t.is_new ≡ true → (length loading.old.keys.items < length loading.new.keys.items) × (length loading.new.keys.items ≤ limit)) }
     ensures texts { loading.new.sources.items ≡ loading.old.sources.items }
     ensures asked { loading.new.asked.items ≡ loading.old.asked.items }
+    ensures finished { loading.new.finished.items ≡ loading.old.finished.items }
+    ensures refused { IsPlaceOf (text_at loading.old.keys.items (texts_of loading.old.sources.items) instance) request.now.place → IfErr result (IsInText (text_at loading.old.keys.items (texts_of loading.old.sources.items) instance)) }
     ensures off_chain { IfOk result (λ t. is_open_from loading.old.finished.items text 0 loading.old.keys.items ≡ false) }
     ensures reached { IfOk result (λ t. IsAt loading.new.keys.items t.instance (text, request.now.arguments)) }
     ensures distinct { AreDistinct (map pair_of loading.old.keys.items) → AreDistinct (map pair_of loading.new.keys.items) }
@@ -135,6 +145,7 @@ pub fn refused_open(
 ) -> LoadFault
     requires { IsTrue (is_of_loading rule) }
     ensures quiet { IsQuietFault result }
+    ensures refused { IsPlaceOf (text_at loading.now.keys.items (texts_of loading.now.sources.items) instance) request.now.place → IsInText (text_at loading.now.keys.items (texts_of loading.now.sources.items) instance) result }
 {
     match source_of(loading, instance) {
         Ok(source) => refused(alloc, rule, request.place, source.text.name.text()),
@@ -183,6 +194,7 @@ pub fn finish(loading: &mut Loading, instance: usize, doors: Doors) -> Result<()
     ensures instances { loading.new.keys.items ≡ loading.old.keys.items }
     ensures texts { loading.new.sources.items ≡ loading.old.sources.items }
     ensures asked { loading.new.asked.items ≡ loading.old.asked.items }
+    ensures done { OnOk result (loading.new.finished.items ≡ loading.old.finished.items ++ record { instance = instance; doors = doors } ∷ []) }
 {
     let instance = small(instance)?;
     loading.finished.push(Finished { instance, doors })?;
@@ -196,7 +208,9 @@ pub fn add_open(
     doors: &mut Doors,
     request: Request,
     target: usize,
-) -> Result<(), AllocError> {
+) -> Result<(), AllocError>
+    ensures { OnOk result (doors.new.opens ≡ doors.old.opens ++ record { alias = request.alias; instance = target } ∷ []) }
+{
     let opened = Opened {
         alias: request.alias,
         instance: small(target)?,

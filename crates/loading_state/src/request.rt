@@ -1,18 +1,22 @@
 //! What an open asks for.
-#![tactic(auto, using(crate::proofs::Faults::refusal_is_quiet, crate::proofs::Faults::memory_is_quiet))]
+#![tactic(auto, using(crate::proofs::Faults::refusal_is_quiet, crate::proofs::Faults::memory_is_quiet, crate::proofs::Refusals::memory_at_some, crate::proofs::Refusals::memory_at_open, crate::proofs::Refusals::refused_some, crate::proofs::Refusals::refused_given, crate::proofs::Refusals::refused_alias))]
 
-ghost use Rattle.std.specs.Prelude.{IfErr};
+ghost use Rattle.std.specs.Prelude.{◌≡◌, ◌<◌, IfErr, IfOk, Some, length, slice_get};
+ghost use Rattle.als_tree.specs.declared.module.SigName.{SigName};
 ghost use Rattle.loading_state.specs.Causes.{IsQuietFault};
+ghost use Rattle.loading_state.specs.Opens as opens;
+ghost use Rattle.loading_state.specs.Places.{IsAtOpen, IsAtSome};
+ghost use Rattle.loading_state.specs.declared.fault.LoadFault.TheVariants.{Memory};
 
 use crate::LoadFault;
 use crate::argument::{Opener, argument};
-use crate::names::path_text;
+use crate::names::{last_part, path_text};
 use crate::refuse::refused;
 use crate::table::Enumerated;
 use alloy_base::{Name, Place, Rule};
 use als_items::Items;
-use als_tree::{ArgumentList, Open, SigRef};
-use std::alloc::{AllocError, Global};
+use als_tree::{ArgumentList, Open, SigName, SigRef};
+use std::alloc::Global;
 use std::collections::HashSet;
 
 /// What an open asks for.
@@ -34,6 +38,8 @@ pub fn written_request(
     asked: &Open,
 ) -> Result<Request, LoadFault>
     ensures quiet { IfErr result IsQuietFault }
+    ensures refused { IfErr result (IsAtOpen opener.entry.source.now.text.name asked.now) }
+    ensures asked { IfOk result (opens.AsksFor opener.entry.number (opens.written asked.now)) }
 {
     let alias = match &asked.alias {
         Some(named) => {
@@ -43,12 +49,9 @@ pub fn written_request(
             }
             Name::copy(alloc, named.name.text())?
         }
-        None => default_alias(alloc, asked.path.parts.as_slice())?,
+        None => Name::copy(alloc, last_part(asked.path.parts.as_slice()))?,
     };
-    let mut arguments = Items::new(alloc);
-    for written in asked.arguments.as_slice() {
-        arguments.push(argument(alloc, opener, written)?)?;
-    }
+    let arguments = arguments_of(alloc, opener, asked.arguments.as_slice())?;
     Ok(Request {
         place: asked.path.place,
         path: path_text(alloc, &asked.path)?,
@@ -58,29 +61,50 @@ pub fn written_request(
     })
 }
 
-/// The last part of a path.
-fn default_alias(alloc: Global, parts: &[Name]) -> Result<Name, AllocError> {
-    match parts.last() {
-        Some(part) => Name::copy(alloc, part.text()),
-        None => Name::copy(alloc, ""),
+/// What the arguments of an open stand for, in their order.
+fn arguments_of(alloc: Global, opener: Opener, names: &[SigName]) -> Result<ArgumentList, LoadFault>
+    ensures quiet { IfErr result IsQuietFault }
+    ensures refused { IfErr result (IsAtSome opener.entry.source.now.text.name names.now) }
+    ensures fits { IfOk result (opens.AreFits names.now) }
+{
+    let mut arguments = Items::new(alloc);
+    for place in 0..names.len() {
+        arguments.push(argument_at(alloc, opener, names, place)?)?;
     }
+    Ok(arguments)
+}
+
+/// What the argument of this place stands for.
+fn argument_at(
+    alloc: Global,
+    opener: Opener,
+    names: &[SigName],
+    place: usize,
+) -> Result<Option<SigRef>, LoadFault>
+    requires { place < length names.now }
+    ensures quiet { IfErr result IsQuietFault }
+    ensures refused { IfErr result (IsAtSome opener.entry.source.now.text.name names.now) }
+    ensures fits { IfOk result (λ found. (name : SigName) → slice_get names.now place ≡ Some name → opens.Fits name found) }
+{
+    argument(alloc, opener, &names[place])
 }
 
 /// What the enum of an instance asks for: the order of its members.
 pub fn implied_request(
     alloc: Global,
     instance: u32,
-    implied: Enumerated,
+    enumerated: Enumerated,
 ) -> Result<Request, LoadFault>
-    ensures quiet { IfErr result IsQuietFault }
+    ensures memory { IfErr result (λ fault. fault ≡ Memory) }
+    ensures asked { IfOk result (opens.AsksFor instance (opens.implied enumerated)) }
 {
     let mut arguments = Items::new(alloc);
     arguments.push(Some(SigRef {
         instance,
-        sig: implied.sig,
+        sig: enumerated.sig,
     }))?;
     Ok(Request {
-        place: implied.place,
+        place: enumerated.place,
         path: String::from_str(alloc, "util/ordering")?,
         alias: Name::copy(alloc, "ordering")?,
         is_private: false,

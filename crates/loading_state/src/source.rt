@@ -1,6 +1,7 @@
 //! The texts that were read.
-ghost use Rattle.std.specs.Prelude.{◌≤◌, length};
+ghost use Rattle.std.specs.Prelude.{◌≡◌, ◌≤◌, length};
 ghost use Rattle.als_tree.specs.Instances.{literals_of};
+ghost use Rattle.loading_state.specs.Opens.{enums_of};
 
 use crate::table::Table;
 use als_tree::Text;
@@ -13,4 +14,5 @@ pub struct Source {
     /// How many tokens it has.
     pub tokens: usize,
     pub ghost few: { length (literals_of text.tree) ≤ tokens },
+    pub ghost implies: { table.enums.items ≡ enums_of text.tree },
 }

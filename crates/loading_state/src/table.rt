@@ -1,4 +1,10 @@
 //! What a text says of the names of its sigs and parameters.
+#![tactic(auto, using(crate::proofs::Opens::enums_next))]
+
+ghost use Rattle.std.specs.Prelude.{◌≡◌, ◌+◌, ◌++◌, IfOk, OnOk, length, slice_get};
+ghost use Rattle.als_tree.specs.Instances.{sigs_in};
+ghost use Rattle.loading_state.specs.Opens.{enum_in, enums_of};
+
 use alloy_base::{Name, Place};
 use als_tree::{Module, Named, Paragraph, Parameter, Qualifier};
 use std::alloc::{AllocError, Global};
@@ -63,7 +69,9 @@ pub struct Table {
 
 impl Table {
     /// The table of a module.
-    pub fn new(alloc: Global, tree: &Module) -> Result<Table, AllocError> {
+    pub fn new(alloc: Global, tree: &Module) -> Result<Table, AllocError>
+        ensures { IfOk result (λ table. table.enums.items ≡ enums_of tree.now) }
+    {
         let mut table = Table {
             known: HashMap::new(alloc),
             enums: Vec::new(alloc),
@@ -84,15 +92,23 @@ impl Table {
     }
 
     /// The enums of the text, in their order.
-    pub fn enums(&self) -> &[Enumerated] {
+    pub fn enums(&self) -> &[Enumerated]
+        ensures { result.now ≡ self.now.enums.items }
+    {
         &self.enums
     }
 
-    fn add_parameters(
-        &mut self,
-        alloc: Global,
-        parameters: &[Parameter],
-    ) -> Result<(), AllocError> {
+    /// The enum of this place among them.
+    pub fn enum_at(&self, place: usize) -> Option<Enumerated>
+        ensures { result ≡ slice_get self.now.enums.items place }
+    {
+        self.enums.get(place).copied()
+    }
+
+    fn add_parameters(&mut self, alloc: Global, parameters: &[Parameter]) -> Result<(), AllocError>
+        ensures enums { self.new.enums.items ≡ self.old.enums.items }
+        ensures sigs { self.new.sigs ≡ self.old.sigs }
+    {
         for (number, parameter) in parameters.iter().enumerate() {
             let key = String::from_str(alloc, parameter.name.name.text())?;
             let known = self.known.entry(key)?.or_insert(Known::NOTHING);
@@ -101,7 +117,10 @@ impl Table {
         Ok(())
     }
 
-    fn add_paragraph(&mut self, alloc: Global, paragraph: &Paragraph) -> Result<(), AllocError> {
+    fn add_paragraph(&mut self, alloc: Global, paragraph: &Paragraph) -> Result<(), AllocError>
+        ensures enums { OnOk result (self.new.enums.items ≡ self.old.enums.items ++ enum_in self.old.sigs paragraph.now) }
+        ensures sigs { OnOk result (self.new.sigs ≡ self.old.sigs + sigs_in paragraph.now) }
+    {
         match paragraph {
             Paragraph::Sig(sig) => {
                 let is_private = sig.qualifiers.as_slice().contains(&Qualifier::Private);
@@ -124,7 +143,10 @@ impl Table {
         alloc: Global,
         names: &[Named],
         is_private: bool,
-    ) -> Result<(), AllocError> {
+    ) -> Result<(), AllocError>
+        ensures enums { self.new.enums.items ≡ self.old.enums.items }
+        ensures sigs { OnOk result (self.new.sigs ≡ self.old.sigs + length names.now) }
+    {
         for named in names {
             self.add_sig(alloc, &named.name, is_private)?;
         }
@@ -132,12 +154,16 @@ impl Table {
     }
 
     /// Adds the next sig of the text.
-    fn add_sig(&mut self, alloc: Global, name: &Name, is_private: bool) -> Result<(), AllocError> {
+    fn add_sig(&mut self, alloc: Global, name: &Name, is_private: bool) -> Result<(), AllocError>
+        ensures enums { self.new.enums.items ≡ self.old.enums.items }
+        ensures sigs { OnOk result (self.new.sigs ≡ self.old.sigs + 1) }
+    {
         let number = self.sigs;
+        let next = number.checked_add(1).ok_or(AllocError)?;
         let key = String::from_str(alloc, name.text())?;
         let known = self.known.entry(key)?.or_insert(Known::NOTHING);
         known.add_sig(number, is_private);
-        self.sigs = number.saturating_add(1);
+        self.sigs = next;
         Ok(())
     }
 }
