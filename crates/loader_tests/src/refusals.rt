@@ -172,3 +172,55 @@ fn failing_calls(rt: HostRuntime) -> Result<(), Fail> {
     assert!(rt; !is_unread(rt.alloc(), 4, "util/integer.als")?);
     Ok(())
 }
+
+/// Whether the text of the first open of a model can't be read where the second call fails.
+fn is_gone_unread(alloc: Global) -> Result<bool, AllocError> {
+    let mut libraries = one(alloc, &[("m.als", "open gone\nrun {}\n")], &[2])?;
+    match load(alloc, &mut libraries, "m.als") {
+        Err(LoadFault::Read(name)) => Ok(name.text() == "gone.als"),
+        _ => Ok(false),
+    }
+}
+
+#[test]
+fn a_failing_call_for_an_absent_text(rt: HostRuntime) -> Result<(), Fail> {
+    assert!(rt; is_gone_unread(rt.alloc())?);
+    Ok(())
+}
+
+/// Whether an opened text of one byte more than there may be is refused.
+fn is_too_large(alloc: Global) -> Result<bool, AllocError> {
+    let mut line = String::new(alloc);
+    for _ in 0..1024 {
+        line.push(' ')?;
+    }
+    let mut blanks = String::from_str(alloc, "\n")?;
+    for _ in 0..1024 {
+        blanks.push_str(line.as_str())?;
+    }
+    let files = [("m.als", "open b\n"), ("b.als", blanks.as_str())];
+    refuses(alloc, &files, Rule::LargeFile, 1, 1, "b.als")
+}
+
+#[test]
+fn a_large_text(rt: HostRuntime) -> Result<(), Fail> {
+    assert!(rt; is_too_large(rt.alloc())?);
+    Ok(())
+}
+
+#[test]
+fn the_integers_have_parameters(rt: HostRuntime) -> Result<(), Fail> {
+    let files = [
+        ("m.als", "sig A {}\n"),
+        ("util/integer.als", "module util/integer[x]\n"),
+    ];
+    assert!(rt; refuses(rt.alloc(), &files, Rule::ModuleArguments, 1, 1, "m.als")?);
+    Ok(())
+}
+
+#[test]
+fn an_enum_without_a_module_that_orders(rt: HostRuntime) -> Result<(), Fail> {
+    let files = [("m.als", "sig A {}\nenum E { F }\n")];
+    assert!(rt; refuses(rt.alloc(), &files, Rule::NoModule, 2, 6, "m.als")?);
+    Ok(())
+}

@@ -22,7 +22,7 @@ use Rattle.module_loader.specs.Reading.{IsModuleOf}
 use Rattle.module_loader.specs.Told.{IsModuleUnder, near_name, far_name, name_at, texts_in, IsFront, IsAbsent, HasText, the_root, a_text, IsFound, near, far, AreTold, AreTexts, IsAnswer, IsPathAnswer, AreAnswers, Knows, Learns, LearnsPath, Keeps, StaysDistinct, LoadsTold, LoadsGiven, LoadsTree, Follows, IsTaken}
 
 -- a text that isn't over the limit is its own front
-whole : (most : ℕ) (front full : List ℕ) → front ≡ take (most + 1) full → length front ≤ most → full ≡ front
+pub whole : (most : ℕ) (front full : List ℕ) → front ≡ take (most + 1) full → length front ≤ most → full ≡ front
 whole most front full is small =
     let count : length front ≡ min (most + 1) (length full) = ap length is ∙ length-take (most + 1) full in
     let short : length full ≤ most + 1 = omega (arith, count, small) in
@@ -38,7 +38,7 @@ pub under : (told : List Texts) (name front : List ℕ) (number : ℕ) (tree : M
 under told name front number tree is read =
     record { bytes = front; held = front_held told name front (text_of told name) is read.small; read = read }
 
-slice_get-more : {A : Type 0} (xs ys : List A) (n : ℕ) (x : A) → slice_get xs n ≡ Some x → slice_get (xs ++ ys) n ≡ Some x
+pub slice_get-more : {A : Type 0} (xs ys : List A) (n : ℕ) (x : A) → slice_get xs n ≡ Some x → slice_get (xs ++ ys) n ≡ Some x
 slice_get-more [] ys n x is = absurd (none-some x is)
 slice_get-more (a ∷ xs) ys zero x is = is
 slice_get-more (a ∷ xs) ys (suc n) x is = slice_get-more xs ys n x is
@@ -59,6 +59,10 @@ answer_in-more (a ∷ xs) ys name answer is =
       | true ↦ λ e. e
       | false ↦ λ e. answer_in-more xs ys name answer e
     ] is
+
+pub absent_held : (held : Option (List ℕ)) → None ≡ option_map (take (MODULE_BYTES + 1)) held → held ≡ None
+absent_held None is = refl
+absent_held (Some full) is = absurd (none-some (take (MODULE_BYTES + 1) full) is)
 
 module _ (told : List Texts) (root : List ℕ) where
   is_answer-more : (xs ys : List Text) (name : List ℕ) (answer : Option ℕ) → IsAnswer told root xs name answer → IsAnswer told root (xs ++ ys) name answer
@@ -99,10 +103,6 @@ module _ (told : List Texts) (root : List ℕ) where
       IsAnswer told root (texts_in loading) name answer
   known_answer first loading name answer knows is =
       subst (λ (ts : List Text). IsAnswer told root ts name answer) (sym knows.texts) (answered (first ∷ knows.more) loading.asked.items name answer knows.answers is)
-
-  absent_held : (held : Option (List ℕ)) → None ≡ option_map (take (MODULE_BYTES + 1)) held → held ≡ None
-  absent_held None is = refl
-  absent_held (Some full) is = absurd (none-some (take (MODULE_BYTES + 1) full) is)
 
   -- a name that is absent
   pub known_absent : (first : Text) (old new : Loading) (a : Asked) → Knows told root first old → answer_in old.asked.items a.name ≡ None →
@@ -202,42 +202,47 @@ unfolding Learns
 learns_again held root name loading answer is told first tells knows = (knows, known_answer told root first loading name answer knows is)
 
 -- a name that no library has
-pub learns_absent : (held : List (Option Texts)) (root name : List ℕ) (old new : Loading) (found : Option (Vec ℕ Global)) → IsFront held name found → found ≡ None → answer_in old.asked.items name ≡ None →
-    new.sources.items ≡ old.sources.items → new.asked.items ≡ old.asked.items ++ record { name = name; text = None } ∷ [] → Learns held root old new name None
+pub learns_absent : (held : List (Option Texts)) (root name : List ℕ) (old new : Loading) (found : Option (Vec ℕ Global)) (answer : Option ℕ) → IsFront held name found → found ≡ None → answer_in old.asked.items name ≡ None →
+    new.sources.items ≡ old.sources.items → new.asked.items ≡ old.asked.items ++ record { name = name; text = None } ∷ [] → answer ≡ None → Learns held root old new name answer
 unfolding Learns IsFront
-learns_absent held root name old new found front none new_name same noted told first tells knows =
+learns_absent held root name old new found answer front none new_name same noted is_none told first tells knows =
+    subst (λ (x : Option ℕ). Knows told root first new × IsAnswer told root (texts_in new) name x) (sym is_none) (
     let a : Asked = record { name = name; text = None } in
     known_absent told root first old new a knows new_name (subst (λ (f : Option (Vec ℕ Global)). option_map (λ v. v.items) f ≡ option_map (take (MODULE_BYTES + 1)) (text_of told name)) none (front told tells))
-    refl (ap (λ (ss : List Source). map (λ (s : Source). s.text) ss) same) noted
+    refl (ap (λ (ss : List Source). map (λ (s : Source). s.text) ss) same) noted)
 
 -- a name whose text was read
-pub learns_found : (held : List (Option Texts)) (root name : List ℕ) (old new : Loading) (found : Option (Vec ℕ Global)) (bytes : Vec ℕ Global) (number : ℕ) → IsFront held name found → found ≡ Some bytes →
+pub learns_found : (held : List (Option Texts)) (root name : List ℕ) (old new : Loading) (found : Option (Vec ℕ Global)) (bytes : Vec ℕ Global) (number : ℕ) (answer : Option ℕ) → IsFront held name found → found ≡ Some bytes →
     answer_in old.asked.items name ≡ None → IsTried root name → number ≡ length old.sources.items → IsTaken bytes.items name number (texts_in old) (texts_in new) →
-    new.asked.items ≡ old.asked.items ++ record { name = name; text = Some number } ∷ [] → Learns held root old new name (Some number)
+    new.asked.items ≡ old.asked.items ++ record { name = name; text = Some number } ∷ [] → answer ≡ Some number → Learns held root old new name answer
 unfolding Learns IsFront
-learns_found held root name old new found bytes number front some new_name tried last taken noted told first tells knows =
+learns_found held root name old new found bytes number answer front some new_name tried last taken noted is_some told first tells knows =
+    subst (λ (x : Option ℕ). Knows told root first new × IsAnswer told root (texts_in new) name x) (sym is_some) (
     let a : Asked = record { name = name; text = Some number } in
     known_found told root first old new a bytes.items number knows
     (subst (λ (f : Option (Vec ℕ Global)). option_map (λ v. v.items) f ≡ option_map (take (MODULE_BYTES + 1)) (text_of told name)) some (front told tells))
-    tried refl (last ∙ sym (length-map old.sources.items (λ (s : Source). s.text))) taken noted
+    tried refl (last ∙ sym (length-map old.sources.items (λ (s : Source). s.text))) taken noted)
 
 -- a path whose first name is found
-pub path_near : (held : List (Option Texts)) (root path name : List ℕ) (old new : Loading) (n : ℕ) → Learns held root old new name (Some n) → name ≡ near_name root path → LearnsPath held root old new path (Some n)
+pub path_near : (held : List (Option Texts)) (root path name : List ℕ) (old new : Loading) (n : ℕ) (answer : Option ℕ) → Learns held root old new name answer → answer ≡ Some n → name ≡ near_name root path → LearnsPath held root old new path (Some n)
 unfolding Learns LearnsPath
-path_near held root path name old new n learns is told first tells knows =
-    let got = learns told first tells knows in
+path_near held root path name old new n answer learns some is told first tells knows =
+    let got : Knows told root first new × IsAnswer told root (texts_in new) name (Some n) =
+    subst (λ (x : Option ℕ). Knows told root first new × IsAnswer told root (texts_in new) name x) some (learns told first tells knows) in
     (got.0, (name, got.1, near (knows_has told root first new n name got.0 got.1) is))
 
 -- a path whose first name is absent
-pub path_far : (held between : List (Option Texts)) (root path name other : List ℕ) (old mid new : Loading) (answer : Option ℕ) → Learns held root old mid name None → Learns between root mid new other answer →
+pub path_far : (held between : List (Option Texts)) (root path name other : List ℕ) (old mid new : Loading) (answer before : Option ℕ) → Learns held root old mid name before → before ≡ None → Learns between root mid new other answer →
     between ≡ held → name ≡ near_name root path → other ≡ far_name path → LearnsPath held root old new path answer
 unfolding Learns LearnsPath
-path_far held between root path name other old mid new None one two same is is_other told first tells knows =
-    let got = one told first tells knows in
+path_far held between root path name other old mid new None before one none two same is is_other told first tells knows =
+    let got : Knows told root first mid × IsAnswer told root (texts_in mid) name None =
+    subst (λ (x : Option ℕ). Knows told root first mid × IsAnswer told root (texts_in mid) name x) none (one told first tells knows) in
     let then = two told first (same ∙ tells) got.0 in
     (then.0, (subst (IsAbsent told root) is got.1, subst (IsAbsent told root) is_other then.1))
-path_far held between root path name other old mid new (Some n) one two same is is_other told first tells knows =
-    let got = one told first tells knows in
+path_far held between root path name other old mid new (Some n) before one none two same is is_other told first tells knows =
+    let got : Knows told root first mid × IsAnswer told root (texts_in mid) name None =
+    subst (λ (x : Option ℕ). Knows told root first mid × IsAnswer told root (texts_in mid) name x) none (one told first tells knows) in
     let then = two told first (same ∙ tells) got.0 in
     (then.0, (other, then.1, far (subst (IsAbsent told root) is got.1) (knows_has told root first new n other then.0 then.1) is_other))
 
@@ -291,14 +296,14 @@ follows held root old new texts keeps are told first tells knows =
     let known = keeps told first tells knows in
     subst (λ (ts : List Text). AreTexts told root (λ m. m ≡ first.tree) ts) (sym (are ∙ known.texts)) (known.named, refl, known.others)
 
-abbrev asked_once : List ℕ → ℕ → List Asked
+abbrev pub asked_once : List ℕ → ℕ → List Asked
 asked_once root number = record { name = root; text = Some number } ∷ []
 
 own_answer : (root : List ℕ) → answer_in (asked_once root 0) root ≡ Some (Some 0)
 own_answer root = ap (λ (t : Bool). cond t (Some (Some 0)) None) ((bytes_eq-Decides root root).1 refl)
 
 -- what is known at the beginning
-begun : (told : List Texts) (root : List ℕ) (first : Text) (loading : Loading) → texts_in loading ≡ first ∷ [] → first.name ≡ root → loading.asked.items ≡ record { name = root; text = Some 0 } ∷ [] → Knows told root first loading
+pub begun : (told : List Texts) (root : List ℕ) (first : Text) (loading : Loading) → texts_in loading ≡ first ∷ [] → first.name ≡ root → loading.asked.items ≡ record { name = root; text = Some 0 } ∷ [] → Knows told root first loading
 begun told root first loading texts named asked =
     let a : Asked = record { name = root; text = Some 0 } in
     let answer : IsAnswer told root (first ∷ []) a.name a.text = ap (λ (n : List ℕ). Some n) named in record {

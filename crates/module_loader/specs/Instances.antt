@@ -16,6 +16,8 @@ use Rattle.als_tree.specs.declared.module.Qualifier.TheVariants as qualifier
 use Rattle.als_tree.specs.declared.module.SigName.{SigName}
 use Rattle.als_tree.specs.declared.module.SigName.TheVariants as sig_name
 use Rattle.loading_state.specs.Names.{path_bytes}
+use Rattle.loading_state.specs.Opens.{Opening, written, implied, openings_of, alias_of, is_hidden}
+use Rattle.loading_state.specs.declared.table.Enumerated.{Enumerated}
 use Rattle.module_loader.specs.Told.{IsModuleUnder, IsFound}
 
 -- an instance is the name of its text with its arguments, each a sig of an instance, by its number among the sigs of the text, or `Int`
@@ -52,51 +54,6 @@ header_names (Some h) = map (λ p. p.name.name) h.parameters
 abbrev pub parameters_of : Module → List (List ℕ)
 parameters_of m = header_names m.header
 
--- what an open asks for: its path, its alias, whether it is private, and its arguments
-pub data Asked : Type 0 where
-  written : Open → Asked
-  implied : Place → (sig : ℕ) → Asked
-
-abbrev enum_at : ℕ → Paragraph → List Asked
-enum_at n (paragraph.Enum e) = implied e.name.place n ∷ []
-enum_at n _ = []
-
--- what the enums of paragraphs imply, whose sigs are numbered from this number on
-abbrev implied_from : ℕ → List Paragraph → List Asked
-implied_from n [] = []
-implied_from n (p ∷ ps) = enum_at n p ++ implied_from (n + length (sigs_in p)) ps
-
--- the opens of a text: those that are written, then those that its enums imply
-abbrev pub asked_of : Module → List Asked
-asked_of m = map written m.opens ++ implied_from 0 m.paragraphs
-
-abbrev pub path_of : Asked → List ℕ
-path_of (written o) = path_bytes o.path
-path_of (implied place sig) = codes "util/ordering"
-
-abbrev last_of : List (List ℕ) → List ℕ
-last_of [] = []
-last_of (part ∷ []) = part
-last_of (part ∷ next ∷ parts) = last_of (next ∷ parts)
-
-abbrev alias_or : Option Named → List ℕ → List ℕ
-alias_or None default = default
-alias_or (Some alias) default = alias.name
-
--- the alias of an open: the one that is written, or the last part of its path
-abbrev pub alias_of : Asked → List ℕ
-alias_of (written o) = alias_or o.alias (last_of o.path.parts)
-alias_of (implied place sig) = codes "ordering"
-
-abbrev pub is_public : Asked → Bool
-is_public (written o) = not o.is_private
-is_public (implied place sig) = true
-
--- the place of what is wrong with an open: that of its path, or of the enum
-abbrev pub place_of : Asked → Place
-place_of (written o) = o.path.place
-place_of (implied place sig) = place
-
 -- what an argument stands for: a sig of an instance, or `Int`
 abbrev pub Argument : Type 0
 Argument = Option (Given × ℕ)
@@ -127,8 +84,8 @@ module _ (told : List Texts) (root : List ℕ) (tree : Module) where
     a_text : (text : List ℕ) (arguments : Arguments) (number : ℕ) (m : Module) → text ≢ root → IsModuleUnder told text number m → HasTree (given text arguments) m
 
   -- the open of this number of an instance is this one
-  pub data Asks : Given → ℕ → Asked → Type 0 where
-    asks : (i : Given) (m : Module) (k : ℕ) (asked : Asked) → HasTree i m → slice_get (asked_of m) k ≡ Some asked → Asks i k asked
+  pub data Asks : Given → ℕ → Opening → Type 0 where
+    asks : (i : Given) (m : Module) (k : ℕ) (asked : Opening) → HasTree i m → slice_get (openings_of m) k ≡ Some asked → Asks i k asked
 
   -- a sig of the instance has this number and name; it may be private or not
   pub data HasSig : Given → ℕ → List ℕ → Bool → Type 0 where
@@ -145,8 +102,8 @@ module _ (told : List Texts) (root : List ℕ) (tree : Module) where
     pub data Leads : Given → ℕ → Given → Type 0 where
       written_open : (i : Given) (k : ℕ) (o : Open) (text : List ℕ) (arguments : Arguments) → Asks i k (written o) → IsFound told root (path_bytes o.path) text →
           AreGiven i k o.arguments arguments → Leads i k (given text arguments)
-      implied_open : (i : Given) (k : ℕ) (place : Place) (sig : ℕ) (text : List ℕ) → Asks i k (implied place sig) → IsFound told root (codes "util/ordering") text →
-          Leads i k (given text (sig_and i sig nothing))
+      implied_open : (i : Given) (k : ℕ) (e : Enumerated) (text : List ℕ) → Asks i k (implied e) → IsFound told root (codes "util/ordering") text →
+          Leads i k (given text (sig_and i e.sig nothing))
 
     -- what the arguments of the open of this number stand for
     pub data AreGiven : Given → ℕ → List SigName → Arguments → Type 0 where
@@ -164,19 +121,19 @@ module _ (told : List Texts) (root : List ℕ) (tree : Module) where
           slice_get (parameters_of m) number ≡ Some part → Names i k name (a_parameter number)
       reached : (i : Given) (k earlier : ℕ) (j l : Given) (name : QualName) (part : List ℕ) (sig : ℕ) → name.is_own ≡ false → name.parts ≡ part ∷ [] →
           earlier < k → Leads i earlier j → Reaches j l → HasSig l sig part false → Names i k name (a_sig l sig)
-      through : (i : Given) (k earlier : ℕ) (j l : Given) (name : QualName) (asked : Asked) (rest : List (List ℕ)) (sig : ℕ) (part : List ℕ) →
+      through : (i : Given) (k earlier : ℕ) (j l : Given) (name : QualName) (asked : Opening) (rest : List (List ℕ)) (sig : ℕ) (part : List ℕ) →
           name.parts ≡ alias_of asked ∷ rest → earlier < k → Asks i earlier asked → Leads i earlier j → Follows j rest l part → HasSig l sig part false →
           Names i k name (a_sig l sig)
 
     -- by opens that aren't private one instance reaches another
     pub data Reaches : Given → Given → Type 0 where
       itself : (i : Given) → Reaches i i
-      further : (i j l : Given) (k : ℕ) (asked : Asked) → Asks i k asked → is_public asked ≡ true → Leads i k j → Reaches j l → Reaches i l
+      further : (i j l : Given) (k : ℕ) (asked : Opening) → Asks i k asked → is_hidden asked ≡ false → Leads i k j → Reaches j l → Reaches i l
 
     -- aliases of opens that aren't private lead on to an instance, and the last part is left
     pub data Follows : Given → List (List ℕ) → Given → List ℕ → Type 0 where
       the_last : (i : Given) (part : List ℕ) → Follows i (part ∷ []) i part
-      an_alias : (i j l : Given) (k : ℕ) (asked : Asked) (rest : List (List ℕ)) (part : List ℕ) → Asks i k asked → is_public asked ≡ true → Leads i k j →
+      an_alias : (i j l : Given) (k : ℕ) (asked : Opening) (rest : List (List ℕ)) (part : List ℕ) → Asks i k asked → is_hidden asked ≡ false → Leads i k j →
           Follows j rest l part → Follows i (alias_of asked ∷ rest) l part
 
   -- the instances of the root

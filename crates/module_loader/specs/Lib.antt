@@ -1,4 +1,6 @@
 pub mod Instances
+pub mod Led
 pub mod Order
 pub mod Reading
+pub mod Refused
 pub mod Told

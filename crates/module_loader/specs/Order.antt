@@ -20,9 +20,10 @@ use Rattle.als_tree.specs.declared.module.Open.{Open}
 use Rattle.als_tree.specs.declared.module.SigName.TheVariants as sig_name
 use Rattle.als_tree.specs.declared.token.Token.{Token}
 use Rattle.als_tree.specs.declared.token.TokenKind.{TokenKind}
+use Rattle.loading_state.specs.Opens.{Opening, written, implied, alias_of, path_of, place_of}
 use Rattle.loading_state.specs.Refusals.{start_of, refusal_at}
 use Rattle.module_loader.specs.Told.{near_name, far_name, IsAbsent, IsFound, IsModuleUnder}
-use Rattle.module_loader.specs.Instances.{Given, given, Arguments, nothing, sig_and, Asked, written, implied, alias_of, path_of, place_of, Candidate, text_of_given, HasTree, Asks, Leads, Names, parameters_of}
+use Rattle.module_loader.specs.Instances.{Given, given, Arguments, nothing, sig_and, Candidate, text_of_given, HasTree, Asks, Leads, Names, parameters_of}
 
 abbrev pub Point : Type 0
 Point = List ℕ
@@ -50,9 +51,9 @@ pub data BreaksText (bytes : List ℕ) (number : ℕ) : Refusal → Type 0 where
       Begins TREE_DEPTH (take n (kinds tokens)) → BeginsSome (take (suc n) (kinds tokens)) → (Begins TREE_DEPTH (take (suc n) (kinds tokens)) → ⊥) →
       BreaksText bytes number (refusal_at rule.TooDeep t.place)
 
-abbrev pub argument_count : Asked → ℕ
+abbrev pub argument_count : Opening → ℕ
 argument_count (written o) = length o.arguments
-argument_count (implied place sig) = 1
+argument_count (implied e) = 1
 
 -- the aliases of a way, with a slash between two
 abbrev pub slashed_to : List ℕ → List ℕ → List ℕ
@@ -77,7 +78,7 @@ module _ (told : List Texts) (root : List ℕ) (tree : Module) where
   -- after its own, and what is behind it the number 9. The open of the integers comes after all that the root reaches.
   pub data StandsAt : Point → Given → List ℕ → Type 0 where
     at_root : StandsAt (1 ∷ []) (given root nothing) []
-    behind : (p : Point) (i j : Given) (way : List ℕ) (k : ℕ) (asked : Asked) → StandsAt p i way → Asks told root tree i k asked → Leads told root tree i k j →
+    behind : (p : Point) (i j : Given) (way : List ℕ) (k : ℕ) (asked : Opening) → StandsAt p i way → Asks told root tree i k asked → Leads told root tree i k j →
         StandsAt (p ++ k ∷ 9 ∷ []) j (slashed_to way (alias_of asked))
     at_integers : (text : List ℕ) → IsFound told root (codes "util/integer") text → StandsAt (2 ∷ 9 ∷ []) (given text nothing) (codes "integer")
 
@@ -108,17 +109,17 @@ module _ (told : List Texts) (root : List ℕ) (tree : Module) where
         IsBroken (p ++ k ∷ 0 ∷ []) (refusal_at rule.AliasTwice a.place) (text_of_given i)
     argument : (p : Point) (i : Given) (way : List ℕ) (k n : ℕ) (o : Open) (name : QualName) → StandsAt p i way → Asks told root tree i k (written o) →
         slice_get o.arguments n ≡ Some (sig_name.Name name) → (NamesOne i k name → ⊥) → IsBroken (p ++ k ∷ 1 ∷ n ∷ []) (refusal_at rule.ModuleArguments name.place) (text_of_given i)
-    cycle : (p : Point) (i : Given) (way text : List ℕ) (k : ℕ) (asked : Asked) → StandsAt p i way → Asks told root tree i k asked → IsFound told root (path_of asked) text →
+    cycle : (p : Point) (i : Given) (way text : List ℕ) (k : ℕ) (asked : Opening) → StandsAt p i way → Asks told root tree i k asked → IsFound told root (path_of asked) text →
         IsOnChain p text → IsBroken (p ++ k ∷ 2 ∷ []) (refusal_at rule.ModuleCycle (place_of asked)) (text_of_given i)
-    no_module : (p : Point) (i : Given) (way : List ℕ) (k : ℕ) (asked : Asked) → StandsAt p i way → Asks told root tree i k asked →
+    no_module : (p : Point) (i : Given) (way : List ℕ) (k : ℕ) (asked : Opening) → StandsAt p i way → Asks told root tree i k asked →
         IsAbsent told root (near_name root (path_of asked)) → IsAbsent told root (far_name (path_of asked)) →
         IsBroken (p ++ k ∷ 3 ∷ []) (refusal_at rule.NoModule (place_of asked)) (text_of_given i)
-    text_breaks : (p : Point) (i : Given) (way text bytes : List ℕ) (k number : ℕ) (asked : Asked) (r : Refusal) → StandsAt p i way → Asks told root tree i k asked →
+    text_breaks : (p : Point) (i : Given) (way text bytes : List ℕ) (k number : ℕ) (asked : Opening) (r : Refusal) → StandsAt p i way → Asks told root tree i k asked →
         IsFound told root (path_of asked) text → text ≢ root → text_of told text ≡ Some bytes → BreaksText bytes number r → IsBroken (p ++ k ∷ 4 ∷ []) r text
-    arguments : (p : Point) (i : Given) (way text : List ℕ) (k : ℕ) (asked : Asked) (m : Module) → StandsAt p i way → Asks told root tree i k asked →
+    arguments : (p : Point) (i : Given) (way text : List ℕ) (k : ℕ) (asked : Opening) (m : Module) → StandsAt p i way → Asks told root tree i k asked →
         IsFound told root (path_of asked) text → HasTree told root tree (given text nothing) m → argument_count asked ≢ parameter_count m →
         IsBroken (p ++ k ∷ 7 ∷ []) (refusal_at rule.ModuleArguments (place_of asked)) (text_of_given i)
-    too_many : (p : Point) (i j : Given) (way : List ℕ) (k : ℕ) (asked : Asked) (others : List Given) → StandsAt p i way → Asks told root tree i k asked →
+    too_many : (p : Point) (i j : Given) (way : List ℕ) (k : ℕ) (asked : Opening) (others : List Given) → StandsAt p i way → Asks told root tree i k asked →
         Leads told root tree i k j → AllPairs (λ a b. a ≢ b) others → MODULE_INSTANCES ≤ length others →
         ((n : ℕ) (l : Given) → slice_get others n ≡ Some l → (l ≢ j) × (q : Point) × (w : List ℕ) × StandsAt q l w × (q ≢ 2 ∷ 9 ∷ []) × Before q (p ++ k ∷ 8 ∷ [])) →
         IsBroken (p ++ k ∷ 8 ∷ []) (refusal_at rule.TooManyModules (place_of asked)) (text_of_given i)

@@ -113,6 +113,11 @@ LoadsGiven held root bytes texts = (told : List Texts) → held ≡ map Some tol
 unfoldable pub LoadsTree : List (Option Texts) → List ℕ → Module → List Text → Type 0
 LoadsTree held root tree texts = (told : List Texts) → held ≡ map Some told → AreTexts told root (λ m. m ≡ tree) texts
 
+-- texts are only put behind the others
+pub record IsGrown (old new : List Text) : Type 0 where
+  pub more : List Text
+  pub added : new ≡ old ++ more
+
 -- a text was put behind the others
 pub record IsTaken (bytes name : List ℕ) (number : ℕ) (old new : List Text) : Type 0 where
   pub text : Text

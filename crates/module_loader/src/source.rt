@@ -1,5 +1,5 @@
 //! A text is cut into tokens and parsed.
-#![tactic(auto, using(loading_state::proofs::Faults::refusal_is_quiet, loading_state::proofs::Faults::memory_is_quiet))]
+#![tactic(auto, using(loading_state::proofs::Faults::refusal_is_quiet, loading_state::proofs::Faults::memory_is_quiet, crate::proofs::Broken::uncut_quiet, crate::proofs::Broken::uncut_refused, crate::proofs::Broken::uncut_memory, crate::proofs::Broken::token_refused))]
 
 ghost use Rattle.std.specs.Prelude.{◌≡◌, ◌<◌, ◌≤◌, ◌^◌, length, IfOk, IfErr, IsTrue, Ok};
 ghost use Rattle.als_tree.specs.Instances.{literals_of};
@@ -10,6 +10,10 @@ ghost use Rattle.als_tree.specs.Spelling.{kinds, EndsWell};
 ghost use Rattle.loading_state.specs.Causes.{IsQuietFault};
 ghost use Rattle.loading_state.specs.Refusals.{is_of_loading};
 ghost use Rattle.module_loader.specs.Reading.{IsModuleOf};
+ghost use Rattle.module_loader.specs.Refused.{IsOfText, IsAtToken, IsUncut};
+ghost use Rattle.placed_parser.specs.Refuses.{is_of_grammar};
+ghost use Rattle.tree_places.specs.ModulePieces.{module_pieces};
+ghost use Rattle.tree_places.specs.Pieces.{at_places};
 ghost use Rattle.alloy_base.specs.declared.limits.TheConstants.{TREE_DEPTH};
 
 use alloy_base::limits::MODULE_BYTES;
@@ -22,11 +26,12 @@ use placed_parser::parse_module;
 use std::alloc::{AllocError, Global};
 
 /// Reads a text, which is the one of this number in the order of loading.
-#[tactic(auto, using(crate::proofs::Reading::module_of, loading_state::proofs::Faults::refusal_is_quiet, loading_state::proofs::Faults::memory_is_quiet))]
+#[tactic(auto, using(crate::proofs::Broken::large_refused, crate::proofs::Broken::text_uncut, crate::proofs::Broken::text_token, crate::proofs::Broken::text_memory, crate::proofs::Reading::module_of, loading_state::proofs::Faults::refusal_is_quiet, loading_state::proofs::Faults::memory_is_quiet))]
 pub fn read_text(alloc: Global, number: u32, name: &str, bytes: &[u8]) -> Result<Source, LoadFault>
     ensures quiet { IfErr result IsQuietFault }
     ensures named { IfOk result (λ source. source.text.name ≡ name.now) }
     ensures read { IfOk result (λ source. IsModuleOf bytes.now number source.text.tree) }
+    ensures refused { IfErr result (IsOfText bytes.now number name.now) }
 {
     if bytes.len() > MODULE_BYTES {
         return Err(refused(alloc, Rule::LargeFile, start_of(number), name));
@@ -63,24 +68,27 @@ fn tokens_of(alloc: Global, number: u32, name: &str, bytes: &[u8]) -> Result<Vec
     requires { length bytes.now < 2 ^ 31 }
     ensures ends { IfOk result (λ tokens. EndsWell tokens.items) }
     ensures cut { IfOk result (λ tokens. lexer.tokens_of number bytes.now ≡ Ok tokens.items) }
+    ensures refused { IfErr result (IsUncut bytes.now number name.now) }
     ensures quiet { IfErr result IsQuietFault }
 {
     match lex(alloc, number, bytes) {
         Ok(tokens) => Ok(tokens),
         Err(LexFault::Refused(refusal)) => {
-            Err(refused(alloc, rule_of_bytes(refusal.rule), refusal.place, name))
+            Err(refused(alloc, refusal.rule, refusal.place, name))
         }
         Err(LexFault::Memory) => Err(LoadFault::Memory),
     }
 }
 
 /// The tree of a text.
-#[tactic(auto, using(loading_state::proofs::Heavy::few_literals, loading_state::proofs::Faults::refusal_is_quiet, loading_state::proofs::Faults::memory_is_quiet))]
+#[tactic(auto, using(loading_state::proofs::Heavy::few_literals, crate::proofs::Broken::token_memory, crate::proofs::Broken::token_refused, loading_state::proofs::Faults::refusal_is_quiet, loading_state::proofs::Faults::memory_is_quiet))]
 fn tree_of(alloc: Global, name: &str, tokens: &[Token]) -> Result<Module, LoadFault>
     requires { EndsWell tokens.now }
     ensures few { IfOk result (λ tree. length (literals_of tree) ≤ length tokens.now) }
     ensures spells { IfOk result (λ tree. kinds tokens.now ≡ module_words tree) }
     ensures right { IfOk result (λ tree. IsTrue (module_right TREE_DEPTH tree)) }
+    ensures placed { IfOk result (λ tree. IsTrue (at_places (module_pieces tree) tokens.now)) }
+    ensures refused { IfErr result (IsAtToken tokens.now name.now) }
     ensures quiet { IfErr result IsQuietFault }
 {
     match parse_module(alloc, tokens) {
@@ -92,19 +100,10 @@ fn tree_of(alloc: Global, name: &str, tokens: &[Token]) -> Result<Module, LoadFa
     }
 }
 
-/// The rule that a byte breaks: one of the three that bytes can break.
-fn rule_of_bytes(rule: Rule) -> Rule
-    ensures { IsTrue (is_of_loading result) }
-{
-    match rule {
-        Rule::OpenComment | Rule::LongNumber => rule,
-        _ => Rule::BadByte,
-    }
-}
-
 /// The rule that a token breaks: one of the two that tokens can break.
 fn rule_of_tokens(rule: Rule) -> Rule
-    ensures { IsTrue (is_of_loading result) }
+    ensures loads { IsTrue (is_of_loading result) }
+    ensures grammar { IsTrue (is_of_grammar result) }
 {
     match rule {
         Rule::TooDeep => rule,
