@@ -56,7 +56,8 @@ fn said_of_text(alloc: Global, text: &[u8]) -> Said
     }
 }
 
-fn said(alloc: Global, text: &[u8]) -> Said {
+/// What is said of a text of any length.
+fn what_is_said(alloc: Global, text: &[u8]) -> Said {
     if text.len() > MODULE_BYTES {
         let place = Place {
             module: 0,
@@ -93,7 +94,7 @@ fn text_of(rt: &(impl Files + AllocGlobal), name: &str) -> Result<Vec<u8>> {
 fn main(rt: HostRuntime) -> Result<()> {
     for name in env::args(&rt)?.skip(1) {
         let text = text_of(&rt, name.as_str())?;
-        report(&rt, name.as_str(), said(rt.alloc(), &text))?;
+        report(&rt, name.as_str(), what_is_said(rt.alloc(), &text))?;
     }
     Ok(())
 }

@@ -25,6 +25,7 @@ use std::time::CpuClock;
 use target_search::table_store;
 
 /// What is measured of an analysis.
+#[derive(Drop)]
 struct Measured {
     /// When each stage ended, in milliseconds of processor time.
     ends: [u64; 6],
