@@ -54,7 +54,7 @@ fn searched(alloc: Global, cnf: &Cnf) -> Result<(&'static str, usize), AllocErro
 }
 
 /// Goes through the stages behind the preparation.
-fn measured(
+fn run_stages(
     rt: &(impl CpuClock + AllocGlobal),
     target: &Target,
     bounds: &Bounds,
@@ -125,7 +125,7 @@ fn measure(rt: &HostRuntime, kind: &str, root: &str, command: u32) -> Result<u8>
     let Ok(prepared) = prepare_loaded(rt.alloc(), loaded, command) else {
         return Ok(3);
     };
-    let Some(measured) = measured(rt, &prepared.target, &prepared.bounds, begun, read)? else {
+    let Some(measured) = run_stages(rt, &prepared.target, &prepared.bounds, begun, read)? else {
         return Ok(5);
     };
     if kind == "sizes" {
