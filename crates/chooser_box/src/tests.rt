@@ -51,11 +51,18 @@ fn activity_picks_each_free_variable_again_after_undoing(rt: HostRuntime) -> Res
 fn weights_stay_in_range(rt: HostRuntime) -> Result<(), Fail> {
     let mut chooser = Activity::new(rt.alloc());
     chooser.start(2)?;
-    for _ in 0..100 {
+    // All these bumps together count about 19 of the latest, however often the weights are scaled down.
+    for _ in 0..2000 {
         chooser.bump(1);
         chooser.decay();
     }
-    chooser.bump(2);
+    for _ in 0..18 {
+        chooser.bump(2);
+    }
+    assert_eq!(rt; chooser.pick(&[0, 0]), 1);
+    for _ in 0..2 {
+        chooser.bump(2);
+    }
     assert_eq!(rt; chooser.pick(&[0, 0]), 2);
     Ok(())
 }
