@@ -5,4 +5,5 @@ pub mod Names
 pub mod Opens
 pub mod Places
 pub mod Refusals
+pub mod Sigs
 pub mod Weights

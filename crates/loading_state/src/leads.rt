@@ -1,9 +1,10 @@
 //! Whether the opens of a model lead where they should.
-#![tactic(auto, using(crate::proofs::Led::near_answered, crate::proofs::Led::far_answered, crate::proofs::Led::leads_to, crate::proofs::Led::written_led, crate::proofs::Led::implied_led, crate::proofs::Led::ends_here, crate::proofs::Led::ends_after, crate::proofs::Led::integers_led, crate::proofs::Led::same_bytes, crate::proofs::Led::instance_led, crate::proofs::Opens::openings_counted))]
+#![tactic(auto, using(crate::proofs::Led::near_answered, crate::proofs::Led::far_answered, crate::proofs::Led::leads_to, crate::proofs::Led::written_led, crate::proofs::Led::implied_led, crate::proofs::Led::ends_here, crate::proofs::Led::ends_after, crate::proofs::Led::integers_led, crate::proofs::Led::same_bytes, crate::proofs::Led::declared_by, crate::proofs::Led::text_of_source, crate::proofs::Led::sig_stands, crate::proofs::Led::parameter_stands, crate::proofs::Led::given_by, crate::proofs::Led::parameter_here, crate::proofs::Led::instance_led, crate::proofs::Opens::openings_counted))]
 
 ghost use Rattle.std.specs.Prelude.{◌≡◌, ◌∷◌, [], true, IfOk, IfSome, length, slice_get, Some};
 ghost use Rattle.loading_state.specs.Keys.{texts_of};
-ghost use Rattle.loading_state.specs.Leads.{IsAnswered, LeadsTo, IsLed, IsEnd, IsOfIntegers, AreLed, IsInstanceLed, AllLed};
+ghost use Rattle.loading_state.specs.Leads.{IsAnswered, LeadsTo, IsLed, IsEnd, IsOfIntegers, IsDeclared, IsGiven, StandsFor, IsArgument, AreArguments, AreLed, IsInstanceLed, AllLed};
+ghost use Rattle.loading_state.specs.Sigs.{header_names};
 ghost use Rattle.loading_state.specs.Opens as asks;
 
 use crate::count::plus;
@@ -12,7 +13,8 @@ use crate::names::{file_name, folder_of, last_part, path_text};
 use crate::refuse::small;
 use crate::source::Source;
 use crate::table::Enumerated;
-use als_tree::{Instance, Open, Opened, SigName, SigRef};
+use alloy_base::Name;
+use als_tree::{Header, Instance, Open, Opened, Parameter, QualName, SigName, SigRef};
 use std::alloc::{AllocError, Global};
 
 /// Whether this is the text of a path, by what was answered for its two names.
@@ -79,25 +81,183 @@ fn is_alias(opened: &Opened, alias: &str) -> bool
     opened.alias.text() == alias
 }
 
-/// Whether an argument fits what is written.
-fn is_fit(name: &SigName, argument: Option<SigRef>) -> bool
-    ensures { result ≡ true → asks.Fits name.now argument }
+/// Whether a text's sig of this number has this name, and may be seen where it is sought.
+fn is_declared(source: &Source, number: u32, name: &str, harmless: bool) -> bool
+    ensures { result ≡ true → IsDeclared source.now.text.tree number name.now (harmless ≡ true) }
 {
-    match name {
-        SigName::Int(_) => argument.is_none(),
-        SigName::Name(_) => true,
+    match source.table.sig_at(number) {
+        Some(declared) => declared.name.text() == name && (harmless || !declared.is_private),
+        None => false,
     }
 }
 
-/// Whether arguments fit what is written.
-fn are_fit(names: &[SigName], arguments: &[Option<SigRef>]) -> bool
-    ensures { result ≡ true → asks.AreFits names.now arguments.now }
+/// The text of an instance.
+fn source_at<'a>(sources: &'a [Source], instance: &Instance) -> Option<&'a Source>
+    ensures { IfSome result (λ source. slice_get (texts_of sources.now) instance.now.text ≡ Some source.now.text) }
+{
+    sources.get(instance.text as usize)
+}
+
+/// The instance of this number.
+fn instance_at<'a>(instances: &'a [Instance], number: u32) -> Option<&'a Instance>
+    ensures { IfSome result (λ instance. slice_get instances.now number ≡ Some instance.now) }
+{
+    instances.get(number as usize)
+}
+
+fn is_same(a: u32, b: u32) -> bool
+    ensures { result ≡ true → a ≡ b }
+{
+    a == b
+}
+
+/// Whether an argument is a sig of this name, which is one of the instance of this number or isn't private.
+fn is_sig_named(
+    sources: &[Source],
+    instances: &[Instance],
+    number: u32,
+    written: &QualName,
+    argument: Option<SigRef>,
+) -> bool
+    ensures { result ≡ true → StandsFor instances.now (texts_of sources.now) number written.now argument }
+{
+    let name = last_part(written.parts.as_slice());
+    match argument {
+        Some(sig) => match instance_at(instances, sig.instance) {
+            Some(instance) => match source_at(sources, instance) {
+                Some(source) => {
+                    let is_own = is_same(sig.instance, number);
+                    is_declared(source, sig.sig, name, is_own)
+                }
+                None => false,
+            },
+            None => false,
+        },
+        None => false,
+    }
+}
+
+/// The parameter of this place.
+fn parameter_at<'a>(header: &'a Header, place: usize) -> Option<&'a Parameter>
+    ensures { IfSome result (λ parameter. slice_get header.now.parameters place ≡ Some parameter.now) }
+{
+    header.parameters.as_slice().get(place)
+}
+
+/// Whether a parameter has this name.
+fn is_parameter_named(parameter: &Parameter, name: &Name) -> bool
+    ensures { result ≡ true → parameter.now.name.name ≡ name.now }
+{
+    parameter.name.name.text() == name.text()
+}
+
+/// Whether the parameter of this place has this name.
+fn has_parameter(header: &Option<Header>, place: usize, name: &Name) -> bool
+    ensures { result ≡ true → slice_get (header_names header.now) place ≡ Some name.now }
+{
+    match header {
+        Some(header) => match parameter_at(header, place) {
+            Some(parameter) => is_parameter_named(parameter, name),
+            None => false,
+        },
+        None => false,
+    }
+}
+
+/// Whether the argument of this place is this one.
+fn has_argument(arguments: &[Option<SigRef>], place: usize, argument: Option<SigRef>) -> bool
+    ensures { result ≡ true → slice_get arguments.now place ≡ Some argument }
+{
+    match arguments.get(place) {
+        Some(given) => *given == argument,
+        None => false,
+    }
+}
+
+/// Whether an instance of a text has this argument for its parameter of this name.
+fn is_given(
+    source: &Source,
+    arguments: &[Option<SigRef>],
+    name: &Name,
+    argument: Option<SigRef>,
+) -> bool
+    ensures { result ≡ true → IsGiven source.now.text.tree arguments.now name.now argument }
+{
+    match source.table.known(name.text()) {
+        Some(known) => {
+            has_parameter(&source.text.tree.header, known.parameter, name)
+                && has_argument(arguments, known.parameter, argument)
+        }
+        None => false,
+    }
+}
+
+/// The one part of a name, where it has one alone.
+fn only_part<'a>(parts: &'a [Name]) -> Option<&'a Name>
+    ensures { IfSome result (λ part. parts.now ≡ part.now ∷ []) }
+{
+    match parts {
+        [part] => Some(part),
+        _ => None,
+    }
+}
+
+/// Whether a name is that of a parameter for which the instance of this number was given this argument.
+fn is_parameter(
+    sources: &[Source],
+    instances: &[Instance],
+    number: u32,
+    written: &QualName,
+    argument: Option<SigRef>,
+) -> bool
+    ensures { result ≡ true → StandsFor instances.now (texts_of sources.now) number written.now argument }
+{
+    match only_part(written.parts.as_slice()) {
+        Some(part) => match instance_at(instances, number) {
+            Some(own) => match source_at(sources, own) {
+                Some(source) => is_given(source, own.arguments.as_slice(), part, argument),
+                None => false,
+            },
+            None => false,
+        },
+        None => false,
+    }
+}
+
+/// Whether an argument is what is written in an open of the instance of this number.
+fn is_argument(
+    sources: &[Source],
+    instances: &[Instance],
+    number: u32,
+    written: &SigName,
+    argument: Option<SigRef>,
+) -> bool
+    ensures { result ≡ true → IsArgument instances.now (texts_of sources.now) number written.now argument }
+{
+    match written {
+        SigName::Int(_) => argument.is_none(),
+        SigName::Name(name) => {
+            is_sig_named(sources, instances, number, name, argument)
+                || is_parameter(sources, instances, number, name, argument)
+        }
+    }
+}
+
+/// Whether arguments are those that are written.
+fn are_arguments(
+    sources: &[Source],
+    instances: &[Instance],
+    number: u32,
+    names: &[SigName],
+    arguments: &[Option<SigRef>],
+) -> bool
+    ensures { result ≡ true → AreArguments instances.now (texts_of sources.now) number names.now arguments.now }
 {
     if names.len() != arguments.len() {
         return false;
     }
     for place in 0..names.len() {
-        if !is_fit(&names[place], arguments[place]) {
+        if !is_argument(sources, instances, number, &names[place], arguments[place]) {
             return false;
         }
     }
@@ -119,12 +279,13 @@ fn is_written_led(
     alloc: Global,
     asked: &[Asked],
     root: &str,
+    sources: &[Source],
     instances: &[Instance],
     number: u32,
     written: &Open,
     opened: &Opened,
 ) -> Result<bool, AllocError>
-    ensures { IfOk result (λ is. is ≡ true → IsLed (IsAnswered asked.now root.now) instances.now number (asks.written written.now) opened.now) }
+    ensures { IfOk result (λ is. is ≡ true → IsLed (IsAnswered asked.now root.now) instances.now (texts_of sources.now) number (asks.written written.now) opened.now) }
 {
     let path = path_text(alloc, &written.path)?;
     match target_of(
@@ -136,7 +297,13 @@ fn is_written_led(
         alias_of(written),
         path.as_str(),
     )? {
-        Some(target) => Ok(are_fit(written.arguments.as_slice(), target.arguments.as_slice())),
+        Some(target) => Ok(are_arguments(
+            sources,
+            instances,
+            number,
+            written.arguments.as_slice(),
+            target.arguments.as_slice(),
+        )),
         None => Ok(false),
     }
 }
@@ -146,12 +313,13 @@ fn is_implied_led(
     alloc: Global,
     asked: &[Asked],
     root: &str,
+    sources: &[Source],
     instances: &[Instance],
     number: u32,
     enumerated: Enumerated,
     opened: &Opened,
 ) -> Result<bool, AllocError>
-    ensures { IfOk result (λ is. is ≡ true → IsLed (IsAnswered asked.now root.now) instances.now number (asks.implied enumerated) opened.now) }
+    ensures { IfOk result (λ is. is ≡ true → IsLed (IsAnswered asked.now root.now) instances.now (texts_of sources.now) number (asks.implied enumerated) opened.now) }
 {
     match target_of(
         alloc,
@@ -182,13 +350,14 @@ fn is_led(
     alloc: Global,
     asked: &[Asked],
     root: &str,
+    sources: &[Source],
     instances: &[Instance],
     number: u32,
     source: &Source,
     place: usize,
     opened: &Opened,
 ) -> Result<bool, AllocError>
-    ensures { IfOk result (λ is. is ≡ true → (o : asks.Opening) → slice_get (asks.openings_of source.now.text.tree) place ≡ Some o → IsLed (IsAnswered asked.now root.now) instances.now number o opened.now) }
+    ensures { IfOk result (λ is. is ≡ true → (o : asks.Opening) → slice_get (asks.openings_of source.now.text.tree) place ≡ Some o → IsLed (IsAnswered asked.now root.now) instances.now (texts_of sources.now) number o opened.now) }
 {
     let written = source.text.tree.opens.as_slice();
     if place < written.len() {
@@ -196,6 +365,7 @@ fn is_led(
             alloc,
             asked,
             root,
+            sources,
             instances,
             number,
             &written[place],
@@ -203,7 +373,9 @@ fn is_led(
         );
     }
     match source.table.enums().get(place - written.len()) {
-        Some(implied) => is_implied_led(alloc, asked, root, instances, number, *implied, opened),
+        Some(implied) => is_implied_led(
+            alloc, asked, root, sources, instances, number, *implied, opened,
+        ),
         None => Ok(false),
     }
 }
@@ -266,12 +438,13 @@ fn are_led(
     alloc: Global,
     asked: &[Asked],
     root: &str,
+    sources: &[Source],
     instances: &[Instance],
     number: u32,
     source: &Source,
     opens: &[Opened],
 ) -> Result<bool, AllocError>
-    ensures { IfOk result (λ is. is ≡ true → AreLed (IsAnswered asked.now root.now) instances.now number source.now.text.tree opens.now) }
+    ensures { IfOk result (λ is. is ≡ true → AreLed (IsAnswered asked.now root.now) instances.now (texts_of sources.now) number source.now.text.tree opens.now) }
 {
     let count = opening_count(source)?;
     if opens.len() < count {
@@ -286,6 +459,7 @@ fn are_led(
             alloc,
             asked,
             root,
+            sources,
             instances,
             number,
             source,
@@ -314,7 +488,9 @@ fn is_instance_led(
     match sources.get(instance.text as usize) {
         Some(source) => {
             let opens = instance.opens.as_slice();
-            let led = are_led(alloc, asked, root, instances, number, source, opens)?;
+            let led = are_led(
+                alloc, asked, root, sources, instances, number, source, opens,
+            )?;
             Ok(led)
         }
         None => Ok(false),

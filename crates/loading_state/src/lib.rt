@@ -34,4 +34,4 @@ pub use reach::{InstanceSet, Reach};
 pub use refuse::{refused, small, start_of, unread};
 pub use request::Request;
 pub use source::Source;
-pub use table::{Enumerated, Known, Table};
+pub use table::{DeclaredSig, Enumerated, Known, Table};

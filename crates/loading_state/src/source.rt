@@ -2,6 +2,7 @@
 ghost use Rattle.std.specs.Prelude.{◌≡◌, ◌≤◌, length};
 ghost use Rattle.als_tree.specs.Instances.{literals_of};
 ghost use Rattle.loading_state.specs.Opens.{enums_of};
+ghost use Rattle.loading_state.specs.Sigs.{sigs_of};
 
 use crate::table::Table;
 use als_tree::Text;
@@ -15,4 +16,5 @@ pub struct Source {
     pub tokens: usize,
     pub ghost few: { length (literals_of text.tree) ≤ tokens },
     pub ghost implies: { table.enums.items ≡ enums_of text.tree },
+    pub ghost declares: { table.declared.items ≡ sigs_of text.tree },
 }

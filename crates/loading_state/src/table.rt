@@ -1,9 +1,11 @@
 //! What a text says of the names of its sigs and parameters.
 #![tactic(auto, using(crate::proofs::Opens::enums_next))]
 
-ghost use Rattle.std.specs.Prelude.{◌≡◌, ◌+◌, ◌++◌, IfOk, OnOk, length, slice_get};
+ghost use Rattle.std.specs.Prelude.{◌≡◌, ◌+◌, ◌++◌, ◌∷◌, [], IfOk, IfSome, OnOk, Some, length, map, slice_get};
+ghost use Rattle.std.specs.List.{list_any};
 ghost use Rattle.als_tree.specs.Instances.{sigs_in};
 ghost use Rattle.loading_state.specs.Opens.{enum_in, enums_of};
+ghost use Rattle.loading_state.specs.Sigs as declares;
 
 use alloy_base::{Name, Place};
 use als_tree::{Module, Named, Paragraph, Parameter, Qualifier};
@@ -59,22 +61,32 @@ pub struct Enumerated {
     pub sig: u32,
 }
 
-/// The names of the sigs and parameters of a text, and its enums.
+/// A sig that a text declares.
+#[derive(Drop)]
+pub struct DeclaredSig {
+    pub name: Name,
+    pub is_private: bool,
+}
+
+/// The names of the sigs and parameters of a text, its sigs and its enums.
 #[derive(Drop)]
 pub struct Table {
     known: HashMap<String, Known>,
     enums: Vec<Enumerated>,
+    declared: Vec<DeclaredSig>,
     sigs: u32,
 }
 
 impl Table {
     /// The table of a module.
     pub fn new(alloc: Global, tree: &Module) -> Result<Table, AllocError>
-        ensures { IfOk result (λ table. table.enums.items ≡ enums_of tree.now) }
+        ensures enums { IfOk result (λ table. table.enums.items ≡ enums_of tree.now) }
+        ensures declared { IfOk result (λ table. table.declared.items ≡ declares.sigs_of tree.now) }
     {
         let mut table = Table {
             known: HashMap::new(alloc),
             enums: Vec::new(alloc),
+            declared: Vec::new(alloc),
             sigs: 0,
         };
         if let Some(header) = &tree.header {
@@ -105,8 +117,16 @@ impl Table {
         self.enums.get(place).copied()
     }
 
+    /// The sig of this number.
+    pub fn sig_at(&self, number: u32) -> Option<&DeclaredSig>
+        ensures { IfSome result (λ sig. slice_get self.now.declared.items number ≡ Some sig.now) }
+    {
+        self.declared.get(number as usize)
+    }
+
     fn add_parameters(&mut self, alloc: Global, parameters: &[Parameter]) -> Result<(), AllocError>
         ensures enums { self.new.enums.items ≡ self.old.enums.items }
+        ensures declared { self.new.declared.items ≡ self.old.declared.items }
         ensures sigs { self.new.sigs ≡ self.old.sigs }
     {
         for (number, parameter) in parameters.iter().enumerate() {
@@ -119,11 +139,12 @@ impl Table {
 
     fn add_paragraph(&mut self, alloc: Global, paragraph: &Paragraph) -> Result<(), AllocError>
         ensures enums { OnOk result (self.new.enums.items ≡ self.old.enums.items ++ enum_in self.old.sigs paragraph.now) }
+        ensures declared { OnOk result (self.new.declared.items ≡ self.old.declared.items ++ declares.declared_in paragraph.now) }
         ensures sigs { OnOk result (self.new.sigs ≡ self.old.sigs + sigs_in paragraph.now) }
     {
         match paragraph {
             Paragraph::Sig(sig) => {
-                let is_private = sig.qualifiers.as_slice().contains(&Qualifier::Private);
+                let is_private = has_private(sig.qualifiers.as_slice());
                 self.add_sigs(alloc, sig.names.as_slice(), is_private)
             }
             Paragraph::Enum(e) => {
@@ -131,7 +152,7 @@ impl Table {
                     place: e.name.place,
                     sig: self.sigs,
                 })?;
-                self.add_sig(alloc, &e.name.name, false)?;
+                self.add_sig(alloc, &e.name, false)?;
                 self.add_sigs(alloc, e.members.as_slice(), false)
             }
             _ => Ok(()),
@@ -145,25 +166,42 @@ impl Table {
         is_private: bool,
     ) -> Result<(), AllocError>
         ensures enums { self.new.enums.items ≡ self.old.enums.items }
+        ensures declared { OnOk result (self.new.declared.items ≡ self.old.declared.items ++ map (declares.declared_as is_private) names.now) }
         ensures sigs { OnOk result (self.new.sigs ≡ self.old.sigs + length names.now) }
     {
         for named in names {
-            self.add_sig(alloc, &named.name, is_private)?;
+            self.add_sig(alloc, named, is_private)?;
         }
         Ok(())
     }
 
     /// Adds the next sig of the text.
-    fn add_sig(&mut self, alloc: Global, name: &Name, is_private: bool) -> Result<(), AllocError>
+    fn add_sig(&mut self, alloc: Global, named: &Named, is_private: bool) -> Result<(), AllocError>
         ensures enums { self.new.enums.items ≡ self.old.enums.items }
+        ensures declared { OnOk result (self.new.declared.items ≡ self.old.declared.items ++ declares.declared_as is_private named.now ∷ []) }
         ensures sigs { OnOk result (self.new.sigs ≡ self.old.sigs + 1) }
     {
         let number = self.sigs;
         let next = number.checked_add(1).ok_or(AllocError)?;
-        let key = String::from_str(alloc, name.text())?;
+        let key = String::from_str(alloc, named.name.text())?;
         let known = self.known.entry(key)?.or_insert(Known::NOTHING);
         known.add_sig(number, is_private);
+        let name = Name::copy(alloc, named.name.text())?;
+        self.declared.push(DeclaredSig { name, is_private })?;
         self.sigs = next;
         Ok(())
     }
+}
+
+/// Whether one of these is `private`.
+fn has_private(qualifiers: &[Qualifier]) -> bool
+    ensures { result ≡ list_any declares.is_private qualifiers.now }
+{
+    qualifiers.iter().any(|q| is_private(q))
+}
+
+fn is_private(qualifier: &Qualifier) -> bool
+    ensures { result ≡ declares.is_private qualifier.now }
+{
+    matches!(qualifier, Qualifier::Private)
 }

@@ -1,22 +1,17 @@
 -- The instances of a root: the least set of texts with arguments that holds the root without arguments and is closed under opens,
 -- those that enums imply and that of the integers among them. Nothing here says in which order they are found.
-use Rattle.std.specs.Prelude.{◌≡◌, ◌≢◌, ℕ, zero, suc, ◌+◌, ◌<◌, Bool, true, false, not, List, [], ◌∷◌, ◌++◌, map, length, slice_get, Option, Some, None, codes}
-use Rattle.std.specs.List.{flat_map, list_any}
+use Rattle.std.specs.Prelude.{◌≡◌, ◌≢◌, ℕ, zero, suc, ◌+◌, ◌<◌, Bool, false, List, [], ◌∷◌, length, slice_get, Option, Some, None, codes}
 use Rattle.alloy_base.specs.Texts.{Texts}
 use Rattle.alloy_base.specs.declared.place.Place.{Place}
-use Rattle.als_tree.specs.declared.expr.Named.{Named}
 use Rattle.als_tree.specs.declared.expr.QualName.{QualName}
-use Rattle.als_tree.specs.declared.module.Header.{Header}
 use Rattle.als_tree.specs.declared.module.Module.{Module}
 use Rattle.als_tree.specs.declared.module.Open.{Open}
-use Rattle.als_tree.specs.declared.module.Paragraph.{Paragraph}
-use Rattle.als_tree.specs.declared.module.Paragraph.TheVariants as paragraph
-use Rattle.als_tree.specs.declared.module.Qualifier.{Qualifier}
-use Rattle.als_tree.specs.declared.module.Qualifier.TheVariants as qualifier
 use Rattle.als_tree.specs.declared.module.SigName.{SigName}
 use Rattle.als_tree.specs.declared.module.SigName.TheVariants as sig_name
 use Rattle.loading_state.specs.Names.{path_bytes}
 use Rattle.loading_state.specs.Opens.{Opening, written, implied, openings_of, alias_of, is_hidden}
+use Rattle.loading_state.specs.Sigs.{sigs_of, parameters_of}
+use Rattle.loading_state.specs.declared.table.DeclaredSig.{DeclaredSig}
 use Rattle.loading_state.specs.declared.table.Enumerated.{Enumerated}
 use Rattle.module_loader.specs.Told.{IsModuleUnder, IsFound}
 
@@ -29,30 +24,6 @@ mutual
     nothing : Arguments
     int_and : Arguments → Arguments
     sig_and : Given → (sig : ℕ) → Arguments → Arguments
-
--- a name of a sig, and whether the sig is private
-abbrev Declared : Type 0
-Declared = List ℕ × Bool
-
-abbrev is_private : Qualifier → Bool
-is_private qualifier.Private = true
-is_private _ = false
-
-abbrev sigs_in : Paragraph → List Declared
-sigs_in (paragraph.Sig g) = map (λ n. (n.name, list_any is_private g.qualifiers)) g.names
-sigs_in (paragraph.Enum e) = (e.name.name, false) ∷ map (λ n. (n.name, false)) e.members
-sigs_in _ = []
-
--- the sigs of a text in their order, an enum before its members
-abbrev pub sigs_of : Module → List Declared
-sigs_of m = flat_map sigs_in m.paragraphs
-
-abbrev header_names : Option Header → List (List ℕ)
-header_names None = []
-header_names (Some h) = map (λ p. p.name.name) h.parameters
-
-abbrev pub parameters_of : Module → List (List ℕ)
-parameters_of m = header_names m.header
 
 -- what an argument stands for: a sig of an instance, or `Int`
 abbrev pub Argument : Type 0
@@ -89,7 +60,7 @@ module _ (told : List Texts) (root : List ℕ) (tree : Module) where
 
   -- a sig of the instance has this number and name; it may be private or not
   pub data HasSig : Given → ℕ → List ℕ → Bool → Type 0 where
-    has_sig : (i : Given) (m : Module) (sig : ℕ) (name : List ℕ) (hidden : Bool) → HasTree i m → slice_get (sigs_of m) sig ≡ Some (name, hidden) → HasSig i sig name hidden
+    has_sig : (i : Given) (m : Module) (sig : ℕ) (name : List ℕ) (hidden : Bool) → HasTree i m → slice_get (sigs_of m) sig ≡ Some (record { name = name; is_private = hidden }) → HasSig i sig name hidden
 
   -- what a candidate stands for in an instance
   pub data StandsFor : Given → Candidate → Argument → Type 0 where

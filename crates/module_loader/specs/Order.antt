@@ -23,7 +23,7 @@ use Rattle.als_tree.specs.declared.token.TokenKind.{TokenKind}
 use Rattle.loading_state.specs.Opens.{Opening, written, implied, alias_of, path_of, place_of}
 use Rattle.loading_state.specs.Refusals.{start_of, refusal_at}
 use Rattle.module_loader.specs.Told.{near_name, far_name, IsAbsent, IsFound, IsModuleUnder}
-use Rattle.module_loader.specs.Instances.{Given, given, Arguments, nothing, sig_and, Candidate, text_of_given, HasTree, Asks, Leads, Names, parameters_of}
+use Rattle.module_loader.specs.Instances.{Given, given, Arguments, nothing, sig_and, Candidate, text_of_given, HasTree, Asks, Leads, Names}
 
 abbrev pub Point : Type 0
 Point = List ℕ

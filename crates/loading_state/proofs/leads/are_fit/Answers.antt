@@ -1,8 +1,0 @@
-use Rattle.std.proofs.Common.{arith}
-use Rattle.std.proofs.lemmas.Option.{slice_get_within}
-use Rattle.loading_state.proofs.Led.{fits_each}
-use Rattle.loading_state.proofs.leads.are_fit.Goals as goal
-
-pub returns : goal.returns
-returns c = λ _.
-    fits_each c.args.names.now c.args.arguments.now (omega arith) (λ k n a here there. c.loop-place.invariant k n a (omega (arith, slice_get_within c.args.names.now k n here)) here there)
