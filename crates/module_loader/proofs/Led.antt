@@ -26,16 +26,16 @@ module _ (P Q : List ℕ → ℕ → Type 0) (on : (path : List ℕ) (n : ℕ) �
   end_as count opens (no_more same) = no_more same
   end_as count opens (integers opened same here is) = integers opened same here (integers_as opened is)
 
-  are_as : (number : ℕ) (tree : Module) (opens : List Opened) → AreLed P instances number tree opens → AreLed Q instances number tree opens
-  are_as number tree opens are = record {
+  are_as : (texts : List Text) (number : ℕ) (tree : Module) (opens : List Opened) → AreLed P instances texts number tree opens → AreLed Q instances texts number tree opens
+  are_as texts number tree opens are = record {
     led = λ k o here.
         let is = are.led k o here in
-        (is.0, is.1, record { target = is.2.target; leads = leads_as _ _ is.0 is.2.target is.2.leads; fits = is.2.fits });
+        (is.0, is.1, record { target = is.2.target; leads = leads_as _ _ is.0 is.2.target is.2.leads; given = is.2.given });
     ends = end_as _ opens are.ends;
   }
 
   all_as : (texts : List Text) → AllLed P instances texts → AllLed Q instances texts
-  all_as texts all number i here t at = are_as number t.tree i.opens (all number i here t at)
+  all_as texts all number i here t at = are_as texts number t.tree i.opens (all number i here t at)
 
 -- what was answered is what is found
 answered : (told : List Texts) (root : List ℕ) (first : Text) (loading : Loading) → Knows told root first loading → (path : List ℕ) (n : ℕ) → IsAnswered loading.asked.items root path n →
