@@ -11,12 +11,13 @@ pub mod order;
 pub mod places;
 pub mod rows;
 pub mod shortening;
+pub mod sums;
 pub mod table;
 pub mod tops;
 pub mod uppers;
 
 pub use decoding::decode;
-pub use laws::lassos_unroll;
+pub use laws::{lassos_unroll, one_lasso_is_decoded, rows_rise};
 pub use numbering::layout;
 pub use places::{Cells, Layout};
 pub use shortening::shortest;

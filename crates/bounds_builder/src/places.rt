@@ -1,5 +1,7 @@
 // Which variable says that a tuple is in a relation at a state.
 
+ghost use Rattle.std.specs.Prelude.{◌≡◌, ◌<◌, ◌^◌};
+
 /// Where the variables of a relation stand.
 #[derive(Clone, Copy, Debug, PartialEq, Eq)]
 pub struct Cells {
@@ -25,8 +27,12 @@ pub struct Layout {
 }
 
 impl Cells {
-    /// The variable of the first tuple at a state.
-    pub fn at(&self, state: u32) -> u64 {
+    ghost use Rattle.bounds_builder.specs.Table.{cell_at};
+
+    /// The variable of the first tuple at a state, or the greatest number where it would be greater.
+    pub fn at(&self, state: u32) -> u64
+        ensures exact { cell_at self.now state < 2 ^ 64 → result ≡ cell_at self.now state }
+    {
         if state == 0 {
             return self.first;
         }

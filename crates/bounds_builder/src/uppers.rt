@@ -1,6 +1,10 @@
 // The upper bounds of the relations of a model.
 
-ghost use Rattle.std.specs.Prelude.{◌≡◌, ◌<◌, ◌≤◌, IfOk, length};
+ghost use Rattle.std.specs.Prelude.{◌≡◌, ◌<◌, ◌≤◌, ◌+◌, ℕ, map, IfOk, length, slice_get, slice_index, Some};
+ghost use Rattle.bounds_builder.specs.declared.table.Bound.{Bound};
+ghost use Rattle.bounds_builder.specs.declared.uppers.Sketch.{Sketch};
+ghost use Rattle.bounds_builder.specs.Table.{IsTable, is_fixed, are_fixed};
+ghost use Rattle.bounds_builder.specs.Order.{order_of};
 
 use crate::kinds::{field_kinds, sig_kinds};
 use crate::numbers::{Span, Spans, spans_of};
@@ -73,57 +77,65 @@ fn atom_behind(spans: &Spans, parent: u32, number: u32) -> Span {
     }
 }
 
+/// Whether a relation is the same in all states.
+fn stays(is_var: bool) -> bool
+    ensures { result ≡ is_fixed is_var }
+{
+    !is_var
+}
+
 /// The sketches of the sigs and then of the fields.
-fn sketches(alloc: Global, model: &Model, spans: &Spans) -> Result<Vec<Sketch>, AllocError> {
+#[tactic(auto, using(crate::proofs::Sizes::map_more, crate::proofs::Sizes::map_end, crate::proofs::Ranks::joined_end))]
+fn sketches(alloc: Global, model: &Model, spans: &Spans) -> Result<Vec<Sketch>, AllocError>
+    ensures { IfOk result (λ v. map (λ (s : Sketch). s.fixed) v.items ≡ are_fixed model.now) }
+{
     let sigs = model.sigs.as_slice();
+    let fields = model.fields.as_slice();
     let ups = tops(alloc, sigs)?;
     let mut all = Vec::new(alloc);
     let mut number = 0u32;
     for sig in sigs {
-        all.push(sig_sketch(alloc, sigs, &ups, spans, number)?)?;
+        all.push(sig_sketch(alloc, sigs, sig, &ups, spans, number)?)?;
         if number == u32::MAX {
             return Err(AllocError);
         }
         number += 1;
     }
-    for field in model.fields.as_slice() {
+    for field in fields {
         all.push(field_sketch(alloc, &ups, field)?)?;
     }
     Ok(all)
 }
 
-/// The sketch of a sig.
+/// The sketch of a sig, which has this number.
 fn sig_sketch(
     alloc: Global,
     sigs: &[Sig],
+    sig: &Sig,
     ups: &[u32],
     spans: &Spans,
     number: u32,
-) -> Result<Sketch, AllocError> {
+) -> Result<Sketch, AllocError>
+    ensures { IfOk result (λ s. s.fixed ≡ is_fixed sig.now.is_var) }
+{
     let rows = sig_kinds(alloc, sigs, ups, number)?;
-    match sigs.get(number as usize) {
-        None => Ok(Sketch {
-            arity: 1,
-            rows,
-            atom: None,
-            fixed: true,
-        }),
-        Some(sig) => Ok(Sketch {
-            arity: 1,
-            rows,
-            atom: literal_atom(spans, sig, number),
-            fixed: !sig.is_var,
-        }),
-    }
+    Ok(Sketch {
+        arity: 1,
+        rows,
+        atom: literal_atom(spans, sig, number),
+        fixed: stays(sig.is_var),
+    })
 }
 
 /// The sketch of a field.
-fn field_sketch(alloc: Global, ups: &[u32], field: &Field) -> Result<Sketch, AllocError> {
+fn field_sketch(alloc: Global, ups: &[u32], field: &Field) -> Result<Sketch, AllocError>
+    ensures { IfOk result (λ s. s.fixed ≡ is_fixed field.now.is_var) }
+{
     Ok(Sketch {
         arity: columns_of(field.columns),
         rows: field_kinds(alloc, ups, field)?,
         atom: None,
-        fixed: !field.is_var,
+        fixed: stays(field.is_var),
     })
 }
 
@@ -161,26 +173,69 @@ fn upper_of(alloc: Global, spans: &Spans, sketch: &Sketch) -> Result<TupleSet, A
     }
 }
 
+/// The place of a relation in the order.
+fn order_at(places: &[u64], relation: usize) -> u64
+    requires { relation < length places.now }
+    ensures { result ≡ slice_index places.now relation }
+{
+    places[relation]
+}
+
 /// The bounds of the relations, in order.
+#[tactic(auto, using(crate::proofs::Sizes::map_more, crate::proofs::Sizes::map_end, crate::proofs::Tables::take_next))]
 fn bound_list(
     alloc: Global,
     spans: &Spans,
     all: &[Sketch],
     places: &[u64],
-) -> Result<BoundList, AllocError> {
+) -> Result<BoundList, AllocError>
+    requires { length places.now ≡ length all.now }
+    ensures orders { IfOk result (λ l. map (λ (b : Bound). b.order) l ≡ places.now) }
+    ensures fixed { IfOk result (λ l. map (λ (b : Bound). b.fixed) l ≡ map (λ (s : Sketch). s.fixed) all.now) }
+{
     let mut list = BoundList::new(alloc);
     for (relation, sketch) in all.iter().enumerate() {
-        let order = match places.get(relation) {
-            Some(order) => *order,
-            None => 0,
-        };
         list.push(Bound {
             upper: upper_of(alloc, spans, sketch)?,
             fixed: sketch.fixed,
-            order,
+            order: order_at(places, relation),
         })?;
     }
     Ok(list)
+}
+
+/// How many states a lasso has: one at least.
+fn states_of(states: u32) -> u32
+    ensures some { 0 < result }
+    ensures same { 0 < states → result ≡ states }
+{
+    if states == 0 {
+        return 1;
+    }
+    states
+}
+
+/// The bounds of all relations of a model.
+#[tactic(auto, using(crate::proofs::Tables::fixed_count))]
+fn table_of(
+    alloc: Global,
+    model: &Model,
+    spans: &Spans,
+    all: &[Sketch],
+    states: u32,
+) -> Result<Bounds, AllocError>
+    requires fixed { map (λ (s : Sketch). s.fixed) all.now ≡ are_fixed model.now }
+    requires some { 0 < states }
+    ensures table { IfOk result IsTable }
+    ensures order { IfOk result (λ b. (r : ℕ) (c : Bound) → slice_get b.relations r ≡ Some c → c.order ≡ order_of model.now r) }
+    ensures fixed { IfOk result (λ b. map (λ (c : Bound). c.fixed) b.relations ≡ are_fixed model.now) }
+    ensures states { IfOk result (λ b. b.states ≡ states) }
+{
+    let count = model.sigs.len();
+    let fields = model.fields.as_slice();
+    let places = orders(alloc, count as u64, fields)?;
+    let relations = bound_list(alloc, spans, all, &places)?;
+    Ok(Bounds { relations, states })
 }
 
 /// The upper bounds that the types give, with `var` sigs counted as their nearest ancestor that
@@ -191,17 +246,20 @@ pub fn bounds(
     model: &Model,
     scopes: &Scopes,
     keyword: Place,
-) -> Result<Bounds, BoundsFault> {
+) -> Result<Bounds, BoundsFault>
+    ensures table { IfOk result IsTable }
+    ensures order { IfOk result (λ b. (r : ℕ) (c : Bound) → slice_get b.relations r ≡ Some c → c.order ≡ order_of model.now r) }
+    ensures fixed { IfOk result (λ b. map (λ (c : Bound). c.fixed) b.relations ≡ are_fixed model.now) }
+    ensures states { IfOk result (λ b. 0 < scopes.now.states → b.states ≡ scopes.now.states) }
+{
     let spans = spans_of(alloc, scopes)?;
     let all = sketches(alloc, model, &spans)?;
-    let states = if scopes.states == 0 { 1 } else { scopes.states };
+    let states = states_of(scopes.states);
     if cells(&spans, &all, states) > MOST_CELLS {
         return Err(BoundsFault::Refused(Refusal {
             rule: Rule::Cells,
             place: keyword,
         }));
     }
-    let places = orders(alloc, model.sigs.len() as u64, model.fields.as_slice())?;
-    let relations = bound_list(alloc, &spans, &all, &places)?;
-    Ok(Bounds { relations, states })
+    Ok(table_of(alloc, model, &spans, &all, states)?)
 }
