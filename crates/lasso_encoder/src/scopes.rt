@@ -180,6 +180,24 @@ fn keeps_number<G: Gates>(
     int_circuits::at_most(alloc, gates, nodes.as_slice(), number)
 }
 
+/// Where the variables of a relation stand.
+#[tactic(auto, using(std::proofs::lemmas::Option::slice_get_read))]
+fn cells_of(cells: &[Cells], relation: usize) -> Cells
+    requires { relation < length cells.now }
+    ensures { slice_get cells.now relation ≡ Some result }
+{
+    cells[relation]
+}
+
+/// The scope of a sig.
+#[tactic(auto, using(std::proofs::lemmas::Option::slice_get_read))]
+fn scope_of(numbers: &[SigScope], sig: usize) -> SigScope
+    requires { sig < length numbers.now }
+    ensures { slice_get numbers.now sig ≡ Some result }
+{
+    numbers[sig]
+}
+
 /// Whether a sig keeps this number. Its error is want of memory, that the sig has no bound, or that its
 /// bound has more columns than one.
 fn number_kept<G: Gates>(
@@ -207,8 +225,8 @@ fn number_kept<G: Gates>(
         return Err(AllocError);
     }
     let count = bound.upper.len();
-    let kept = &cells[sig];
-    let nodes = sig_nodes(alloc, gates, *kept, bound.fixed, count, bounds.states)?;
+    let kept = cells_of(cells, sig);
+    let nodes = sig_nodes(alloc, gates, kept, bound.fixed, count, bounds.states)?;
     let node = keeps_number(alloc, gates, &nodes, number, exact)?;
     Ok(node)
 }
@@ -258,8 +276,8 @@ pub fn keeps_numbers<G: Gates>(
     let mut all = gates.constant(true);
     let numbers = scopes.numbers.as_slice();
     for sig in 0..numbers.len() {
-        let scope = &numbers[sig];
-        let kept = sig_keeps(alloc, gates, bounds, layout, sig, *scope)?;
+        let scope = scope_of(numbers, sig);
+        let kept = sig_keeps(alloc, gates, bounds, layout, sig, scope)?;
         all = gates.and(all, kept)?;
     }
     Ok(all)

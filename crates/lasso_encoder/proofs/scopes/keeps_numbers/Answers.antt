@@ -1,5 +1,4 @@
-use Rattle.std.proofs.Common.{◌≡◌, ◌∙◌, ◌&&◌, ◌+◌, ℕ, Bool, true, length, refl, sym, ap, arith}
-use Rattle.std.proofs.lemmas.Option.{slice_get_read}
+use Rattle.std.proofs.Common.{◌≡◌, ◌∙◌, ◌&&◌, ◌+◌, ℕ, Bool, true, sym, ap, arith}
 use Rattle.gate_trait.specs.Kept.{keeps_refl, keeps_trans}
 use Rattle.lasso_encoder.proofs.ScopeLaws.{numbers_more}
 use Rattle.lasso_encoder.proofs.scopes.keeps_numbers.Goals as goal
@@ -27,8 +26,8 @@ loop-sig-preserved g c =
     let all = c.loop-sig.all in
     let kept = c.in_ok-kept.kept in
     let numbers = c.as_slice-numbers.result.now in
-    let scope = c.index-numbers-sig.result in
-    let at = slice_get_read numbers (length numbers) c.loop-sig.sig scope refl c.loop-sig-test.true c.index-numbers-sig.is in
+    let scope = c.scope_of-scope.result in
+    let at = c.scope_of-scope.ensures in
     record {
       keeps = keeps_trans belongs value first middle later (keeps_trans belongs value first now middle before.keeps c.sig_keeps.ensures.keeps) c.and.ensures.keeps;
       there = s.there;
