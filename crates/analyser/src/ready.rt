@@ -1,7 +1,8 @@
 // A model made ready for a search.
 
-ghost use Rattle.std.specs.Prelude.{◌≡◌, IfErr};
+ghost use Rattle.std.specs.Prelude.{◌≡◌, IfOk, IfErr};
 ghost use Rattle.analyser.specs.Found.{IsLoadedFault};
+ghost use Rattle.model_test.specs.Kept.{IsModelButTypes};
 
 use crate::fault::{AnalyseFault, of_loading, refused_in};
 use crate::settings::{Root, Settings};
@@ -10,6 +11,7 @@ use als_tree::Loaded;
 use bounds_builder::{Bounds, BoundsFault, bounds};
 use core_meaning::{Scopes, Target};
 use core_tree::Model;
+use model_test::keeps_model;
 use module_loader::{load, load_text};
 use relation_params::open_params;
 use scope_rules::{ScopeFault, scopes};
@@ -62,6 +64,15 @@ fn model_of(alloc: Global, loaded: &Loaded) -> Result<Model, AnalyseFault>
     }
 }
 
+/// The model, where it keeps what resolved models keep. The fields that stand for relation parameters
+/// take nothing of that away; it is tested once more on the model itself.
+fn kept(alloc: Global, model: Model) -> Result<Model, AllocError>
+    ensures { IfOk result IsModelButTypes }
+{
+    let is_kept = keeps_model(alloc, &model)?;
+    if is_kept { Ok(model) } else { Err(AllocError) }
+}
+
 /// The scopes of a command of the model.
 fn scopes_of(
     alloc: Global,
@@ -107,7 +118,8 @@ fn labels_of(alloc: Global, model: &Model, scopes: &Scopes) -> Result<Labels, Al
     make_labels(alloc, model, scopes)
 }
 
-/// Loads, resolves and bounds a model and writes its formulas in the kernel of the language.
+/// Loads, resolves and bounds a model and writes its formulas in the kernel of the language. The model
+/// keeps what resolved models keep, but for the rows of its fields' types, of which no clause speaks.
 ///
 /// A refusal is the first broken rule: of loading, then on names, sigs, fields and readings, then of the command and its
 /// scopes, with the name of the text that has its place.
@@ -117,6 +129,7 @@ pub fn prepare<L: Libraries>(
     settings: &Settings,
 ) -> Result<Prepared, AnalyseFault>
     ensures keeps { L.told libraries.new ≡ L.told libraries.old }
+    ensures kept { IfOk result (λ prepared. IsModelButTypes prepared.model) }
 {
     let loaded = load_root(alloc, libraries, &settings.root)?;
     prepare_loaded(alloc, loaded, settings.command)
@@ -124,10 +137,11 @@ pub fn prepare<L: Libraries>(
 
 /// The same for a model that is loaded.
 pub fn prepare_loaded(alloc: Global, loaded: Loaded, command: u32) -> Result<Prepared, AnalyseFault>
-    ensures { IfErr result IsLoadedFault }
+    ensures kept { IfOk result (λ prepared. IsModelButTypes prepared.model) }
+    ensures fault { IfErr result IsLoadedFault }
 {
     let resolved = model_of(alloc, &loaded)?;
-    let model = open_params(alloc, resolved, command)?;
+    let model = kept(alloc, open_params(alloc, resolved, command)?)?;
     let scopes = scopes_of(alloc, &loaded, &model, command)?;
     if command as usize >= model.commands.len() {
         // The scopes are refused then.

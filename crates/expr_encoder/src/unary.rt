@@ -35,6 +35,27 @@ fn size_of(universe: Universe) -> u64
     u64::from(universe.atoms) + 2_u64.pow(universe.bits)
 }
 
+/// The pairs between which a finite walk of at least one step leads, where the numbers of the pairs
+/// are below `end`.
+pub fn closed_below<G: Gates>(
+    alloc: Global,
+    gates: &mut G,
+    end: u64,
+    a: &Matrix,
+) -> Result<Matrix, AllocError>
+    requires belongs { AllBelong (G.belongs gates.old) a.now.entries }
+    requires pairs { a.now.arity ≡ 2 }
+    requires below { IsBelow end a.now }
+    ensures keeps { Keeps G.belongs G.node_value gates.old gates.new }
+    ensures belongs { IfOk result (λ m. AllBelong (G.belongs gates.new) m.entries) }
+    ensures columns { IfOk result (λ m. m.arity ≡ 2) }
+    ensures means { IfOk result (λ m. (x : ℕ → Bool) → MeansSet (G.node_value gates.new x) m
+        (closure_tuples (set_of (G.node_value gates.old x) a.now))) }
+{
+    let made = closure(alloc, gates, a, end)?;
+    Ok(made)
+}
+
 /// The pairs between which a finite walk of at least one step leads.
 pub fn closed<G: Gates>(
     alloc: Global,
@@ -52,8 +73,7 @@ pub fn closed<G: Gates>(
     ensures means { IfOk result (λ m. (x : ℕ → Bool) → MeansSet (G.node_value gates.new x) m
         (closure_tuples (set_of (G.node_value gates.old x) a.now))) }
 {
-    let made = closure(alloc, gates, a, size_of(universe))?;
-    Ok(made)
+    closed_below(alloc, gates, size_of(universe), a)
 }
 
 /// The pair of a number with itself.

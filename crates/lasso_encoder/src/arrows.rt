@@ -1,6 +1,7 @@
 // Tasks on bounds with multiplicities.
 
 ghost use Rattle.std.specs.Prelude.{OnOk};
+ghost use Rattle.gate_trait.specs.Built.{Keeps};
 ghost use Rattle.lasso_stack.specs.Stored.{AreStored};
 
 use crate::plan::{
@@ -28,7 +29,8 @@ pub fn within<'a, G: Gates>(
     scope: usize,
 ) -> Result<(), AllocError>
     requires { AreStored (G.belongs gates.old) store.old }
-    ensures { OnOk result (AreStored (G.belongs gates.new) store.new) }
+    ensures keeps { Keeps G.belongs G.node_value gates.old gates.new }
+    ensures stored { OnOk result (AreStored (G.belongs gates.new) store.new) }
 {
     let second = pop_value(alloc, plan);
     let first = pop_value(alloc, plan);
@@ -157,7 +159,8 @@ pub fn at_end<'a, G: Gates>(
     count: usize,
 ) -> Result<(), AllocError>
     requires { AreStored (G.belongs gates.old) store.old }
-    ensures { OnOk result (AreStored (G.belongs gates.new) store.new) }
+    ensures keeps { Keeps G.belongs G.node_value gates.old gates.new }
+    ensures stored { OnOk result (AreStored (G.belongs gates.new) store.new) }
 {
     let numbers = last_atoms(alloc, &plan.names, chain, count)?;
     let set = value_at(alloc, plan, end.set)?;

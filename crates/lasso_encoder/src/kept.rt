@@ -1,6 +1,7 @@
 // The sets without parts that a formula names: each is built once, before all else.
 
 ghost use Rattle.std.specs.Prelude.{OnOk};
+ghost use Rattle.gate_trait.specs.Built.{Keeps};
 ghost use Rattle.lasso_stack.specs.Stored.{AreStored};
 
 use crate::leaves::{iden_sets, integer_sets, relation_sets, univ_sets};
@@ -40,7 +41,8 @@ fn marked_sets<G: Gates>(
     is_marked: bool,
 ) -> Result<Vec<usize>, AllocError>
     requires { AreStored (G.belongs gates.old) store.old }
-    ensures { OnOk result (AreStored (G.belongs gates.new) store.new) }
+    ensures keeps { Keeps G.belongs G.node_value gates.old gates.new }
+    ensures stored { OnOk result (AreStored (G.belongs gates.new) store.new) }
 {
     if !is_marked {
         return Ok(Vec::new(alloc));
@@ -64,7 +66,8 @@ pub fn kept_of<G: Gates>(
     formula: &Formula,
 ) -> Result<Vec<Vec<usize>>, AllocError>
     requires { AreStored (G.belongs gates.old) store.old }
-    ensures { OnOk result (AreStored (G.belongs gates.new) store.new) }
+    ensures keeps { Keeps G.belongs G.node_value gates.old gates.new }
+    ensures stored { OnOk result (AreStored (G.belongs gates.new) store.new) }
 {
     let leaves = leaves_of(setting);
     let marks = marks_of(alloc, leaves, formula)?;

@@ -1,6 +1,7 @@
 // The sets of expressions without parts.
 
 ghost use Rattle.std.specs.Prelude.{OnOk};
+ghost use Rattle.gate_trait.specs.Built.{Keeps};
 ghost use Rattle.lasso_stack.specs.Stored.{AreStored};
 
 use crate::setting::Setting;
@@ -41,7 +42,8 @@ fn add_relation<G: Gates>(
     first: u64,
 ) -> Result<usize, AllocError>
     requires { AreStored (G.belongs gates.old) store.old }
-    ensures { OnOk result (AreStored (G.belongs gates.new) store.new) }
+    ensures keeps { Keeps G.belongs G.node_value gates.old gates.new }
+    ensures stored { OnOk result (AreStored (G.belongs gates.new) store.new) }
 {
     let matrix = relation_matrix(alloc, gates, upper, first)?;
     add_matrix(gates, store, matrix)
@@ -56,7 +58,8 @@ pub fn relation_sets<G: Gates>(
     number: usize,
 ) -> Result<Vec<usize>, AllocError>
     requires { AreStored (G.belongs gates.old) store.old }
-    ensures { OnOk result (AreStored (G.belongs gates.new) store.new) }
+    ensures keeps { Keeps G.belongs G.node_value gates.old gates.new }
+    ensures stored { OnOk result (AreStored (G.belongs gates.new) store.new) }
 {
     let bound = match setting.bounds.relations.as_slice().get(number) {
         Some(bound) => bound,
@@ -144,7 +147,8 @@ fn with_relation<G: Gates>(
     all: Vec<usize>,
 ) -> Result<Vec<usize>, AllocError>
     requires { AreStored (G.belongs gates.old) store.old }
-    ensures { OnOk result (AreStored (G.belongs gates.new) store.new) }
+    ensures keeps { Keeps G.belongs G.node_value gates.old gates.new }
+    ensures stored { OnOk result (AreStored (G.belongs gates.new) store.new) }
 {
     if !is_there {
         return Ok(all);
@@ -162,7 +166,8 @@ pub fn univ_sets<G: Gates>(
     setting: &Setting,
 ) -> Result<Vec<usize>, AllocError>
     requires { AreStored (G.belongs gates.old) store.old }
-    ensures { OnOk result (AreStored (G.belongs gates.new) store.new) }
+    ensures keeps { Keeps G.belongs G.node_value gates.old gates.new }
+    ensures stored { OnOk result (AreStored (G.belongs gates.new) store.new) }
 {
     let mut all = integer_sets(alloc, gates, store, setting)?;
     for (number, sig) in setting.scopes.numbers.as_slice().iter().enumerate() {
@@ -179,7 +184,8 @@ pub fn iden_sets<G: Gates>(
     setting: &Setting,
 ) -> Result<Vec<usize>, AllocError>
     requires { AreStored (G.belongs gates.old) store.old }
-    ensures { OnOk result (AreStored (G.belongs gates.new) store.new) }
+    ensures keeps { Keeps G.belongs G.node_value gates.old gates.new }
+    ensures stored { OnOk result (AreStored (G.belongs gates.new) store.new) }
 {
     let all = univ_sets(alloc, gates, store, setting)?;
     let identity = Operator::OfSets(SetOperator::Identity);

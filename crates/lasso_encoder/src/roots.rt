@@ -1,8 +1,11 @@
 // The roots of a target.
 
-ghost use Rattle.std.specs.Prelude.{IfOk, OnOk};
+ghost use Rattle.std.specs.Prelude.{◌≡◌, ◌<◌, ◌+◌, ℕ, Bool, IfOk, OnOk, Some, length, slice_get};
 ghost use Rattle.gate_trait.specs.Built.{Keeps, AllIn};
-ghost use Rattle.lasso_stack.specs.Stored.{AreStored};
+ghost use Rattle.gate_trait.specs.declared.node.Node.{Node as CircuitNode};
+ghost use Rattle.bounds_builder.specs.declared.places.Layout.{Layout as VariableTable};
+ghost use Rattle.lasso_encoder.specs.Loops.{AreChoices};
+ghost use Rattle.lasso_encoder.specs.Encodes.{IsEncoded};
 
 use crate::running::push_formula;
 use crate::scopes::keeps_numbers;
@@ -12,9 +15,7 @@ use core_meaning::{Scopes, Target};
 use core_tree::Formula;
 use gate_trait::{Gates, Node, NodeList};
 use lasso_frame::{Frame, depth_of, frame_of};
-use lasso_stack::{
-    Mark, Store, cut, empty_store, extend_top, node_or_false, pop_row, push_constant,
-};
+use lasso_stack::{empty_store, node_or_false, pop_row};
 use std::alloc::{AllocError, Global};
 use temporal_rows::{chosen, only_one};
 use tuple_sets::Universe;
@@ -40,39 +41,33 @@ fn atom_count(scopes: &Scopes) -> u32 {
     count.min(16384)
 }
 
-/// Adds an input to the row on top.
-fn add_input<G: Gates>(
+/// For each state, whether the loop begins there: the variables of the loop indices. With one state there
+/// is no choice. Its error is want of memory, or that there is no state or a variable's number would be too
+/// great.
+fn loop_choices<G: Gates>(
     alloc: Global,
     gates: &mut G,
-    store: &mut Store,
-    variable: u64,
-) -> Result<(), AllocError>
-    requires { AreStored (G.belongs gates.old) store.old }
-    ensures { OnOk result (AreStored (G.belongs gates.new) store.new) }
-{
-    let node = gates.input(variable)?;
-    extend_top(alloc, gates, store, node)
-}
-
-/// Puts on the stack, for each state, whether the loop begins there.
-fn push_loops<G: Gates>(
-    alloc: Global,
-    gates: &mut G,
-    store: &mut Store,
     states: u32,
     loops: u64,
-) -> Result<(), AllocError>
-    requires { AreStored (G.belongs gates.old) store.old }
-    ensures { OnOk result (AreStored (G.belongs gates.new) store.new) }
+) -> Result<NodeList, AllocError>
+    ensures keeps { Keeps G.belongs G.node_value gates.old gates.new }
+    ensures belongs { IfOk result (λ row. AllIn (G.belongs gates.new) row) }
+    ensures some { OnOk result (0 < states) }
+    ensures choices { IfOk result (λ row. AreChoices (G.node_value gates.new) states loops row) }
 {
-    if states <= 1 {
-        return push_constant(alloc, gates, store, 1, true);
+    if states == 0 || u64::MAX - loops < u64::from(states) {
+        return Err(AllocError);
     }
-    push_constant(alloc, gates, store, 0, true)?;
+    let mut row = NodeList::new(alloc);
+    if states == 1 {
+        row.push(gates.constant(true))?;
+        return Ok(row);
+    }
     for state in 0..states {
-        add_input(alloc, gates, store, loops.saturating_add(state as u64))?;
+        let node = gates.input(loops + u64::from(state))?;
+        row.push(node)?;
     }
-    Ok(())
+    Ok(row)
 }
 
 /// The nodes at the first places of the windows.
@@ -92,39 +87,40 @@ fn beginnings<G: Gates>(
     Ok(firsts)
 }
 
-/// The value at position 0 of the lasso whose loop is chosen by the lowest row of the stack; false
-/// where there isn't a value for each loop.
+/// The value at position 0 of the lasso whose loop is chosen. Its error is want of memory, or that there
+/// isn't a value for each loop.
 fn value_at_loop<G: Gates>(
     alloc: Global,
     gates: &mut G,
-    store: &Store,
+    choices: &NodeList,
     frame: &Frame,
     all: &NodeList,
 ) -> Result<Node, AllocError>
-    requires store { AreStored (G.belongs gates.old) store.now }
+    requires choices { AllIn (G.belongs gates.old) choices.now }
     requires all { AllIn (G.belongs gates.old) all.now }
     ensures keeps { Keeps G.belongs G.node_value gates.old gates.new }
     ensures belongs { IfOk result (λ n. G.belongs gates.new n) }
 {
     let firsts = beginnings(alloc, gates, frame, all)?;
-    if store.rows.len() == 0 || store.rows[0].len() != firsts.len() {
-        return Ok(gates.constant(false));
+    if choices.len() != firsts.len() {
+        return Err(AllocError);
     }
-    chosen(gates, &store.rows[0], &firsts)
+    chosen(gates, choices, &firsts)
 }
 
-/// Adds to the row on top whether the formula holds at position 0 of the lasso.
-fn add_root<G: Gates>(
+/// Whether the formula holds at position 0 of the lasso whose loop is chosen.
+fn root_of<G: Gates>(
     alloc: Global,
     gates: &mut G,
-    store: &mut Store,
+    choices: &NodeList,
     bounds: &Bounds,
     table: &Layout,
     scopes: &Scopes,
     formula: &Formula,
-) -> Result<(), AllocError>
-    requires { AreStored (G.belongs gates.old) store.old }
-    ensures { OnOk result (AreStored (G.belongs gates.new) store.new) }
+) -> Result<Node, AllocError>
+    requires { AllIn (G.belongs gates.old) choices.now }
+    ensures keeps { Keeps G.belongs G.node_value gates.old gates.new }
+    ensures belongs { IfOk result (λ n. G.belongs gates.new n) }
 {
     let frame = frame_of(alloc, bounds.states, depth_of(formula))?;
     let setting = Setting {
@@ -137,65 +133,42 @@ fn add_root<G: Gates>(
         },
         frame: &frame,
     };
-    push_formula(alloc, gates, store, &setting, formula)?;
-    cut(
-        gates,
-        store,
-        Mark {
-            matrices: 0,
-            integers: 0,
-        },
-    );
-    let all = pop_row(alloc, gates, store);
-    let node = value_at_loop(alloc, gates, store, &frame, &all)?;
-    extend_top(alloc, gates, store, node)
+    let mut store = empty_store(alloc, gates);
+    push_formula(alloc, gates, &mut store, &setting, formula)?;
+    let all = pop_row(alloc, gates, &mut store);
+    value_at_loop(alloc, gates, choices, &frame, &all)
 }
 
-/// Adds to the row on top whether the lasso keeps the numbers of the scopes.
-fn add_scopes<G: Gates>(
+/// Adds the roots of the formulas, in order.
+#[tactic(auto, using(lasso_frame::specs::Pushes::push_kept))]
+fn add_roots<G: Gates>(
     alloc: Global,
     gates: &mut G,
-    store: &mut Store,
-    bounds: &Bounds,
-    table: &Layout,
-    scopes: &Scopes,
-) -> Result<(), AllocError>
-    requires { AreStored (G.belongs gates.old) store.old }
-    ensures { OnOk result (AreStored (G.belongs gates.new) store.new) }
-{
-    let node = keeps_numbers(alloc, gates, bounds, table, scopes)?;
-    extend_top(alloc, gates, store, node)
-}
-
-/// Whether just one loop is chosen by the lowest row of the stack.
-fn sure_of<G: Gates>(gates: &mut G, store: &Store) -> Result<Node, AllocError>
-    requires { AreStored (G.belongs gates.old) store.now }
-    ensures keeps { Keeps G.belongs G.node_value gates.old gates.new }
-    ensures belongs { IfOk result (λ n. G.belongs gates.new n) }
-{
-    if store.rows.len() == 0 {
-        return Ok(gates.constant(false));
-    }
-    only_one(gates, &store.rows[0])
-}
-
-/// Leaves the roots of the formulas on top of the stack, below which stands the choice of the loop.
-fn push_roots<G: Gates>(
-    alloc: Global,
-    gates: &mut G,
-    store: &mut Store,
+    choices: &NodeList,
     target: &Target,
     bounds: &Bounds,
+    table: &Layout,
+    roots: &mut NodeList,
 ) -> Result<(), AllocError>
-    requires { AreStored (G.belongs gates.old) store.old }
-    ensures { OnOk result (AreStored (G.belongs gates.new) store.new) }
+    requires choices { AllIn (G.belongs gates.old) choices.now }
+    requires roots { AllIn (G.belongs gates.old) roots.old }
+    ensures keeps { Keeps G.belongs G.node_value gates.old gates.new }
+    ensures belongs { AllIn (G.belongs gates.new) roots.new }
+    ensures count { OnOk result (length roots.new ≡ length roots.old + length target.now.formulas) }
+    ensures kept { OnOk result ((k : ℕ) (n : CircuitNode) → slice_get roots.old k ≡ Some n → slice_get roots.new k ≡ Some n) }
 {
-    let table = layout(alloc, bounds)?;
-    push_loops(alloc, gates, store, bounds.states, table.loops)?;
-    push_constant(alloc, gates, store, 0, false)?;
-    add_scopes(alloc, gates, store, bounds, &table, &target.scopes)?;
-    for formula in target.formulas.as_slice() {
-        add_root(alloc, gates, store, bounds, &table, &target.scopes, formula)?;
+    let formulas = target.formulas.as_slice();
+    for place in 0..formulas.len() {
+        let root = root_of(
+            alloc,
+            gates,
+            choices,
+            bounds,
+            table,
+            &target.scopes,
+            &formulas[place],
+        )?;
+        roots.push(root)?;
     }
     Ok(())
 }
@@ -207,12 +180,18 @@ pub fn encode<G: Gates>(
     bounds: &Bounds,
     gates: &mut G,
 ) -> Result<Encoded, AllocError>
-    ensures sure { IfOk result (λ e. G.belongs gates.new e.sure) }
+    ensures keeps { Keeps G.belongs G.node_value gates.old gates.new }
+    ensures belongs { IfOk result (λ e. G.belongs gates.new e.sure) }
     ensures roots { IfOk result (λ e. AllIn (G.belongs gates.new) e.roots) }
+    ensures count { IfOk result (λ e. length e.roots ≡ length target.now.formulas + 1) }
+    ensures table { IfOk result (λ e. (table : VariableTable) × IsEncoded bounds.now target.now.scopes table (G.node_value gates.new) e.sure e.roots) }
 {
-    let mut store = empty_store(alloc, gates);
-    push_roots(alloc, gates, &mut store, target, bounds)?;
-    let sure = sure_of(gates, &store)?;
-    let roots = pop_row(alloc, gates, &mut store);
+    let table = layout(alloc, bounds)?;
+    let choices = loop_choices(alloc, gates, bounds.states, table.loops)?;
+    let sure = only_one(gates, &choices)?;
+    let first = keeps_numbers(alloc, gates, bounds, &table, &target.scopes)?;
+    let mut roots = NodeList::new(alloc);
+    roots.push(first)?;
+    add_roots(alloc, gates, &choices, target, bounds, &table, &mut roots)?;
     Ok(Encoded { sure, roots })
 }

@@ -1,6 +1,7 @@
 // The tasks one after the other.
 
 ghost use Rattle.std.specs.Prelude.{OnOk};
+ghost use Rattle.gate_trait.specs.Built.{Keeps};
 ghost use Rattle.lasso_stack.specs.Stored.{AreStored};
 
 use crate::arrows::{at_end, ends, fits, within};
@@ -33,7 +34,8 @@ fn two_values<G: Gates>(
     op: Operator,
 ) -> Result<(), AllocError>
     requires { AreStored (G.belongs gates.old) store.old }
-    ensures { OnOk result (AreStored (G.belongs gates.new) store.new) }
+    ensures keeps { Keeps G.belongs G.node_value gates.old gates.new }
+    ensures stored { OnOk result (AreStored (G.belongs gates.new) store.new) }
 {
     let second = pop_value(alloc, plan);
     let first = pop_value(alloc, plan);
@@ -51,7 +53,8 @@ fn one_value<G: Gates>(
     op: Operator,
 ) -> Result<(), AllocError>
     requires { AreStored (G.belongs gates.old) store.old }
-    ensures { OnOk result (AreStored (G.belongs gates.new) store.new) }
+    ensures keeps { Keeps G.belongs G.node_value gates.old gates.new }
+    ensures stored { OnOk result (AreStored (G.belongs gates.new) store.new) }
 {
     let value = pop_value(alloc, plan);
     let new = combined(alloc, gates, store, setting.universe, op, &value, &value)?;
@@ -74,7 +77,8 @@ fn chosen_value<G: Gates>(
     choice: Choice,
 ) -> Result<(), AllocError>
     requires { AreStored (G.belongs gates.old) store.old }
-    ensures { OnOk result (AreStored (G.belongs gates.new) store.new) }
+    ensures keeps { Keeps G.belongs G.node_value gates.old gates.new }
+    ensures stored { OnOk result (AreStored (G.belongs gates.new) store.new) }
 {
     let second = pop_value(alloc, plan);
     let first = pop_value(alloc, plan);
@@ -92,7 +96,8 @@ fn add_where<G: Gates>(
     there: usize,
 ) -> Result<(), AllocError>
     requires { AreStored (G.belongs gates.old) store.old }
-    ensures { OnOk result (AreStored (G.belongs gates.new) store.new) }
+    ensures keeps { Keeps G.belongs G.node_value gates.old gates.new }
+    ensures stored { OnOk result (AreStored (G.belongs gates.new) store.new) }
 {
     push_copy(alloc, gates, store, there, setting.frame.len())?;
     chosen_value(alloc, gates, store, plan, Choice::Sum)
@@ -128,7 +133,8 @@ fn value_step<G: Gates>(
     step: ValueStep,
 ) -> Result<(), AllocError>
     requires { AreStored (G.belongs gates.old) store.old }
-    ensures { OnOk result (AreStored (G.belongs gates.new) store.new) }
+    ensures keeps { Keeps G.belongs G.node_value gates.old gates.new }
+    ensures stored { OnOk result (AreStored (G.belongs gates.new) store.new) }
 {
     match step {
         ValueStep::Two(op) => two_values(alloc, gates, store, plan, setting, op),
@@ -155,7 +161,8 @@ fn ask_values<G: Gates>(
     question: TestOperator,
 ) -> Result<(), AllocError>
     requires { AreStored (G.belongs gates.old) store.old }
-    ensures { OnOk result (AreStored (G.belongs gates.new) store.new) }
+    ensures keeps { Keeps G.belongs G.node_value gates.old gates.new }
+    ensures stored { OnOk result (AreStored (G.belongs gates.new) store.new) }
 {
     let second = pop_value(alloc, plan);
     let first = pop_value(alloc, plan);
@@ -170,7 +177,8 @@ fn equal_values<G: Gates>(
     plan: &mut Plan,
 ) -> Result<(), AllocError>
     requires { AreStored (G.belongs gates.old) store.old }
-    ensures { OnOk result (AreStored (G.belongs gates.new) store.new) }
+    ensures keeps { Keeps G.belongs G.node_value gates.old gates.new }
+    ensures stored { OnOk result (AreStored (G.belongs gates.new) store.new) }
 {
     let second = pop_value(alloc, plan);
     let first = pop_value(alloc, plan);
@@ -186,7 +194,8 @@ fn test_value<G: Gates>(
     quantity: Quantity,
 ) -> Result<(), AllocError>
     requires { AreStored (G.belongs gates.old) store.old }
-    ensures { OnOk result (AreStored (G.belongs gates.new) store.new) }
+    ensures keeps { Keeps G.belongs G.node_value gates.old gates.new }
+    ensures stored { OnOk result (AreStored (G.belongs gates.new) store.new) }
 {
     let value = pop_value(alloc, plan);
     push_tested(alloc, gates, store, quantity, &value)
@@ -205,7 +214,8 @@ fn find_top<G: Gates>(
     columns: u32,
 ) -> Result<(), AllocError>
     requires { AreStored (G.belongs gates.old) store.old }
-    ensures { OnOk result (AreStored (G.belongs gates.new) store.new) }
+    ensures keeps { Keeps G.belongs G.node_value gates.old gates.new }
+    ensures stored { OnOk result (AreStored (G.belongs gates.new) store.new) }
 {
     let atoms = last_atoms(alloc, &plan.names, scope, columns as usize)?;
     let tuple = Tuple::of(alloc, &atoms)?;
@@ -233,7 +243,8 @@ fn stack_step<G: Gates>(
     step: RowStep,
 ) -> Result<(), AllocError>
     requires { AreStored (G.belongs gates.old) store.old }
-    ensures { OnOk result (AreStored (G.belongs gates.new) store.new) }
+    ensures keeps { Keeps G.belongs G.node_value gates.old gates.new }
+    ensures stored { OnOk result (AreStored (G.belongs gates.new) store.new) }
 {
     let count = setting.frame.len();
     match step {
@@ -266,7 +277,8 @@ fn row_step<G: Gates>(
     step: RowStep,
 ) -> Result<(), AllocError>
     requires { AreStored (G.belongs gates.old) store.old }
-    ensures { OnOk result (AreStored (G.belongs gates.new) store.new) }
+    ensures keeps { Keeps G.belongs G.node_value gates.old gates.new }
+    ensures stored { OnOk result (AreStored (G.belongs gates.new) store.new) }
 {
     match step {
         RowStep::Asked(question) => ask_values(alloc, gates, store, plan, question),
@@ -305,7 +317,8 @@ fn arrow_step<'a, G: Gates>(
     task: Task<'a>,
 ) -> Result<(), AllocError>
     requires { AreStored (G.belongs gates.old) store.old }
-    ensures { OnOk result (AreStored (G.belongs gates.new) store.new) }
+    ensures keeps { Keeps G.belongs G.node_value gates.old gates.new }
+    ensures stored { OnOk result (AreStored (G.belongs gates.new) store.new) }
 {
     match task {
         Task::Within(word, bound, scope) => {
@@ -331,7 +344,8 @@ fn step<'a, G: Gates>(
     task: Task<'a>,
 ) -> Result<(), AllocError>
     requires { AreStored (G.belongs gates.old) store.old }
-    ensures { OnOk result (AreStored (G.belongs gates.new) store.new) }
+    ensures keeps { Keeps G.belongs G.node_value gates.old gates.new }
+    ensures stored { OnOk result (AreStored (G.belongs gates.new) store.new) }
 {
     match task {
         Task::Sets(expr, scope) => open_sets(alloc, gates, store, plan, setting, expr, scope),
@@ -363,7 +377,8 @@ pub fn push_formula<G: Gates>(
     formula: &Formula,
 ) -> Result<(), AllocError>
     requires { AreStored (G.belongs gates.old) store.old }
-    ensures { OnOk result (AreStored (G.belongs gates.new) store.new) }
+    ensures keeps { Keeps G.belongs G.node_value gates.old gates.new }
+    ensures stored { OnOk result (AreStored (G.belongs gates.new) store.new) }
 {
     let kept = kept_of(alloc, gates, store, setting, formula)?;
     let mut plan = new_plan(alloc, kept);

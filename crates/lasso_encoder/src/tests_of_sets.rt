@@ -1,6 +1,7 @@
 // Tests of sets at all places, and of bounds with multiplicities.
 
 ghost use Rattle.std.specs.Prelude.{OnOk};
+ghost use Rattle.gate_trait.specs.Built.{Keeps};
 ghost use Rattle.lasso_stack.specs.Stored.{AreStored};
 
 use crate::setting::Setting;
@@ -18,7 +19,8 @@ fn push_some<G: Gates>(
     set: &[usize],
 ) -> Result<(), AllocError>
     requires { AreStored (G.belongs gates.old) store.old }
-    ensures { OnOk result (AreStored (G.belongs gates.new) store.new) }
+    ensures keeps { Keeps G.belongs G.node_value gates.old gates.new }
+    ensures stored { OnOk result (AreStored (G.belongs gates.new) store.new) }
 {
     asked(
         alloc,
@@ -38,7 +40,8 @@ fn push_lone<G: Gates>(
     set: &[usize],
 ) -> Result<(), AllocError>
     requires { AreStored (G.belongs gates.old) store.old }
-    ensures { OnOk result (AreStored (G.belongs gates.new) store.new) }
+    ensures keeps { Keeps G.belongs G.node_value gates.old gates.new }
+    ensures stored { OnOk result (AreStored (G.belongs gates.new) store.new) }
 {
     asked(
         alloc,
@@ -58,7 +61,8 @@ fn push_one<G: Gates>(
     set: &[usize],
 ) -> Result<(), AllocError>
     requires { AreStored (G.belongs gates.old) store.old }
-    ensures { OnOk result (AreStored (G.belongs gates.new) store.new) }
+    ensures keeps { Keeps G.belongs G.node_value gates.old gates.new }
+    ensures stored { OnOk result (AreStored (G.belongs gates.new) store.new) }
 {
     push_some(alloc, gates, store, set)?;
     push_lone(alloc, gates, store, set)?;
@@ -73,7 +77,8 @@ fn push_no<G: Gates>(
     set: &[usize],
 ) -> Result<(), AllocError>
     requires { AreStored (G.belongs gates.old) store.old }
-    ensures { OnOk result (AreStored (G.belongs gates.new) store.new) }
+    ensures keeps { Keeps G.belongs G.node_value gates.old gates.new }
+    ensures stored { OnOk result (AreStored (G.belongs gates.new) store.new) }
 {
     push_some(alloc, gates, store, set)?;
     negate_top(alloc, gates, store)
@@ -88,7 +93,8 @@ pub fn push_tested<G: Gates>(
     set: &[usize],
 ) -> Result<(), AllocError>
     requires { AreStored (G.belongs gates.old) store.old }
-    ensures { OnOk result (AreStored (G.belongs gates.new) store.new) }
+    ensures keeps { Keeps G.belongs G.node_value gates.old gates.new }
+    ensures stored { OnOk result (AreStored (G.belongs gates.new) store.new) }
 {
     match quantity {
         Quantity::Some => push_some(alloc, gates, store, set),
@@ -108,7 +114,8 @@ pub fn push_multiplicity<G: Gates>(
     set: &[usize],
 ) -> Result<(), AllocError>
     requires { AreStored (G.belongs gates.old) store.old }
-    ensures { OnOk result (AreStored (G.belongs gates.new) store.new) }
+    ensures keeps { Keeps G.belongs G.node_value gates.old gates.new }
+    ensures stored { OnOk result (AreStored (G.belongs gates.new) store.new) }
 {
     match word {
         Multiplicity::Set => push_constant(alloc, gates, store, setting.frame.len(), true),
@@ -127,7 +134,8 @@ pub fn push_inside<G: Gates>(
     b: &[usize],
 ) -> Result<(), AllocError>
     requires { AreStored (G.belongs gates.old) store.old }
-    ensures { OnOk result (AreStored (G.belongs gates.new) store.new) }
+    ensures keeps { Keeps G.belongs G.node_value gates.old gates.new }
+    ensures stored { OnOk result (AreStored (G.belongs gates.new) store.new) }
 {
     asked(
         alloc,
@@ -148,7 +156,8 @@ pub fn push_equal<G: Gates>(
     b: &[usize],
 ) -> Result<(), AllocError>
     requires { AreStored (G.belongs gates.old) store.old }
-    ensures { OnOk result (AreStored (G.belongs gates.new) store.new) }
+    ensures keeps { Keeps G.belongs G.node_value gates.old gates.new }
+    ensures stored { OnOk result (AreStored (G.belongs gates.new) store.new) }
 {
     push_inside(alloc, gates, store, a, b)?;
     push_inside(alloc, gates, store, b, a)?;

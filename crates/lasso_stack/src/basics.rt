@@ -1,9 +1,12 @@
 // Adding to a store and taking from it.
 
-ghost use Rattle.std.specs.Prelude.{IfOk, OnOk};
+ghost use Rattle.std.specs.Prelude.{◌≡◌, ◌∷◌, [], ◌++◌, ℕ, Bool, List, IfOk, OnOk, length};
 ghost use Rattle.gate_trait.specs.Built.{AllIn};
+ghost use Rattle.gate_trait.specs.declared.node.Node.{Node as CircuitNode};
 ghost use Rattle.bool_matrix.specs.Matrices.{AllBelong};
+ghost use Rattle.temporal_rows.specs.Rows.{row_value};
 ghost use Rattle.lasso_stack.specs.Stored.{AreStored};
+ghost use Rattle.lasso_stack.specs.Rows.{IsPopped, IsPushed, AreBeside, IsAdded, Grows};
 
 use crate::store::{Mark, Store};
 use bool_matrix::Matrix;
@@ -13,7 +16,8 @@ use std::alloc::{AllocError, Global};
 
 /// Nothing.
 pub fn empty_store<G: Gates>(alloc: Global, gates: &G) -> Store
-    ensures { AreStored (G.belongs gates.now) result }
+    ensures stored { AreStored (G.belongs gates.now) result }
+    ensures empty { result.rows.items ≡ [] }
 {
     let _ = gates;
     Store {
@@ -25,6 +29,7 @@ pub fn empty_store<G: Gates>(alloc: Global, gates: &G) -> Store
 }
 
 /// Adds a set, and gives its number.
+#[tactic(auto, using(lasso_frame::specs::Pushes::push_kept))]
 pub fn add_matrix<G: Gates>(
     gates: &G,
     store: &mut Store,
@@ -32,7 +37,10 @@ pub fn add_matrix<G: Gates>(
 ) -> Result<usize, AllocError>
     requires store { AreStored (G.belongs gates.now) store.old }
     requires matrix { AllBelong (G.belongs gates.now) matrix.entries }
-    ensures { OnOk result (AreStored (G.belongs gates.now) store.new) }
+    ensures stored { OnOk result (AreStored (G.belongs gates.now) store.new) }
+    ensures added { OnOk result (IsAdded store.old store.new matrix) }
+    ensures grows { OnOk result (Grows store.old store.new) }
+    ensures number { IfOk result (λ n. n ≡ length store.old.matrices.items) }
 {
     let _ = gates;
     let number = store.matrices.len();
@@ -41,10 +49,12 @@ pub fn add_matrix<G: Gates>(
 }
 
 /// Adds an integer, and gives its number.
+#[tactic(auto, using(lasso_frame::specs::Pushes::push_kept))]
 pub fn add_integer<G: Gates>(gates: &G, store: &mut Store, bits: Bits) -> Result<usize, AllocError>
     requires store { AreStored (G.belongs gates.now) store.old }
     requires bits { AllIn (G.belongs gates.now) bits }
-    ensures { OnOk result (AreStored (G.belongs gates.now) store.new) }
+    ensures stored { OnOk result (AreStored (G.belongs gates.now) store.new) }
+    ensures grows { OnOk result (Grows store.old store.new) }
 {
     let _ = gates;
     let number = store.integers.len();
@@ -56,7 +66,8 @@ pub fn add_integer<G: Gates>(gates: &G, store: &mut Store, bits: Bits) -> Result
 pub fn push_row<G: Gates>(gates: &G, store: &mut Store, row: NodeList) -> Result<(), AllocError>
     requires store { AreStored (G.belongs gates.now) store.old }
     requires row { AllIn (G.belongs gates.now) row }
-    ensures { OnOk result (AreStored (G.belongs gates.now) store.new) }
+    ensures stored { OnOk result (AreStored (G.belongs gates.now) store.new) }
+    ensures pushed { OnOk result (IsPushed store.old store.new row) }
 {
     let _ = gates;
     store.rows.push(row)?;
@@ -68,6 +79,7 @@ pub fn pop_row<G: Gates>(alloc: Global, gates: &G, store: &mut Store) -> NodeLis
     requires { AreStored (G.belongs gates.now) store.old }
     ensures store { AreStored (G.belongs gates.now) store.new }
     ensures row { AllIn (G.belongs gates.now) result }
+    ensures popped { IsPopped store.old store.new result }
 {
     let _ = gates;
     match store.rows.pop() {
@@ -79,11 +91,14 @@ pub fn pop_row<G: Gates>(alloc: Global, gates: &G, store: &mut Store) -> NodeLis
 /// Takes away the row under the top.
 pub fn drop_below<G: Gates>(alloc: Global, gates: &G, store: &mut Store) -> Result<(), AllocError>
     requires { AreStored (G.belongs gates.now) store.old }
-    ensures { OnOk result (AreStored (G.belongs gates.now) store.new) }
+    ensures stored { OnOk result (AreStored (G.belongs gates.now) store.new) }
+    ensures beside { OnOk result (AreBeside store.old store.new) }
+    ensures rows { OnOk result ((rest : List (List CircuitNode)) (f g : List CircuitNode) → store.old.rows.items ≡ rest ++ f ∷ g ∷ [] → store.new.rows.items ≡ rest ++ g ∷ []) }
 {
     let top = pop_row(alloc, gates, store);
     let _below = pop_row(alloc, gates, store);
-    push_row(gates, store, top)
+    push_row(gates, store, top)?;
+    Ok(())
 }
 
 /// Moves the row on top to the rows that say where tuples are found.
@@ -118,7 +133,8 @@ pub fn cut<G: Gates>(gates: &G, store: &mut Store, mark: Mark)
 /// The node of a list at a place; the constant false where there is none.
 pub fn node_or_false<G: Gates>(gates: &G, row: &NodeList, place: usize) -> Node
     requires { AllIn (G.belongs gates.now) row.now }
-    ensures { G.belongs gates.now result }
+    ensures belongs { G.belongs gates.now result }
+    ensures value { (x : ℕ → Bool) → G.node_value gates.now x result ≡ row_value (G.node_value gates.now x) row.now place }
 {
     if place >= row.len() {
         return gates.constant(false);

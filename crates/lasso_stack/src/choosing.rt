@@ -77,7 +77,8 @@ fn choose_at<G: Gates>(
     pair: (usize, usize),
 ) -> Result<usize, AllocError>
     requires { AreStored (G.belongs gates.old) store.old }
-    ensures { OnOk result (AreStored (G.belongs gates.new) store.new) }
+    ensures keeps { Keeps G.belongs G.node_value gates.old gates.new }
+    ensures stored { OnOk result (AreStored (G.belongs gates.new) store.new) }
 {
     let node = node_at(gates, store, row, place);
     match op {
@@ -112,7 +113,8 @@ fn find_or_choose<G: Gates>(
     made: &mut Made,
 ) -> Result<usize, AllocError>
     requires { AreStored (G.belongs gates.old) store.old }
-    ensures { OnOk result (AreStored (G.belongs gates.new) store.new) }
+    ensures keeps { Keeps G.belongs G.node_value gates.old gates.new }
+    ensures stored { OnOk result (AreStored (G.belongs gates.new) store.new) }
 {
     match key_place(&made.keys, key) {
         Some(found) => Ok(found_at(&made.numbers, found)),
@@ -137,7 +139,8 @@ fn chosen_by<G: Gates>(
     b: &[usize],
 ) -> Result<Vec<usize>, AllocError>
     requires { AreStored (G.belongs gates.old) store.old }
-    ensures { OnOk result (AreStored (G.belongs gates.new) store.new) }
+    ensures keeps { Keeps G.belongs G.node_value gates.old gates.new }
+    ensures stored { OnOk result (AreStored (G.belongs gates.new) store.new) }
 {
     let pairs = pairs_of(alloc, a, b)?;
     let mut made = Made {
@@ -164,7 +167,8 @@ pub fn chosen<G: Gates>(
     b: &[usize],
 ) -> Result<Vec<usize>, AllocError>
     requires { AreStored (G.belongs gates.old) store.old }
-    ensures { OnOk result (AreStored (G.belongs gates.new) store.new) }
+    ensures keeps { Keeps G.belongs G.node_value gates.old gates.new }
+    ensures stored { OnOk result (AreStored (G.belongs gates.new) store.new) }
 {
     let row = store.top();
     let numbers = chosen_by(alloc, gates, store, op, row, a, b)?;

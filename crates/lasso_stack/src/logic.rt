@@ -1,7 +1,11 @@
 // Steps on the stack of rows that are made of others.
 
-ghost use Rattle.std.specs.Prelude.{OnOk};
+ghost use Rattle.std.specs.Prelude.{◌≡◌, ◌∷◌, [], ◌++◌, ◌*◌, ◌≤◌, ℕ, Bool, List, Some, OnOk, length, slice_get};
+ghost use Rattle.gate_trait.specs.declared.node.Node.{Node as CircuitNode};
+ghost use Rattle.gate_trait.specs.Built.{Keeps};
 ghost use Rattle.lasso_stack.specs.Stored.{AreStored};
+ghost use Rattle.lasso_stack.specs.Rows.{AreBeside, HasTop};
+ghost use Rattle.lasso_stack.specs.Logic.{IsImplied, IsHeldWhere, IsBothPart};
 
 use crate::basics::drop_below;
 use crate::steps::{both_top, negate_top, push_copy, push_part};
@@ -19,13 +23,18 @@ pub fn push_implied<G: Gates>(
     count: usize,
 ) -> Result<(), AllocError>
     requires { AreStored (G.belongs gates.old) store.old }
-    ensures { OnOk result (AreStored (G.belongs gates.new) store.new) }
+    ensures keeps { Keeps G.belongs G.node_value gates.old gates.new }
+    ensures stored { OnOk result (AreStored (G.belongs gates.new) store.new) }
+    ensures beside { OnOk result (AreBeside store.old store.new) }
+    ensures rows { OnOk result ((f g : List CircuitNode) → slice_get store.old.rows.items row ≡ Some f → slice_get store.old.rows.items other ≡ Some g
+        → HasTop store.old.rows.items store.new.rows.items (IsImplied (G.node_value gates.old) (G.node_value gates.new) f g count)) }
 {
     push_copy(alloc, gates, store, row, count)?;
     push_copy(alloc, gates, store, other, count)?;
     negate_top(alloc, gates, store)?;
     both_top(alloc, gates, store)?;
-    negate_top(alloc, gates, store)
+    negate_top(alloc, gates, store)?;
+    Ok(())
 }
 
 /// Leaves where both rows on top hold or neither does.
@@ -36,7 +45,9 @@ pub fn same_top<G: Gates>(
     count: usize,
 ) -> Result<(), AllocError>
     requires { AreStored (G.belongs gates.old) store.old }
-    ensures { OnOk result (AreStored (G.belongs gates.new) store.new) }
+    ensures keeps { Keeps G.belongs G.node_value gates.old gates.new }
+    ensures stored { OnOk result (AreStored (G.belongs gates.new) store.new) }
+    ensures beside { OnOk result (AreBeside store.old store.new) }
 {
     let second = store.top();
     let first = second.saturating_sub(1);
@@ -44,7 +55,8 @@ pub fn same_top<G: Gates>(
     push_implied(alloc, gates, store, second, first, count)?;
     both_top(alloc, gates, store)?;
     drop_below(alloc, gates, store)?;
-    drop_below(alloc, gates, store)
+    drop_below(alloc, gates, store)?;
+    Ok(())
 }
 
 /// Of three rows on top, leaves the second where the first holds, else the third.
@@ -55,7 +67,9 @@ pub fn choose_top<G: Gates>(
     count: usize,
 ) -> Result<(), AllocError>
     requires { AreStored (G.belongs gates.old) store.old }
-    ensures { OnOk result (AreStored (G.belongs gates.new) store.new) }
+    ensures keeps { Keeps G.belongs G.node_value gates.old gates.new }
+    ensures stored { OnOk result (AreStored (G.belongs gates.new) store.new) }
+    ensures beside { OnOk result (AreBeside store.old store.new) }
 {
     let third = store.top();
     let second = third.saturating_sub(1);
@@ -69,7 +83,8 @@ pub fn choose_top<G: Gates>(
     both_top(alloc, gates, store)?;
     drop_below(alloc, gates, store)?;
     drop_below(alloc, gates, store)?;
-    drop_below(alloc, gates, store)
+    drop_below(alloc, gates, store)?;
+    Ok(())
 }
 
 /// Of two rows on top, the first of which says what has held so far: leaves where that has held, and
@@ -83,13 +98,18 @@ pub fn held_where_top<G: Gates>(
     count: usize,
 ) -> Result<(), AllocError>
     requires { AreStored (G.belongs gates.old) store.old }
-    ensures { OnOk result (AreStored (G.belongs gates.new) store.new) }
+    ensures keeps { Keeps G.belongs G.node_value gates.old gates.new }
+    ensures stored { OnOk result (AreStored (G.belongs gates.new) store.new) }
+    ensures beside { OnOk result (AreBeside store.old store.new) }
+    ensures rows { OnOk result ((rest : List (List CircuitNode)) (f g h : List CircuitNode) → store.old.rows.items ≡ rest ++ f ∷ g ∷ [] → slice_get rest row ≡ Some h
+        → HasTop rest store.new.rows.items (IsHeldWhere (G.node_value gates.old) (G.node_value gates.new) f g h (number * count))) }
 {
     negate_top(alloc, gates, store)?;
     push_part(alloc, gates, store, row, number, count)?;
     both_top(alloc, gates, store)?;
     negate_top(alloc, gates, store)?;
-    both_top(alloc, gates, store)
+    both_top(alloc, gates, store)?;
+    Ok(())
 }
 
 /// Puts on the stack where a row holds and the part of this number of another row does.
@@ -103,9 +123,14 @@ pub fn push_both<G: Gates>(
     count: usize,
 ) -> Result<(), AllocError>
     requires { AreStored (G.belongs gates.old) store.old }
-    ensures { OnOk result (AreStored (G.belongs gates.new) store.new) }
+    ensures keeps { Keeps G.belongs G.node_value gates.old gates.new }
+    ensures stored { OnOk result (AreStored (G.belongs gates.new) store.new) }
+    ensures beside { OnOk result (AreBeside store.old store.new) }
+    ensures rows { OnOk result ((f g : List CircuitNode) → slice_get store.old.rows.items there ≡ Some f → slice_get store.old.rows.items row ≡ Some g
+        → HasTop store.old.rows.items store.new.rows.items (IsBothPart (G.node_value gates.old) (G.node_value gates.new) f g (number * count) count)) }
 {
     push_copy(alloc, gates, store, there, count)?;
     push_part(alloc, gates, store, row, number, count)?;
-    both_top(alloc, gates, store)
+    both_top(alloc, gates, store)?;
+    Ok(())
 }

@@ -1,8 +1,13 @@
 // Operators and tests on numbers of sets and integers.
 
-ghost use Rattle.std.specs.Prelude.{IfOk, OnOk};
+ghost use Rattle.std.specs.Prelude.{◌≡◌, ◌↔◌, ◌∷◌, [], ◌++◌, ℕ, Bool, true, List, Some, IfOk, OnOk, slice_get};
 ghost use Rattle.gate_trait.specs.Built.{Keeps, AllIn};
-ghost use Rattle.bool_matrix.specs.Matrices.{AllBelong};
+ghost use Rattle.gate_trait.specs.declared.node.Node.{Node as CircuitNode};
+ghost use Rattle.bool_matrix.specs.Matrices.{AllBelong, MatrixEntries};
+ghost use Rattle.expr_encoder.specs.Sets.{MeansSet, set_of};
+ghost use Rattle.set_circuits.specs.Sets.{tuples_made, IsAnswered};
+ghost use Rattle.lasso_stack.specs.Rows.{Grows, AreBeside, HasTop};
+ghost use Rattle.lasso_stack.specs.Steps.{MakesSet, AnswersSets, AddsAnswer};
 ghost use Rattle.lasso_stack.specs.Stored.{AreStored};
 
 use crate::basics::{add_integer, add_matrix};
@@ -51,6 +56,8 @@ fn set_of_sets<G: Gates>(
     requires { AreStored (G.belongs gates.old) store.now }
     ensures keeps { Keeps G.belongs G.node_value gates.old gates.new }
     ensures belongs { IfOk result (λ m. AllBelong (G.belongs gates.new) m.entries) }
+    ensures means { IfOk result (λ m. (p q : MatrixEntries) → slice_get store.now.matrices.items a ≡ Some p → slice_get store.now.matrices.items b ≡ Some q
+        → (x : ℕ → Bool) → MeansSet (G.node_value gates.new x) m (tuples_made op (set_of (G.node_value gates.old x) p) (set_of (G.node_value gates.old x) q))) }
 {
     if a >= store.matrices.len() || b >= store.matrices.len() {
         return Ok(Matrix::empty(alloc, 1));
@@ -131,6 +138,27 @@ fn set_at<G: Gates>(
     matrix_of(alloc, gates, universe, &store.integers[a])
 }
 
+/// Adds what an operator gives of two sets, and gives its number.
+fn add_set<G: Gates>(
+    alloc: Global,
+    gates: &mut G,
+    store: &mut Store,
+    op: SetOperator,
+    pair: (usize, usize),
+) -> Result<usize, AllocError>
+    requires { AreStored (G.belongs gates.old) store.old }
+    ensures keeps { Keeps G.belongs G.node_value gates.old gates.new }
+    ensures stored { OnOk result (AreStored (G.belongs gates.new) store.new) }
+    ensures grows { OnOk result (Grows store.old store.new) }
+    ensures makes { IfOk result (λ k. (p q : MatrixEntries) → slice_get store.old.matrices.items pair.0 ≡ Some p → slice_get store.old.matrices.items pair.1 ≡ Some q
+        → (m : MatrixEntries) × (slice_get store.new.matrices.items k ≡ Some m)
+        × ((x : ℕ → Bool) → MeansSet (G.node_value gates.new x) m (tuples_made op (set_of (G.node_value gates.old x) p) (set_of (G.node_value gates.old x) q)))) }
+{
+    let new = set_of_sets(alloc, gates, store, op, pair.0, pair.1)?;
+    let number = add_matrix(gates, store, new)?;
+    Ok(number)
+}
+
 /// Adds what the operator gives, and gives its number.
 pub fn apply_at<G: Gates>(
     alloc: Global,
@@ -141,12 +169,15 @@ pub fn apply_at<G: Gates>(
     pair: (usize, usize),
 ) -> Result<usize, AllocError>
     requires { AreStored (G.belongs gates.old) store.old }
-    ensures { OnOk result (AreStored (G.belongs gates.new) store.new) }
+    ensures keeps { Keeps G.belongs G.node_value gates.old gates.new }
+    ensures stored { OnOk result (AreStored (G.belongs gates.new) store.new) }
+    ensures grows { OnOk result (Grows store.old store.new) }
+    ensures sets { IfOk result (λ k. MakesSet op (G.node_value gates.old) (G.node_value gates.new) store.old.matrices.items store.new.matrices.items pair k) }
 {
     match op {
         Operator::OfSets(op) => {
-            let new = set_of_sets(alloc, gates, store, op, pair.0, pair.1)?;
-            add_matrix(gates, store, new)
+            let number = add_set(alloc, gates, store, op, pair)?;
+            Ok(number)
         }
         Operator::OfIntegers(op) => {
             let new = integer_of_integers(alloc, gates, store, op, pair.0, pair.1)?;
@@ -179,6 +210,8 @@ fn ask_sets<G: Gates>(
     requires { AreStored (G.belongs gates.old) store.now }
     ensures keeps { Keeps G.belongs G.node_value gates.old gates.new }
     ensures belongs { IfOk result (λ n. G.belongs gates.new n) }
+    ensures means { IfOk result (λ n. (p q : MatrixEntries) → slice_get store.now.matrices.items a ≡ Some p → slice_get store.now.matrices.items b ≡ Some q
+        → (x : ℕ → Bool) → (G.node_value gates.new x n ≡ true) ↔ IsAnswered question (set_of (G.node_value gates.old x) p) (set_of (G.node_value gates.old x) q)) }
 {
     if a >= store.matrices.len() || b >= store.matrices.len() {
         return Ok(gates.constant(false));
@@ -211,6 +244,27 @@ fn ask_integers<G: Gates>(
     compare(alloc, gates, op, &store.integers[a], &store.integers[b])
 }
 
+/// Whether two sets or integers pass the test; never where there are none of these numbers.
+fn ask_pair<G: Gates>(
+    alloc: Global,
+    gates: &mut G,
+    store: &Store,
+    question: TestOperator,
+    pair: (usize, usize),
+) -> Result<Node, AllocError>
+    requires { AreStored (G.belongs gates.old) store.now }
+    ensures keeps { Keeps G.belongs G.node_value gates.old gates.new }
+    ensures belongs { IfOk result (λ n. G.belongs gates.new n) }
+    ensures sets { IfOk result (λ n. AnswersSets question (G.node_value gates.old) (G.node_value gates.new) store.now.matrices.items pair n) }
+{
+    match question {
+        TestOperator::OfSets(question) => {
+            ask_sets(alloc, gates, store, question, pair.0, pair.1)
+        }
+        TestOperator::OfIntegers(op) => ask_integers(alloc, gates, store, op, pair.0, pair.1),
+    }
+}
+
 /// Adds whether the test is passed to the row on top.
 pub fn ask_at<G: Gates>(
     alloc: Global,
@@ -220,16 +274,13 @@ pub fn ask_at<G: Gates>(
     pair: (usize, usize),
 ) -> Result<(), AllocError>
     requires { AreStored (G.belongs gates.old) store.old }
-    ensures { OnOk result (AreStored (G.belongs gates.new) store.new) }
+    ensures keeps { Keeps G.belongs G.node_value gates.old gates.new }
+    ensures stored { OnOk result (AreStored (G.belongs gates.new) store.new) }
+    ensures beside { OnOk result (AreBeside store.old store.new) }
+    ensures rows { OnOk result ((rest : List (List CircuitNode)) (f : List CircuitNode) → store.old.rows.items ≡ rest ++ f ∷ []
+        → HasTop rest store.new.rows.items (AddsAnswer question (G.node_value gates.old) (G.node_value gates.new) store.old.matrices.items pair f)) }
 {
-    match question {
-        TestOperator::OfSets(question) => {
-            let node = ask_sets(alloc, gates, store, question, pair.0, pair.1)?;
-            extend_top(alloc, gates, store, node)
-        }
-        TestOperator::OfIntegers(op) => {
-            let node = ask_integers(alloc, gates, store, op, pair.0, pair.1)?;
-            extend_top(alloc, gates, store, node)
-        }
-    }
+    let node = ask_pair(alloc, gates, store, question, pair)?;
+    extend_top(alloc, gates, store, node)?;
+    Ok(())
 }

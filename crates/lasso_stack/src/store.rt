@@ -1,5 +1,7 @@
 // What is built.
 
+ghost use Rattle.std.specs.Prelude.{◌≡◌, ◌-◌, length};
+
 use bool_matrix::Matrix;
 use gate_trait::NodeList;
 use int_circuits::Bits;
@@ -34,7 +36,9 @@ impl Store {
     }
 
     /// The place of the row on top of the stack.
-    pub fn top(&self) -> usize {
+    pub fn top(&self) -> usize
+        ensures { result ≡ length self.now.rows.items - 1 }
+    {
         self.rows.len().saturating_sub(1)
     }
 }

@@ -1,11 +1,16 @@
 // Rows over the windows of all loops.
 
-ghost use Rattle.std.specs.Prelude.{IfOk};
+ghost use Rattle.std.specs.Prelude.{◌≡◌, ◌↔◌, ◌<◌, ◌≤◌, ◌+◌, ◌-◌, ◌++◌, ℕ, Bool, List, IfOk, OnOk, IsTrue, length, replicate, slice_get, Some, take, drop};
 ghost use Rattle.gate_trait.specs.Built.{Keeps, AllIn};
+ghost use Rattle.gate_trait.specs.declared.node.Node.{Node as CircuitNode};
+ghost use Rattle.temporal_rows.specs.Rows.{row_value};
+ghost use Rattle.lasso_frame.specs.Frames.{IsFrame};
+ghost use Rattle.lasso_stack.specs.declared.windows.TimeOperator.TheVariants.{Before, Since, Until};
+ghost use Rattle.lasso_stack.specs.Rows.{AreBoth, IsSpread, IsPart, IsMoving, IsAlong, IsMoved, IsConstant};
 
 use crate::basics::node_or_false;
 use gate_trait::{Gates, Node, NodeList};
-use lasso_frame::{Frame, Stretch};
+use lasso_frame::{Frame, Stretch, found_at};
 use std::alloc::{AllocError, Global};
 
 /// An operator that looks along a window.
@@ -27,7 +32,8 @@ fn everywhere<G: Gates>(
     node: Node,
 ) -> Result<NodeList, AllocError>
     requires { G.belongs gates.now node }
-    ensures { IfOk result (λ row. AllIn (G.belongs gates.now) row) }
+    ensures belongs { IfOk result (λ row. AllIn (G.belongs gates.now) row) }
+    ensures nodes { IfOk result (λ row. row ≡ replicate count node) }
 {
     let _ = gates;
     let mut row = NodeList::new(alloc);
@@ -44,13 +50,15 @@ pub fn constantly<G: Gates>(
     count: usize,
     value: bool,
 ) -> Result<NodeList, AllocError>
-    ensures { IfOk result (λ row. AllIn (G.belongs gates.now) row) }
+    ensures belongs { IfOk result (λ row. AllIn (G.belongs gates.now) row) }
+    ensures values { IfOk result (λ row. IsConstant (G.node_value gates.now) count value row) }
 {
     let node = gates.constant(value);
-    everywhere(alloc, gates, count, node)
+    let row = everywhere(alloc, gates, count, node)?;
+    Ok(row)
 }
 
-/// Whether both hold; nowhere where the rows are of different lengths.
+/// Whether both hold. Its error is want of memory, or that the rows are of different lengths.
 pub fn both<G: Gates>(
     alloc: Global,
     gates: &mut G,
@@ -61,9 +69,10 @@ pub fn both<G: Gates>(
     requires g_belongs { AllIn (G.belongs gates.old) g.now }
     ensures keeps { Keeps G.belongs G.node_value gates.old gates.new }
     ensures belongs { IfOk result (λ row. AllIn (G.belongs gates.new) row) }
+    ensures both { IfOk result (λ row. AreBoth (G.node_value gates.old) (G.node_value gates.new) f.now g.now row) }
 {
     if f.len() != g.len() {
-        return constantly(alloc, gates, f.len(), false);
+        return Err(AllocError);
     }
     temporal_rows::both(alloc, gates, f, g)
 }
@@ -77,11 +86,12 @@ pub fn part<G: Gates>(
     to: usize,
 ) -> Result<NodeList, AllocError>
     requires { AllIn (G.belongs gates.now) row.now }
-    ensures { IfOk result (λ new. AllIn (G.belongs gates.now) new) }
+    ensures belongs { IfOk result (λ new. AllIn (G.belongs gates.now) new) }
+    ensures part { IfOk result (λ new. IsPart (G.node_value gates.now) row.now from (to - from) new) }
 {
     let mut new = NodeList::new(alloc);
-    for place in from..to {
-        new.push(node_or_false(gates, row, place))?;
+    for place in 0..to.saturating_sub(from) {
+        new.push(node_or_false(gates, row, from + place))?;
     }
     Ok(new)
 }
@@ -94,11 +104,13 @@ pub fn spread<G: Gates>(
     places: &[usize],
 ) -> Result<NodeList, AllocError>
     requires { AllIn (G.belongs gates.now) row.now }
-    ensures { IfOk result (λ new. AllIn (G.belongs gates.now) new) }
+    ensures belongs { IfOk result (λ new. AllIn (G.belongs gates.now) new) }
+    ensures spread { IfOk result (λ new. IsSpread (G.node_value gates.now) row.now places.now new) }
 {
     let mut new = NodeList::new(alloc);
-    for place in places {
-        new.push(node_or_false(gates, row, *place))?;
+    for number in 0..places.len() {
+        let place = found_at(places, number);
+        new.push(node_or_false(gates, row, place))?;
     }
     Ok(new)
 }
@@ -107,17 +119,81 @@ pub fn spread<G: Gates>(
 fn append<G: Gates>(gates: &G, row: &mut NodeList, more: &NodeList) -> Result<(), AllocError>
     requires row { AllIn (G.belongs gates.now) row.old }
     requires more { AllIn (G.belongs gates.now) more.now }
-    ensures { AllIn (G.belongs gates.now) row.new }
+    ensures belongs { AllIn (G.belongs gates.now) row.new }
+    ensures nodes { OnOk result (row.new ≡ row.old ++ more.now) }
 {
     let _ = gates;
-    for node in more.as_slice() {
-        row.push(*node)?;
+    for place in 0..more.len() {
+        row.push(more.node(place))?;
     }
     Ok(())
 }
 
-/// The operator in one window, where one goes round to the place `first`; nowhere where there is no
-/// such place.
+/// Whether the second operand held at the place before.
+fn before_in<G: Gates>(
+    alloc: Global,
+    gates: &mut G,
+    first: usize,
+    f: &NodeList,
+    g: &NodeList,
+) -> Result<NodeList, AllocError>
+    requires f_belongs { AllIn (G.belongs gates.old) f.now }
+    requires g_belongs { AllIn (G.belongs gates.old) g.now }
+    requires lengths { length f.now ≡ length g.now }
+    requires inside { first < length f.now }
+    ensures keeps { Keeps G.belongs G.node_value gates.old gates.new }
+    ensures belongs { IfOk result (λ row. AllIn (G.belongs gates.new) row) }
+    ensures moving { IfOk result (λ row. IsMoving Before (G.node_value gates.old) (G.node_value gates.new) first f.now g.now row) }
+{
+    let _ = first;
+    let _ = f.len();
+    let made = temporal_rows::before(alloc, gates, g)?;
+    Ok(made)
+}
+
+/// Whether the second operand has held, and the first since then.
+fn since_in<G: Gates>(
+    alloc: Global,
+    gates: &mut G,
+    first: usize,
+    f: &NodeList,
+    g: &NodeList,
+) -> Result<NodeList, AllocError>
+    requires f_belongs { AllIn (G.belongs gates.old) f.now }
+    requires g_belongs { AllIn (G.belongs gates.old) g.now }
+    requires lengths { length f.now ≡ length g.now }
+    requires inside { first < length f.now }
+    ensures keeps { Keeps G.belongs G.node_value gates.old gates.new }
+    ensures belongs { IfOk result (λ row. AllIn (G.belongs gates.new) row) }
+    ensures moving { IfOk result (λ row. IsMoving Since (G.node_value gates.old) (G.node_value gates.new) first f.now g.now row) }
+{
+    let _ = first;
+    let made = temporal_rows::since(alloc, gates, f, g)?;
+    Ok(made)
+}
+
+/// Whether the second operand will hold, and the first until then.
+fn until_in<G: Gates>(
+    alloc: Global,
+    gates: &mut G,
+    first: usize,
+    f: &NodeList,
+    g: &NodeList,
+) -> Result<NodeList, AllocError>
+    requires f_belongs { AllIn (G.belongs gates.old) f.now }
+    requires g_belongs { AllIn (G.belongs gates.old) g.now }
+    requires lengths { length f.now ≡ length g.now }
+    requires inside { first < length f.now }
+    ensures keeps { Keeps G.belongs G.node_value gates.old gates.new }
+    ensures belongs { IfOk result (λ row. AllIn (G.belongs gates.new) row) }
+    ensures moving { IfOk result (λ row. IsMoving Until (G.node_value gates.old) (G.node_value gates.new) first f.now g.now row) }
+{
+    let made = temporal_rows::until(alloc, gates, first, f, g)?;
+    Ok(made)
+}
+
+/// The operator in one window, where one goes round to the place `first`. Its error is want of memory,
+/// or that the rows are of different lengths or have no such place.
 fn in_window<G: Gates>(
     alloc: Global,
     gates: &mut G,
@@ -130,15 +206,39 @@ fn in_window<G: Gates>(
     requires g_belongs { AllIn (G.belongs gates.old) g.now }
     ensures keeps { Keeps G.belongs G.node_value gates.old gates.new }
     ensures belongs { IfOk result (λ row. AllIn (G.belongs gates.new) row) }
+    ensures inside { OnOk result (first < length f.now) }
+    ensures moving { IfOk result (λ row. IsMoving op (G.node_value gates.old) (G.node_value gates.new) first f.now g.now row) }
 {
     if f.len() != g.len() || first >= f.len() {
-        return constantly(alloc, gates, f.len(), false);
+        return Err(AllocError);
     }
     match op {
-        TimeOperator::Before => temporal_rows::before(alloc, gates, g),
-        TimeOperator::Since => temporal_rows::since(alloc, gates, f, g),
-        TimeOperator::Until => temporal_rows::until(alloc, gates, first, f, g),
+        TimeOperator::Before => before_in(alloc, gates, first, f, g),
+        TimeOperator::Since => since_in(alloc, gates, first, f, g),
+        TimeOperator::Until => until_in(alloc, gates, first, f, g),
     }
+}
+
+/// What the operator gives in a window.
+fn along_window<G: Gates>(
+    alloc: Global,
+    gates: &mut G,
+    op: TimeOperator,
+    window: Stretch,
+    f: &NodeList,
+    g: &NodeList,
+) -> Result<NodeList, AllocError>
+    requires f_belongs { AllIn (G.belongs gates.old) f.now }
+    requires g_belongs { AllIn (G.belongs gates.old) g.now }
+    ensures keeps { Keeps G.belongs G.node_value gates.old gates.new }
+    ensures belongs { IfOk result (λ row. AllIn (G.belongs gates.new) row) }
+    ensures moved { IfOk result (λ row. IsMoved op (G.node_value gates.old) (G.node_value gates.new) window f.now g.now row) }
+{
+    let first = part(alloc, gates, f, window.start, window.end)?;
+    let second = part(alloc, gates, g, window.start, window.end)?;
+    let back = window.back.saturating_sub(window.start);
+    let made = in_window(alloc, gates, op, back, &first, &second)?;
+    Ok(made)
 }
 
 /// Adds what the operator gives in a window.
@@ -156,11 +256,10 @@ fn add_window<G: Gates>(
     requires row { AllIn (G.belongs gates.old) row.old }
     ensures keeps { Keeps G.belongs G.node_value gates.old gates.new }
     ensures belongs { AllIn (G.belongs gates.new) row.new }
+    ensures added { OnOk result ((more : List CircuitNode) × (row.new ≡ row.old ++ more)
+        × IsMoved op (G.node_value gates.old) (G.node_value gates.new) window f.now g.now more) }
 {
-    let first = part(alloc, gates, f, window.start, window.end)?;
-    let second = part(alloc, gates, g, window.start, window.end)?;
-    let back = window.back.saturating_sub(window.start);
-    let new = in_window(alloc, gates, op, back, &first, &second)?;
+    let new = along_window(alloc, gates, op, window, f, g)?;
     append(gates, row, &new)
 }
 
@@ -177,10 +276,12 @@ pub fn moving<G: Gates>(
     requires g_belongs { AllIn (G.belongs gates.old) g.now }
     ensures keeps { Keeps G.belongs G.node_value gates.old gates.new }
     ensures belongs { IfOk result (λ row. AllIn (G.belongs gates.new) row) }
+    ensures along { IfOk result (λ row. (states rounds : ℕ) → IsFrame states rounds frame.now
+        → IsAlong op (G.node_value gates.old) (G.node_value gates.new) frame.now f.now g.now row) }
 {
     let mut row = NodeList::new(alloc);
-    for window in &frame.windows {
-        add_window(alloc, gates, op, *window, f, g, &mut row)?;
+    for number in 0..frame.windows.len() {
+        add_window(alloc, gates, op, frame.windows[number], f, g, &mut row)?;
     }
     Ok(row)
 }

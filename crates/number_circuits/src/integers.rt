@@ -1,14 +1,20 @@
 // Operators and comparisons on integers.
 
-ghost use Rattle.std.specs.Prelude.{◌≡◌, ◌<◌, IfOk, length};
+ghost use Rattle.std.specs.Prelude.{◌≡◌, ◌↔◌, ◌<◌, ◌<ℤ◌, ◌+ℤ◌, ℕ, Bool, true, IfOk, OnOk, length, map};
 ghost use Rattle.gate_trait.specs.Built.{Keeps, AllIn};
+ghost use Rattle.core_meaning.specs.Integers.{wrap, result_of};
+ghost use Rattle.core_meaning.specs.Operators.{IsCount};
+ghost use Rattle.core_meaning.specs.World.{World};
+ghost use Rattle.int_circuits.specs.Numbers.{signed};
 ghost use Rattle.bool_matrix.specs.Matrices.{AllBelong};
+ghost use Rattle.expr_encoder.specs.Sets.{set_of};
+ghost use Rattle.number_circuits.specs.Numbers.{AreSo, where_true};
 
 use bool_matrix::Matrix;
 use core_tree::{Comparison, IntOp};
 use gate_trait::{Gates, Node, NodeList};
-use int_circuits::{Bits, add, equal_bits, less, sub};
-use int_products::{div, mul, rem};
+use int_circuits::{Bits, equal_bits, less};
+use int_encoder::operate;
 use std::alloc::{AllocError, Global};
 
 /// The integer with these bits, the least first, wrapped to the width.
@@ -29,7 +35,8 @@ pub fn constant_bits<G: Gates>(
     Ok(bits)
 }
 
-/// What the operator gives of two integers; no bits where their widths differ.
+/// What the operator gives of two integers, wrapped to their width. Its error is want of memory, or that
+/// the widths differ or are 0.
 pub fn calculate<G: Gates>(
     alloc: Global,
     gates: &mut G,
@@ -41,17 +48,15 @@ pub fn calculate<G: Gates>(
     requires b_belongs { AllIn (G.belongs gates.old) b.now }
     ensures keeps { Keeps G.belongs G.node_value gates.old gates.new }
     ensures belongs { IfOk result (λ s. AllIn (G.belongs gates.new) s) }
+    ensures fit { OnOk result (length a.now ≡ length b.now) }
+    ensures width { IfOk result (λ s. length s ≡ length a.now) }
+    ensures value { IfOk result (λ s. (x : ℕ → Bool) → signed (G.node_value gates.new x) s
+        ≡ wrap (length a.now) (result_of op (signed (G.node_value gates.old x) a.now) (signed (G.node_value gates.old x) b.now))) }
 {
     if a.len() != b.len() || a.is_empty() {
-        return Ok(Bits::new(alloc));
+        return Err(AllocError);
     }
-    match op {
-        IntOp::Add => add(alloc, gates, a, b),
-        IntOp::Sub => sub(alloc, gates, a, b),
-        IntOp::Mul => mul(alloc, gates, a, b),
-        IntOp::Div => div(alloc, gates, a, b),
-        IntOp::Rem => rem(alloc, gates, a, b),
-    }
+    operate(alloc, gates, op, a, b)
 }
 
 /// Whether the first integer isn't below the second.
@@ -62,12 +67,15 @@ fn at_least<G: Gates>(alloc: Global, gates: &mut G, a: &Bits, b: &Bits) -> Resul
     requires some { 0 < length a.now }
     ensures keeps { Keeps G.belongs G.node_value gates.old gates.new }
     ensures belongs { IfOk result (λ n. G.belongs gates.new n) }
+    ensures value { IfOk result (λ n. (x : ℕ → Bool) → (G.node_value gates.new x n ≡ true)
+        ↔ (¬ (signed (G.node_value gates.old x) a.now <ℤ signed (G.node_value gates.old x) b.now))) }
 {
     let below = less(alloc, gates, a, b)?;
-    Ok(gates.not(below))
+    let node = gates.not(below);
+    Ok(node)
 }
 
-/// Whether two integers compare so; never where their widths differ.
+/// Whether two integers compare so. Its error is want of memory, or that the widths differ or are 0.
 pub fn compare<G: Gates>(
     alloc: Global,
     gates: &mut G,
@@ -79,9 +87,11 @@ pub fn compare<G: Gates>(
     requires b_belongs { AllIn (G.belongs gates.old) b.now }
     ensures keeps { Keeps G.belongs G.node_value gates.old gates.new }
     ensures belongs { IfOk result (λ n. G.belongs gates.new n) }
+    ensures value { IfOk result (λ n. (x : ℕ → Bool) → (G.node_value gates.new x n ≡ true)
+        ↔ AreSo op (signed (G.node_value gates.old x) a.now) (signed (G.node_value gates.old x) b.now)) }
 {
     if a.len() != b.len() || a.is_empty() {
-        return Ok(gates.constant(false));
+        return Err(AllocError);
     }
     match op {
         Comparison::Equal => equal_bits(alloc, gates, a, b),
@@ -95,10 +105,12 @@ pub fn compare<G: Gates>(
 /// The nodes of a matrix.
 fn entry_nodes<G: Gates>(alloc: Global, gates: &G, matrix: &Matrix) -> Result<NodeList, AllocError>
     requires { AllBelong (G.belongs gates.now) matrix.now.entries }
-    ensures { IfOk result (λ row. AllIn (G.belongs gates.now) row) }
+    ensures belongs { IfOk result (λ row. AllIn (G.belongs gates.now) row) }
+    ensures nodes { IfOk result (λ row. row ≡ map (λ e. e.node) matrix.now.entries) }
 {
     let mut nodes = NodeList::new(alloc);
-    for entry in matrix.entries() {
+    let entries = matrix.entries();
+    for entry in entries {
         nodes.push(entry.node)?;
     }
     let _ = gates;
@@ -115,12 +127,33 @@ pub fn count_of<G: Gates>(
     requires { AllBelong (G.belongs gates.old) matrix.now.entries }
     ensures keeps { Keeps G.belongs G.node_value gates.old gates.new }
     ensures belongs { IfOk result (λ s. AllIn (G.belongs gates.new) s) }
+    ensures width { IfOk result (λ s. length s ≡ width) }
+    ensures value { IfOk result (λ s. (x : ℕ → Bool) (w : World) → w.bits ≡ width
+        → IsCount w (set_of (G.node_value gates.old x) matrix.now) (signed (G.node_value gates.new x) s)) }
 {
     let nodes = entry_nodes(alloc, gates, matrix)?;
-    int_circuits::count(alloc, gates, nodes.as_slice(), width)
+    let _columns = matrix.arity();
+    let made = int_circuits::count(alloc, gates, nodes.as_slice(), width)?;
+    Ok(made)
 }
 
-/// The first integer and, where the node is true, the second.
+/// The bits where the node is true, else those of 0.
+fn masked<G: Gates>(alloc: Global, gates: &mut G, node: Node, b: &Bits) -> Result<Bits, AllocError>
+    requires node { G.belongs gates.old node }
+    requires b_belongs { AllIn (G.belongs gates.old) b.now }
+    requires some { 0 < length b.now }
+    ensures keeps { Keeps G.belongs G.node_value gates.old gates.new }
+    ensures belongs { IfOk result (λ s. AllIn (G.belongs gates.new) s) }
+    ensures width { IfOk result (λ s. length s ≡ length b.now) }
+    ensures value { IfOk result (λ s. (x : ℕ → Bool) → signed (G.node_value gates.new x) s
+        ≡ where_true (G.node_value gates.old x node) (signed (G.node_value gates.old x) b.now)) }
+{
+    let made = int_circuits::each::masked(alloc, gates, node, b.nodes())?;
+    Ok(made)
+}
+
+/// The first integer and, where the node is true, the second. Its error is want of memory, or that the
+/// widths differ or are 0.
 pub fn masked_sum<G: Gates>(
     alloc: Global,
     gates: &mut G,
@@ -133,7 +166,14 @@ pub fn masked_sum<G: Gates>(
     requires b_belongs { AllIn (G.belongs gates.old) b.now }
     ensures keeps { Keeps G.belongs G.node_value gates.old gates.new }
     ensures belongs { IfOk result (λ s. AllIn (G.belongs gates.new) s) }
+    ensures width { IfOk result (λ s. length s ≡ length a.now) }
+    ensures value { IfOk result (λ s. (x : ℕ → Bool) → signed (G.node_value gates.new x) s
+        ≡ wrap (length a.now) (signed (G.node_value gates.old x) a.now +ℤ where_true (G.node_value gates.old x node) (signed (G.node_value gates.old x) b.now))) }
 {
-    let more = int_circuits::each::masked(alloc, gates, node, b.nodes())?;
-    calculate(alloc, gates, IntOp::Add, a, &more)
+    if b.is_empty() {
+        return Err(AllocError);
+    }
+    let more = masked(alloc, gates, node, b)?;
+    let made = calculate(alloc, gates, IntOp::Add, a, &more)?;
+    Ok(made)
 }

@@ -1,77 +1,32 @@
 // Sets as integers, and integers as sets.
 
-ghost use Rattle.std.specs.Prelude.{IfOk};
+ghost use Rattle.std.specs.Prelude.{◌≡◌, ◌≤◌, ◌+◌, ◌^◌, ℕ, Bool, length, IfOk, IsTrue};
 ghost use Rattle.gate_trait.specs.Built.{Keeps, AllIn};
+ghost use Rattle.int_circuits.specs.Numbers.{signed};
+ghost use Rattle.core_meaning.specs.Integers.{wrap};
 ghost use Rattle.bool_matrix.specs.Matrices.{AllBelong};
+ghost use Rattle.expr_encoder.specs.Sets.{IsUniverse};
+ghost use Rattle.int_encoder.specs.Members.{integer_sum};
 
-use bool_matrix::{Entry, Matrix};
+use bool_matrix::Matrix;
 use gate_trait::{Gates, Node, NodeList};
-use int_circuits::{Bits, add};
+use int_circuits::Bits;
 use set_circuits::put;
 use std::alloc::{AllocError, Global};
 use tuple_sets::{Tuple, Universe};
 
-/// The bits of the integer that a number of the universe stands for, where the node is true, else 0:
-/// the number counts the integers from the least up.
-fn member_bits<G: Gates>(
-    alloc: Global,
-    gates: &G,
-    width: u32,
-    place: u32,
-    node: Node,
-) -> Result<Bits, AllocError>
-    requires { G.belongs gates.now node }
-    ensures { IfOk result (λ b. AllIn (G.belongs gates.now) b) }
+/// Whether the universe is within the limits.
+fn is_universe(universe: Universe) -> bool
+    ensures { IsTrue result → IsUniverse universe }
 {
-    let mut bits = Bits::new(alloc);
-    let mut left = place;
-    let never = gates.constant(false);
-    let top = width.saturating_sub(1);
-    for bit in 0..width {
-        // The top bit tells the sign, and the least integer has place 0.
-        let is_set = (left % 2 == 1) != (bit == top);
-        bits.push(if is_set { node } else { never })?;
-        left = left / 2;
+    if universe.bits < 1 || universe.bits > 12 {
+        return false;
     }
-    Ok(bits)
+    u64::from(universe.atoms) + 2_u64.pow(universe.bits) <= 16384
 }
 
-/// The sum of two integers; the first where their widths differ.
-fn added<G: Gates>(alloc: Global, gates: &mut G, a: Bits, b: &Bits) -> Result<Bits, AllocError>
-    requires a_belongs { AllIn (G.belongs gates.old) a }
-    requires b_belongs { AllIn (G.belongs gates.old) b.now }
-    ensures keeps { Keeps G.belongs G.node_value gates.old gates.new }
-    ensures belongs { IfOk result (λ s. AllIn (G.belongs gates.new) s) }
-{
-    if a.len() != b.len() {
-        return Ok(a);
-    }
-    add(alloc, gates, &a, b)
-}
-
-/// The total, and the integer of an entry, where it is one.
-fn with_member<G: Gates>(
-    alloc: Global,
-    gates: &mut G,
-    universe: Universe,
-    entry: &Entry,
-    total: Bits,
-) -> Result<Bits, AllocError>
-    requires entry { G.belongs gates.old entry.now.node }
-    requires total { AllIn (G.belongs gates.old) total }
-    ensures keeps { Keeps G.belongs G.node_value gates.old gates.new }
-    ensures belongs { IfOk result (λ s. AllIn (G.belongs gates.new) s) }
-{
-    let numbers = entry.tuple.numbers();
-    if numbers.len() != 1 || numbers[0] < universe.atoms {
-        return Ok(total);
-    }
-    let place = numbers[0] - universe.atoms;
-    let more = member_bits(alloc, gates, universe.bits, place, entry.node)?;
-    added(alloc, gates, total, &more)
-}
-
-/// The wrapped sum of the integers in a set.
+/// The wrapped sum of the integers in a set. Its error is want of memory, or that the set has more
+/// columns than one or the universe isn't within the limits.
 pub fn integer_of<G: Gates>(
     alloc: Global,
     gates: &mut G,
@@ -81,12 +36,14 @@ pub fn integer_of<G: Gates>(
     requires { AllBelong (G.belongs gates.old) matrix.now.entries }
     ensures keeps { Keeps G.belongs G.node_value gates.old gates.new }
     ensures belongs { IfOk result (λ s. AllIn (G.belongs gates.new) s) }
+    ensures width { IfOk result (λ s. length s ≡ universe.bits) }
+    ensures value { IfOk result (λ s. (x : ℕ → Bool) → signed (G.node_value gates.new x) s
+        ≡ wrap universe.bits (integer_sum universe (G.node_value gates.old x) matrix.now.entries)) }
 {
-    let mut total = int_circuits::each::zeros(alloc, gates, universe.bits as usize)?;
-    for entry in matrix.entries() {
-        total = with_member(alloc, gates, universe, entry, total)?;
+    if !is_universe(universe) || matrix.arity() != 1 {
+        return Err(AllocError);
     }
-    Ok(total)
+    int_encoder::integer_of(alloc, gates, universe, matrix)
 }
 
 /// Adds the node with a bit false, and then the node with it true.

@@ -1,34 +1,29 @@
 // The tuples of several matrices.
 
+ghost use Rattle.std.specs.Prelude.{◌≡◌, ◌↔◌, ◌++◌, ℕ, List, Contains, OnOk, IfOk};
+ghost use Rattle.bool_matrix.specs.Matrices.{tuples_of};
+
 use bool_matrix::Matrix;
 use std::alloc::{AllocError, Global};
 use tuple_sets::Tuple;
 
 /// Adds copies of the tuples of a matrix.
-pub fn add_tuples(alloc: Global, matrix: &Matrix, all: &mut Vec<Tuple>) -> Result<(), AllocError> {
+pub fn add_tuples(alloc: Global, matrix: &Matrix, all: &mut Vec<Tuple>) -> Result<(), AllocError>
+    ensures { OnOk result (all.new.items ≡ all.old.items ++ tuples_of matrix.now.entries) }
+{
     for place in 0..matrix.len() {
-        all.push(matrix.tuple(place).copy(alloc)?)?;
+        let copy = matrix.tuple(place).copy(alloc)?;
+        all.push(copy)?;
     }
     Ok(())
 }
 
-/// Whether this tuple is the last one of the list.
-fn is_last(all: &[Tuple], tuple: &Tuple) -> bool {
-    match all.last() {
-        Some(last) => *last == *tuple,
-        None => false,
-    }
-}
-
 /// The tuples in order, each once.
-pub fn distinct_tuples(alloc: Global, tuples: Vec<Tuple>) -> Result<Vec<Tuple>, AllocError> {
+pub fn distinct_tuples(_alloc: Global, tuples: Vec<Tuple>) -> Result<Vec<Tuple>, AllocError>
+    ensures { IfOk result (λ all. (t : List ℕ) → Contains all.items t ↔ Contains tuples.items t) }
+{
     let mut sorted = tuples;
     sorted.sort()?;
-    let mut all: Vec<Tuple> = Vec::new(alloc);
-    for tuple in sorted {
-        if !is_last(&all, &tuple) {
-            all.push(tuple)?;
-        }
-    }
-    Ok(all)
+    sorted.dedup();
+    Ok(sorted)
 }

@@ -1,17 +1,18 @@
 // Operators on sets.
 
-ghost use Rattle.std.specs.Prelude.{◌≡◌, ◌≤◌, ◌+◌, IfOk, IsTrue, All, length};
+ghost use Rattle.std.specs.Prelude.{◌≡◌, ◌≤◌, ◌+◌, ℕ, Bool, IfOk, OnOk, IsTrue};
 ghost use Rattle.gate_trait.specs.Built.{Keeps};
+ghost use Rattle.core_meaning.specs.Operators.{combined_tuples, product_tuples, closure_tuples};
 ghost use Rattle.bool_matrix.specs.Matrices.{AllBelong};
 ghost use Rattle.closure_matrix.specs.Walks.{IsBelow};
+ghost use Rattle.expr_encoder.specs.Sets.{MeansSet, set_of, FitTogether, columns_of, turned, pairs_with_itself};
+ghost use Rattle.set_circuits.specs.Sets.{FitsOperator, columns_made, tuples_made};
 
-use crate::relation::put;
-use bool_matrix::{Entry, Matrix, difference, intersection, join, product, union};
-use closure_matrix::{left_restrict, override_by, right_restrict};
+use bool_matrix::Matrix;
 use core_tree::RelationOp;
-use gate_trait::{Gates, Node};
+use expr_encoder::{closed_below, identity, multiplied, transposed};
+use gate_trait::Gates;
 use std::alloc::{AllocError, Global};
-use tuple_sets::Tuple;
 
 /// An operator on one or two sets. That on one set is given it twice.
 #[derive(Clone, Copy, Debug, PartialEq, Eq)]
@@ -23,137 +24,25 @@ pub enum SetOperator {
     Identity,
 }
 
-/// The tuples of either set; the first set where their columns differ in number.
-fn unite<G: Gates>(
-    alloc: Global,
-    gates: &mut G,
-    a: &Matrix,
-    b: &Matrix,
-) -> Result<Matrix, AllocError>
-    requires a_belongs { AllBelong (G.belongs gates.old) a.now.entries }
-    requires b_belongs { AllBelong (G.belongs gates.old) b.now.entries }
-    ensures keeps { Keeps G.belongs G.node_value gates.old gates.new }
-    ensures belongs { IfOk result (λ m. AllBelong (G.belongs gates.new) m.entries) }
+/// Whether an operator takes sets of so many columns.
+fn fit_together(op: RelationOp, a: u32, b: u32) -> bool
+    requires a_columns { a ≤ 9 }
+    requires b_columns { b ≤ 9 }
+    ensures { IsTrue result → FitTogether op a b }
 {
-    if a.arity() != b.arity() {
-        return a.copy(alloc);
+    match op {
+        RelationOp::Union => a == b,
+        RelationOp::Difference => a == b,
+        RelationOp::Intersection => a == b,
+        RelationOp::Join => a + b >= 3 && a + b <= 11,
+        RelationOp::Override => a == b,
+        RelationOp::LeftRestrict => a == 1,
+        RelationOp::RightRestrict => b == 1,
     }
-    union(alloc, gates, a, b)
 }
 
-/// The tuples of both sets; the first set where their columns differ in number.
-fn meet<G: Gates>(
-    alloc: Global,
-    gates: &mut G,
-    a: &Matrix,
-    b: &Matrix,
-) -> Result<Matrix, AllocError>
-    requires a_belongs { AllBelong (G.belongs gates.old) a.now.entries }
-    requires b_belongs { AllBelong (G.belongs gates.old) b.now.entries }
-    ensures keeps { Keeps G.belongs G.node_value gates.old gates.new }
-    ensures belongs { IfOk result (λ m. AllBelong (G.belongs gates.new) m.entries) }
-{
-    if a.arity() != b.arity() {
-        return a.copy(alloc);
-    }
-    intersection(alloc, gates, a, b)
-}
-
-/// The tuples of the first set alone; that set where their columns differ in number.
-fn subtract<G: Gates>(
-    alloc: Global,
-    gates: &mut G,
-    a: &Matrix,
-    b: &Matrix,
-) -> Result<Matrix, AllocError>
-    requires a_belongs { AllBelong (G.belongs gates.old) a.now.entries }
-    requires b_belongs { AllBelong (G.belongs gates.old) b.now.entries }
-    ensures keeps { Keeps G.belongs G.node_value gates.old gates.new }
-    ensures belongs { IfOk result (λ m. AllBelong (G.belongs gates.new) m.entries) }
-{
-    if a.arity() != b.arity() {
-        return a.copy(alloc);
-    }
-    difference(alloc, gates, a, b)
-}
-
-/// The tuples of the second set, and those of the first that begin otherwise; the first set where their
-/// columns differ in number.
-fn write_over<G: Gates>(
-    alloc: Global,
-    gates: &mut G,
-    a: &Matrix,
-    b: &Matrix,
-) -> Result<Matrix, AllocError>
-    requires a_belongs { AllBelong (G.belongs gates.old) a.now.entries }
-    requires b_belongs { AllBelong (G.belongs gates.old) b.now.entries }
-    ensures keeps { Keeps G.belongs G.node_value gates.old gates.new }
-    ensures belongs { IfOk result (λ m. AllBelong (G.belongs gates.new) m.entries) }
-{
-    if a.arity() != b.arity() {
-        return a.copy(alloc);
-    }
-    override_by(alloc, gates, a, b)
-}
-
-/// The tuples of the second set that begin in the first; the first set where that has more columns than
-/// one.
-fn restrict_left<G: Gates>(
-    alloc: Global,
-    gates: &mut G,
-    a: &Matrix,
-    b: &Matrix,
-) -> Result<Matrix, AllocError>
-    requires a_belongs { AllBelong (G.belongs gates.old) a.now.entries }
-    requires b_belongs { AllBelong (G.belongs gates.old) b.now.entries }
-    ensures keeps { Keeps G.belongs G.node_value gates.old gates.new }
-    ensures belongs { IfOk result (λ m. AllBelong (G.belongs gates.new) m.entries) }
-{
-    if a.arity() != 1 {
-        return a.copy(alloc);
-    }
-    left_restrict(alloc, gates, a, b)
-}
-
-/// The tuples of the first set that end in the second; the first set where the second has more columns
-/// than one.
-fn restrict_right<G: Gates>(
-    alloc: Global,
-    gates: &mut G,
-    a: &Matrix,
-    b: &Matrix,
-) -> Result<Matrix, AllocError>
-    requires a_belongs { AllBelong (G.belongs gates.old) a.now.entries }
-    requires b_belongs { AllBelong (G.belongs gates.old) b.now.entries }
-    ensures keeps { Keeps G.belongs G.node_value gates.old gates.new }
-    ensures belongs { IfOk result (λ m. AllBelong (G.belongs gates.new) m.entries) }
-{
-    if b.arity() != 1 {
-        return a.copy(alloc);
-    }
-    right_restrict(alloc, gates, a, b)
-}
-
-/// The join; the first set where it would have too few or too many columns.
-fn join_both<G: Gates>(
-    alloc: Global,
-    gates: &mut G,
-    a: &Matrix,
-    b: &Matrix,
-) -> Result<Matrix, AllocError>
-    requires a_belongs { AllBelong (G.belongs gates.old) a.now.entries }
-    requires b_belongs { AllBelong (G.belongs gates.old) b.now.entries }
-    ensures keeps { Keeps G.belongs G.node_value gates.old gates.new }
-    ensures belongs { IfOk result (λ m. AllBelong (G.belongs gates.new) m.entries) }
-{
-    if a.arity() + b.arity() < 3 || a.arity() + b.arity() > 11 {
-        return a.copy(alloc);
-    }
-    join(alloc, gates, a, b)
-}
-
-/// What an operator gives of two sets; the first set where their columns don't fit.
-fn combine<G: Gates>(
+/// What an operator gives of two sets; the error of memory where their columns don't fit.
+pub fn combine<G: Gates>(
     alloc: Global,
     gates: &mut G,
     op: RelationOp,
@@ -164,20 +53,19 @@ fn combine<G: Gates>(
     requires b_belongs { AllBelong (G.belongs gates.old) b.now.entries }
     ensures keeps { Keeps G.belongs G.node_value gates.old gates.new }
     ensures belongs { IfOk result (λ m. AllBelong (G.belongs gates.new) m.entries) }
+    ensures fit { OnOk result (FitTogether op a.now.arity b.now.arity) }
+    ensures columns { IfOk result (λ m. m.arity ≡ columns_of op a.now.arity b.now.arity) }
+    ensures means { IfOk result (λ m. (x : ℕ → Bool) → MeansSet (G.node_value gates.new x) m
+        (combined_tuples op (set_of (G.node_value gates.old x) a.now) (set_of (G.node_value gates.old x) b.now))) }
 {
-    match op {
-        RelationOp::Union => unite(alloc, gates, a, b),
-        RelationOp::Difference => subtract(alloc, gates, a, b),
-        RelationOp::Intersection => meet(alloc, gates, a, b),
-        RelationOp::Join => join_both(alloc, gates, a, b),
-        RelationOp::Override => write_over(alloc, gates, a, b),
-        RelationOp::LeftRestrict => restrict_left(alloc, gates, a, b),
-        RelationOp::RightRestrict => restrict_right(alloc, gates, a, b),
+    if !fit_together(op, a.arity(), b.arity()) {
+        return Err(AllocError);
     }
+    expr_encoder::combine(alloc, gates, op, a, b)
 }
 
-/// The tuples of the first set, each followed by each of the second; the first set where there would
-/// be too many columns.
+/// The tuples of the first set, each followed by each of the second; the error of memory where there
+/// would be too many columns.
 fn multiply<G: Gates>(
     alloc: Global,
     gates: &mut G,
@@ -188,23 +76,31 @@ fn multiply<G: Gates>(
     requires b_belongs { AllBelong (G.belongs gates.old) b.now.entries }
     ensures keeps { Keeps G.belongs G.node_value gates.old gates.new }
     ensures belongs { IfOk result (λ m. AllBelong (G.belongs gates.new) m.entries) }
+    ensures fit { OnOk result (a.now.arity + b.now.arity ≤ 9) }
+    ensures columns { IfOk result (λ m. m.arity ≡ a.now.arity + b.now.arity) }
+    ensures means { IfOk result (λ m. (x : ℕ → Bool) → MeansSet (G.node_value gates.new x) m
+        (product_tuples (set_of (G.node_value gates.old x) a.now) (set_of (G.node_value gates.old x) b.now))) }
 {
     if a.arity() + b.arity() > 9 {
-        return a.copy(alloc);
+        return Err(AllocError);
     }
-    product(alloc, gates, a, b)
+    multiplied(alloc, gates, a, b)
 }
 
-/// The pairs turned round; the set itself where its tuples are no pairs.
-fn transpose<G: Gates>(alloc: Global, gates: &mut G, a: &Matrix) -> Result<Matrix, AllocError>
+/// The pairs turned round; the error of memory where the tuples are no pairs.
+fn turn<G: Gates>(alloc: Global, gates: &mut G, a: &Matrix) -> Result<Matrix, AllocError>
     requires { AllBelong (G.belongs gates.old) a.now.entries }
     ensures keeps { Keeps G.belongs G.node_value gates.old gates.new }
     ensures belongs { IfOk result (λ m. AllBelong (G.belongs gates.new) m.entries) }
+    ensures fit { OnOk result (a.now.arity ≡ 2) }
+    ensures columns { IfOk result (λ m. m.arity ≡ 2) }
+    ensures means { IfOk result (λ m. (x : ℕ → Bool) → MeansSet (G.node_value gates.new x) m
+        (turned (set_of (G.node_value gates.old x) a.now))) }
 {
     if a.arity() != 2 {
-        return a.copy(alloc);
+        return Err(AllocError);
     }
-    bool_matrix::transpose(alloc, gates, a)
+    transposed(alloc, gates, a)
 }
 
 /// The greatest number of a set's tuples.
@@ -229,53 +125,41 @@ fn all_below(a: &Matrix, end: u32) -> bool
         .all(|entry| entry.tuple.numbers().iter().all(|x| *x < end))
 }
 
-/// The pairs between which a walk leads; the set itself where its tuples are no pairs.
+/// The pairs between which a walk leads; the error of memory where the tuples are no pairs.
 fn close<G: Gates>(alloc: Global, gates: &mut G, a: &Matrix) -> Result<Matrix, AllocError>
     requires { AllBelong (G.belongs gates.old) a.now.entries }
     ensures keeps { Keeps G.belongs G.node_value gates.old gates.new }
     ensures belongs { IfOk result (λ m. AllBelong (G.belongs gates.new) m.entries) }
+    ensures fit { OnOk result (a.now.arity ≡ 2) }
+    ensures columns { IfOk result (λ m. m.arity ≡ 2) }
+    ensures means { IfOk result (λ m. (x : ℕ → Bool) → MeansSet (G.node_value gates.new x) m
+        (closure_tuples (set_of (G.node_value gates.old x) a.now))) }
 {
     let end = greatest(a).saturating_add(1);
     // No number reaches the end, which is asked again for the sake of the proof.
     if a.arity() != 2 || !all_below(a, end) {
-        return a.copy(alloc);
+        return Err(AllocError);
     }
-    closure_matrix::closure(alloc, gates, a, end as u64)
+    closed_below(alloc, gates, end as u64, a)
 }
 
-/// Adds the pair of the first number of an entry with itself.
-fn put_twice<G: Gates>(
-    alloc: Global,
-    gates: &G,
-    new: &mut Matrix,
-    entry: &Entry,
-) -> Result<(), AllocError>
-    requires new { AllBelong (G.belongs gates.now) new.old.entries }
-    requires entry { G.belongs gates.now entry.now.node }
-    ensures { AllBelong (G.belongs gates.now) new.new.entries }
+/// The pairs of each atom with itself; the error of memory where the set has more columns than one.
+fn pair_up<G: Gates>(alloc: Global, gates: &mut G, a: &Matrix) -> Result<Matrix, AllocError>
+    requires { AllBelong (G.belongs gates.old) a.now.entries }
+    ensures keeps { Keeps G.belongs G.node_value gates.old gates.new }
+    ensures belongs { IfOk result (λ m. AllBelong (G.belongs gates.new) m.entries) }
+    ensures fit { OnOk result (a.now.arity ≡ 1) }
+    ensures columns { IfOk result (λ m. m.arity ≡ 2) }
+    ensures means { IfOk result (λ m. (x : ℕ → Bool) → MeansSet (G.node_value gates.new x) m
+        (pairs_with_itself (set_of (G.node_value gates.old x) a.now))) }
 {
-    match entry.tuple.numbers().first() {
-        None => Ok(()),
-        Some(number) => {
-            let tuple = Tuple::of(alloc, &[*number, *number])?;
-            put(gates, new, tuple, entry.node)
-        }
+    if a.arity() != 1 {
+        return Err(AllocError);
     }
+    identity(alloc, gates, a)
 }
 
-/// The pairs of each atom with itself.
-fn pair_up<G: Gates>(alloc: Global, gates: &G, a: &Matrix) -> Result<Matrix, AllocError>
-    requires { AllBelong (G.belongs gates.now) a.now.entries }
-    ensures { IfOk result (λ m. AllBelong (G.belongs gates.now) m.entries) }
-{
-    let mut new = Matrix::empty(alloc, 2);
-    for entry in a.entries() {
-        put_twice(alloc, gates, &mut new, entry)?;
-    }
-    Ok(new)
-}
-
-/// What the operator gives.
+/// What the operator gives. Its error is want of memory, or that the columns don't fit the operator.
 pub fn apply<G: Gates>(
     alloc: Global,
     gates: &mut G,
@@ -287,71 +171,16 @@ pub fn apply<G: Gates>(
     requires b_belongs { AllBelong (G.belongs gates.old) b.now.entries }
     ensures keeps { Keeps G.belongs G.node_value gates.old gates.new }
     ensures belongs { IfOk result (λ m. AllBelong (G.belongs gates.new) m.entries) }
+    ensures fit { OnOk result (FitsOperator op a.now.arity b.now.arity) }
+    ensures columns { IfOk result (λ m. m.arity ≡ columns_made op a.now.arity b.now.arity) }
+    ensures means { IfOk result (λ m. (x : ℕ → Bool) → MeansSet (G.node_value gates.new x) m
+        (tuples_made op (set_of (G.node_value gates.old x) a.now) (set_of (G.node_value gates.old x) b.now))) }
 {
     match op {
         SetOperator::Combine(op) => combine(alloc, gates, op, a, b),
         SetOperator::Product => multiply(alloc, gates, a, b),
-        SetOperator::Transpose => transpose(alloc, gates, a),
+        SetOperator::Transpose => turn(alloc, gates, a),
         SetOperator::Closure => close(alloc, gates, a),
         SetOperator::Identity => pair_up(alloc, gates, a),
     }
-}
-
-/// Adds a tuple with its node where another node is true.
-fn put_masked<G: Gates>(
-    alloc: Global,
-    gates: &mut G,
-    new: &mut Matrix,
-    node: Node,
-    entry: &Entry,
-) -> Result<(), AllocError>
-    requires new { AllBelong (G.belongs gates.old) new.old.entries }
-    requires node { G.belongs gates.old node }
-    requires entry { G.belongs gates.old entry.now.node }
-    ensures keeps { Keeps G.belongs G.node_value gates.old gates.new }
-    ensures belongs { AllBelong (G.belongs gates.new) new.new.entries }
-{
-    let both = gates.and(node, entry.node)?;
-    let tuple = entry.tuple.tuple().copy(alloc)?;
-    put(gates, new, tuple, both)
-}
-
-/// The matrix whose nodes are those of another, where this node is true.
-fn masked<G: Gates>(
-    alloc: Global,
-    gates: &mut G,
-    node: Node,
-    matrix: &Matrix,
-) -> Result<Matrix, AllocError>
-    requires node { G.belongs gates.old node }
-    requires matrix { AllBelong (G.belongs gates.old) matrix.now.entries }
-    ensures keeps { Keeps G.belongs G.node_value gates.old gates.new }
-    ensures belongs { IfOk result (λ m. AllBelong (G.belongs gates.new) m.entries) }
-{
-    let mut new = Matrix::empty(alloc, matrix.arity());
-    for entry in matrix.entries() {
-        put_masked(alloc, gates, &mut new, node, entry)?;
-    }
-    Ok(new)
-}
-
-/// The first set where the node is true, else the second; the first masked where their columns
-/// differ in number.
-pub fn choose<G: Gates>(
-    alloc: Global,
-    gates: &mut G,
-    node: Node,
-    a: &Matrix,
-    b: &Matrix,
-) -> Result<Matrix, AllocError>
-    requires node { G.belongs gates.old node }
-    requires a_belongs { AllBelong (G.belongs gates.old) a.now.entries }
-    requires b_belongs { AllBelong (G.belongs gates.old) b.now.entries }
-    ensures keeps { Keeps G.belongs G.node_value gates.old gates.new }
-    ensures belongs { IfOk result (λ m. AllBelong (G.belongs gates.new) m.entries) }
-{
-    let other = gates.not(node);
-    let first = masked(alloc, gates, node, a)?;
-    let second = masked(alloc, gates, other, b)?;
-    combine(alloc, gates, RelationOp::Union, &first, &second)
 }

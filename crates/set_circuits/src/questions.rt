@@ -1,8 +1,11 @@
 // Tests of sets.
 
-ghost use Rattle.std.specs.Prelude.{◌≡◌, IfOk};
+ghost use Rattle.std.specs.Prelude.{◌≡◌, ◌↔◌, ℕ, Bool, true, IfOk};
 ghost use Rattle.gate_trait.specs.Built.{Keeps};
+ghost use Rattle.core_meaning.specs.Operators.{IsInside, IsLone};
 ghost use Rattle.bool_matrix.specs.Matrices.{AllBelong};
+ghost use Rattle.expr_encoder.specs.Sets.{set_of};
+ghost use Rattle.set_circuits.specs.Sets.{IsAnswered};
 
 use bool_matrix::Matrix;
 use gate_trait::{Gates, Node};
@@ -16,7 +19,8 @@ pub enum Question {
     Lone,
 }
 
-/// Whether the first set lies in the second; never where their columns differ in number.
+/// Whether the first set lies in the second. Its error is want of memory, or that the sets differ in
+/// their number of columns.
 fn inside<G: Gates>(
     alloc: Global,
     gates: &mut G,
@@ -27,14 +31,28 @@ fn inside<G: Gates>(
     requires b_belongs { AllBelong (G.belongs gates.old) b.now.entries }
     ensures keeps { Keeps G.belongs G.node_value gates.old gates.new }
     ensures belongs { IfOk result (λ n. G.belongs gates.new n) }
+    ensures means { IfOk result (λ n. (x : ℕ → Bool) → (G.node_value gates.new x n ≡ true)
+        ↔ IsInside (set_of (G.node_value gates.old x) a.now) (set_of (G.node_value gates.old x) b.now)) }
 {
     if a.arity() != b.arity() {
-        return Ok(gates.constant(false));
+        return Err(AllocError);
     }
     bool_matrix::inside(alloc, gates, a, b)
 }
 
-/// Whether two sets pass the test.
+/// Whether the set has at most one tuple.
+fn at_most_one<G: Gates>(alloc: Global, gates: &mut G, a: &Matrix) -> Result<Node, AllocError>
+    requires { AllBelong (G.belongs gates.old) a.now.entries }
+    ensures keeps { Keeps G.belongs G.node_value gates.old gates.new }
+    ensures belongs { IfOk result (λ n. G.belongs gates.new n) }
+    ensures means { IfOk result (λ n. (x : ℕ → Bool) → (G.node_value gates.new x n ≡ true)
+        ↔ IsLone (set_of (G.node_value gates.old x) a.now)) }
+{
+    bool_matrix::lone(alloc, gates, a)
+}
+
+/// Whether two sets pass the test. Its error is want of memory, or that the columns don't fit the
+/// test.
 pub fn ask<G: Gates>(
     alloc: Global,
     gates: &mut G,
@@ -46,10 +64,12 @@ pub fn ask<G: Gates>(
     requires b_belongs { AllBelong (G.belongs gates.old) b.now.entries }
     ensures keeps { Keeps G.belongs G.node_value gates.old gates.new }
     ensures belongs { IfOk result (λ n. G.belongs gates.new n) }
+    ensures means { IfOk result (λ n. (x : ℕ → Bool) → (G.node_value gates.new x n ≡ true)
+        ↔ IsAnswered question (set_of (G.node_value gates.old x) a.now) (set_of (G.node_value gates.old x) b.now)) }
 {
     match question {
         Question::Inside => inside(alloc, gates, a, b),
         Question::Some => bool_matrix::some(alloc, gates, a),
-        Question::Lone => bool_matrix::lone(alloc, gates, a),
+        Question::Lone => at_most_one(alloc, gates, a),
     }
 }

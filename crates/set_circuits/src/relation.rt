@@ -1,11 +1,14 @@
 // The matrices of what depends on no other expression, and parts of matrices.
 
-ghost use Rattle.std.specs.Prelude.{◌≡◌, ◌≤◌, IfOk, IsTrue, All, length};
+ghost use Rattle.std.specs.Prelude.{◌≡◌, ◌<◌, ◌||◌, ◌∷◌, [], ℕ, Bool, List, IfOk, OnOk, IsTrue, All, length};
 ghost use Rattle.tuple_sets.specs.Index.{IsNumber};
+ghost use Rattle.tuple_sets.specs.Sets.{is_same};
 ghost use Rattle.gate_trait.specs.Built.{Keeps};
-ghost use Rattle.bool_matrix.specs.Matrices.{AllBelong};
+ghost use Rattle.bool_matrix.specs.Matrices.{AllBelong, IsPut, truth};
+ghost use Rattle.expr_encoder.specs.Sets.{MeansSet};
+ghost use Rattle.set_circuits.specs.Sets.{InVariables, one_atom, from_to};
 
-use bool_matrix::Matrix;
+use bool_matrix::{Entry, Matrix, gathered};
 use gate_trait::{Gates, Node};
 use std::alloc::{AllocError, Global};
 use tuple_sets::{Tuple, TupleSet};
@@ -18,8 +21,8 @@ fn is_row(tuple: &Tuple, arity: u32) -> bool
     tuple.numbers().len() == arity as usize && tuple.numbers().iter().all(|x| *x < 16384)
 }
 
-/// Gives a tuple a node, where it has as many numbers as the matrix has columns, and none is too
-/// great.
+/// Gives a tuple a node. Its error is want of memory, or that the tuple hasn't as many numbers as the
+/// matrix has columns, or that one is too great.
 pub fn put<G: Gates>(
     gates: &G,
     matrix: &mut Matrix,
@@ -28,33 +31,18 @@ pub fn put<G: Gates>(
 ) -> Result<(), AllocError>
     requires matrix { AllBelong (G.belongs gates.now) matrix.old.entries }
     requires node { G.belongs gates.now node }
-    ensures { AllBelong (G.belongs gates.now) matrix.new.entries }
+    ensures belongs { AllBelong (G.belongs gates.now) matrix.new.entries }
+    ensures ok { OnOk result (IsPut matrix.old tuple node matrix.new) }
 {
     let _ = gates;
     if !is_row(&tuple, matrix.arity()) {
-        return Ok(());
+        return Err(AllocError);
     }
     matrix.put(tuple, node)
 }
 
-/// Adds the tuple at a place of the upper bound with its variable.
-fn put_variable<G: Gates>(
-    alloc: Global,
-    gates: &mut G,
-    matrix: &mut Matrix,
-    tuple: &Tuple,
-    variable: u64,
-) -> Result<(), AllocError>
-    requires { AllBelong (G.belongs gates.old) matrix.old.entries }
-    ensures keeps { Keeps G.belongs G.node_value gates.old gates.new }
-    ensures belongs { AllBelong (G.belongs gates.new) matrix.new.entries }
-{
-    let node = gates.input(variable)?;
-    let copy = tuple.copy(alloc)?;
-    put(gates, matrix, copy, node)
-}
-
-/// The matrix of a relation whose tuples have the variables from `first` on.
+/// The matrix of a relation whose tuples have the variables from `first` on, in order. Its error is
+/// want of memory, or that a number of a variable would be too great.
 pub fn relation_matrix<G: Gates>(
     alloc: Global,
     gates: &mut G,
@@ -63,16 +51,25 @@ pub fn relation_matrix<G: Gates>(
 ) -> Result<Matrix, AllocError>
     ensures keeps { Keeps G.belongs G.node_value gates.old gates.new }
     ensures belongs { IfOk result (λ m. AllBelong (G.belongs gates.new) m.entries) }
+    ensures columns { IfOk result (λ m. m.arity ≡ upper.now.arity) }
+    ensures means { IfOk result (λ m. (x : ℕ → Bool) → MeansSet (G.node_value gates.new x) m
+        (InVariables x upper.now.tuples first)) }
 {
-    let mut matrix = Matrix::empty(alloc, upper.arity());
-    for place in 0..upper.len() {
-        let variable = first.saturating_add(place as u64);
-        put_variable(alloc, gates, &mut matrix, upper.tuple(place), variable)?;
+    let tuples = upper.keyed();
+    if u64::MAX - first < tuples.len() as u64 {
+        return Err(AllocError);
     }
-    Ok(matrix)
+    let mut all = Vec::new(alloc);
+    for place in 0..tuples.len() {
+        let node = gates.input(first + place as u64)?;
+        let tuple = tuples[place].copy(alloc)?;
+        all.push(Entry { tuple, node })?;
+    }
+    let made = gathered(alloc, gates, upper.arity(), all)?;
+    Ok(made)
 }
 
-/// Adds the tuple of one number.
+/// Adds the tuple of one number. Its error is want of memory, or that the number is too great.
 fn put_atom<G: Gates>(
     alloc: Global,
     gates: &G,
@@ -80,20 +77,26 @@ fn put_atom<G: Gates>(
     atom: u32,
 ) -> Result<(), AllocError>
     requires { AllBelong (G.belongs gates.now) matrix.old.entries }
-    ensures { AllBelong (G.belongs gates.now) matrix.new.entries }
+    ensures belongs { AllBelong (G.belongs gates.now) matrix.new.entries }
+    ensures columns { OnOk result (matrix.new.arity ≡ matrix.old.arity) }
+    ensures truth { OnOk result ((x : ℕ → Bool) (t : List ℕ) → truth (G.node_value gates.now x) matrix.new t
+        ≡ (is_same (atom ∷ []) t || truth (G.node_value gates.now x) matrix.old t)) }
 {
     let tuple = Tuple::of(alloc, &[atom])?;
     let node = gates.constant(true);
     put(gates, matrix, tuple, node)
 }
 
-/// The matrix of one atom, or of none.
+/// The matrix of one atom, or of none. Its error is want of memory, or that the atom's number is too
+/// great.
 pub fn atom_matrix<G: Gates>(
     alloc: Global,
     gates: &G,
     atom: Option<u32>,
 ) -> Result<Matrix, AllocError>
-    ensures { IfOk result (λ m. AllBelong (G.belongs gates.now) m.entries) }
+    ensures belongs { IfOk result (λ m. AllBelong (G.belongs gates.now) m.entries) }
+    ensures columns { IfOk result (λ m. m.arity ≡ 1) }
+    ensures means { IfOk result (λ m. (x : ℕ → Bool) → MeansSet (G.node_value gates.now x) m (one_atom atom)) }
 {
     let mut matrix = Matrix::empty(alloc, 1);
     match atom {
@@ -105,16 +108,22 @@ pub fn atom_matrix<G: Gates>(
     }
 }
 
-/// The matrix of the numbers from `first` to before `end`.
+/// The matrix of the numbers from `first` to before `end`. Its error is want of memory, or that a
+/// number is too great.
 pub fn range_matrix<G: Gates>(
     alloc: Global,
     gates: &G,
     first: u32,
     end: u32,
 ) -> Result<Matrix, AllocError>
-    ensures { IfOk result (λ m. AllBelong (G.belongs gates.now) m.entries) }
+    ensures belongs { IfOk result (λ m. AllBelong (G.belongs gates.now) m.entries) }
+    ensures columns { IfOk result (λ m. m.arity ≡ 1) }
+    ensures means { IfOk result (λ m. (x : ℕ → Bool) → MeansSet (G.node_value gates.now x) m (from_to first end)) }
 {
     let mut matrix = Matrix::empty(alloc, 1);
+    if end <= first {
+        return Ok(matrix);
+    }
     for atom in first..end {
         put_atom(alloc, gates, &mut matrix, atom)?;
     }

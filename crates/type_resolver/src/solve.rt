@@ -1,6 +1,7 @@
 // The model of all loaded texts.
 
-ghost use Rattle.std.specs.Prelude.{length, IfErr};
+ghost use Rattle.std.specs.Prelude.{length, IfOk, IfErr};
+ghost use Rattle.model_test.specs.Kept.{IsModelButTypes};
 ghost use Rattle.type_resolver.specs.Refused.{IsFault};
 
 use crate::fault::ResolveFault;
@@ -11,6 +12,7 @@ use model_parts::{
     Claims, Edge, Ranks, Sources, all_appended, all_vars, call_ranks, literals, model_bodies,
     model_claims, model_commands, model_fields, model_sigs, ranked, settle_fields, type_bodies,
 };
+use model_test::keeps_model;
 use name_tables::{NameFault, Names, names};
 use root_walk::faults::{Broken, Noted};
 use root_walk::known::first_known;
@@ -162,6 +164,16 @@ fn joined(
     })
 }
 
+/// The model, where it keeps what resolved models keep. The rules of resolving make no other model; it
+/// is tested once more on the model itself, and where it did not hold the answer would be want of
+/// memory.
+fn kept(alloc: Global, model: Model) -> Result<Model, AllocError>
+    ensures { IfOk result IsModelButTypes }
+{
+    let is_kept = keeps_model(alloc, &model)?;
+    if is_kept { Ok(model) } else { Err(AllocError) }
+}
+
 /// The same, with its fault.
 fn model_of(
     alloc: Global,
@@ -169,12 +181,16 @@ fn model_of(
     names: &Names,
     hierarchy: &Hierarchy,
 ) -> Result<Model, ResolveFault>
-    ensures { IfErr result (IsFault (length loaded.now.texts)) }
+    ensures kept { IfOk result IsModelButTypes }
+    ensures fault { IfErr result (IsFault (length loaded.now.texts)) }
 {
     match modelled(alloc, loaded, names, hierarchy) {
         Err(_) => Err(ResolveFault::Memory),
         Ok(Err(noted)) => Err(refused(loaded, noted)),
-        Ok(Ok(model)) => Ok(model),
+        Ok(Ok(model)) => match kept(alloc, model) {
+            Err(_) => Err(ResolveFault::Memory),
+            Ok(model) => Ok(model),
+        },
     }
 }
 
@@ -207,13 +223,15 @@ pub fn names_of(alloc: Global, loaded: &Loaded) -> Result<Names, ResolveFault>
 }
 
 /// The model of the readings: the sigs, fields, facts, assertions and bodies of all instances and
-/// the commands of the root, in which each root is replaced by its reading.
+/// the commands of the root, in which each root is replaced by its reading. It keeps what resolved
+/// models keep, but for the rows of its fields' types, of which no clause speaks.
 ///
 /// Refused by the first broken rule: on names, then on sigs and fields, then on names in
 /// expressions and on readings, and last on calls. In each of these the earliest instance counts,
 /// then the least place, then the lower number.
 pub fn resolve(alloc: Global, loaded: &Loaded) -> Result<Model, ResolveFault>
-    ensures { IfErr result (IsFault (length loaded.now.texts)) }
+    ensures kept { IfOk result IsModelButTypes }
+    ensures fault { IfErr result (IsFault (length loaded.now.texts)) }
 {
     let names = match names_of(alloc, loaded) {
         Err(fault) => return Err(fault),

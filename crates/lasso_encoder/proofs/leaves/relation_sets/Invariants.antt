@@ -1,7 +1,12 @@
+use Rattle.gate_trait.specs.Built.{Keeps}
 use Rattle.lasso_stack.specs.Stored.{AreStored}
 use Rattle.lasso_encoder.proofs.leaves.relation_sets.Given as goal
 
 abbrev pub invariant-loop-state : goal.invariant-loop-state
 invariant-loop-state g l =
     let belongs = g.G.Gates.belongs in
-    AreStored (belongs l.gates) l.store
+    let value = g.G.Gates.node_value in
+    record {
+      keeps : Keeps belongs value l.initial.gates l.gates;
+      stored : AreStored (belongs l.gates) l.store;
+    }

@@ -1,7 +1,11 @@
 use Rattle.gate_trait.specs.Built.{AllIn}
+use Rattle.lasso_stack.proofs.RowLaws.{SpreadTo}
 use Rattle.lasso_stack.proofs.windows.spread.Given as goal
 
-abbrev pub invariant-loop-place : goal.invariant-loop-place
-invariant-loop-place g l =
+abbrev pub invariant-loop-number : goal.invariant-loop-number
+invariant-loop-number g l =
     let belongs = g.G.Gates.belongs in
-    AllIn (belongs l.gates) l.new
+    record {
+      belongs : AllIn (belongs l.gates) l.new;
+      spread : SpreadTo (g.G.Gates.node_value l.gates) l.row l.places l.new l.number;
+    }

@@ -1,5 +1,8 @@
+use Rattle.std.proofs.Common.{◌≡◌, ℕ, Bool, List, length, take, All}
+use Rattle.tuple_sets.specs.Index.{IsNumber}
 use Rattle.gate_trait.specs.Built.{Keeps}
-use Rattle.bool_matrix.specs.Matrices.{AllBelong}
+use Rattle.bool_matrix.specs.Matrices.{AllBelong, has}
+use Rattle.set_circuits.proofs.Variables.{any_variable}
 use Rattle.set_circuits.proofs.relation.relation_matrix.Given as goal
 
 abbrev pub invariant-loop-place : goal.invariant-loop-place
@@ -8,5 +11,8 @@ invariant-loop-place g l =
     let value = g.G.Gates.node_value in
     record {
       keeps : Keeps belongs value l.initial.gates l.gates;
-      belong : AllBelong (belongs l.gates) l.matrix.entries;
+      belong : AllBelong (belongs l.gates) l.all.items;
+      columns : All (λ e. length e.tuple ≡ l.fn.upper.arity) l.all.items;
+      numbers : All (λ e. All IsNumber e.tuple) l.all.items;
+      truth : (x : ℕ → Bool) (t : List ℕ) → has (value l.gates x) l.all.items t ≡ any_variable x l.first (take l.place l.tuples) t;
     }

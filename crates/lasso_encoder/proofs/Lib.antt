@@ -1,0 +1,4 @@
+pub mod LoopLaws
+pub mod DecodedLaws
+pub mod MarkLaws
+pub mod ScopeLaws

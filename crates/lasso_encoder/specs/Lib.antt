@@ -1,0 +1,4 @@
+pub mod Loops
+pub mod Table
+pub mod Numbers
+pub mod Encodes

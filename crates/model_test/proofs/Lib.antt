@@ -1,0 +1,14 @@
+pub mod NameLists
+pub mod Results
+pub mod TreeLists
+pub mod TreeForms
+pub mod Parts
+pub mod Right
+pub mod Falling
+pub mod Parameters
+pub mod Ends
+pub mod ParameterSteps
+pub mod Steps
+pub mod ArgumentSteps
+pub mod Whole
+pub mod Owners

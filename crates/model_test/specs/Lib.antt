@@ -1,0 +1,4 @@
+pub mod Names
+pub mod Fits
+pub mod Parameters
+pub mod Kept

@@ -1,0 +1,2 @@
+pub mod CountLaw
+pub mod Wrapping

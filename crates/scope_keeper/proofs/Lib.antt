@@ -1,0 +1,3 @@
+pub mod PlaceLaw
+pub mod BoundLaw
+pub mod KeepLaw

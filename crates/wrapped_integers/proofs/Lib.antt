@@ -1,0 +1,2 @@
+pub mod BitLaw
+pub mod PowLaw
