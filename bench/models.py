@@ -2,16 +2,18 @@
 """Runs every command of models, and writes a table in Markdown: the answer, the time, the memory, and what minisat and
 cadical take on the clauses that alloyc prints.
 
-usage: models.py ALLOYC FOLDER [--limit SECONDS] [--only WORD] [--solvers]
+usage: models.py ALLOYC FOLDER [--limit SECONDS] [--only WORD] [--solvers] [--stages STAGE_TIMES]
 
 FOLDER has NAME.als files; `alloyc commands` lists what each is asked. Beside a model NAME.expected may stand, whose lines
 are `N run 3:1 label SAT` or `.. UNSAT`: then the answer is compared. With --solvers the clauses are printed by a run with a
-budget of no conflict, and minisat and cadical (Debian has both) are run on them.
+budget of no conflict, and minisat and cadical (Debian has both) are run on them. With --stages the program of
+crates/stage_times is run too: numbers of gates and lemmas, and milliseconds of loading, preparing, circuit, clauses, search.
 """
 import argparse
 import os
 import re
 import resource
+import shutil
 import subprocess
 import sys
 import tempfile
@@ -73,6 +75,32 @@ def solver(words, text, limit):
     return f"{seconds:.2f}" if status in (10, 20) else "over"
 
 
+def with_library(folder):
+    """Returns a copy of a folder that has the library modules as files, since stage_times reads files alone."""
+    copy = tempfile.mkdtemp()
+    shutil.copytree(folder, copy, dirs_exist_ok=True)
+    texts = os.path.join(os.path.dirname(os.path.abspath(__file__)), "../crates/util_library/src/texts.rt")
+    with open(texts, encoding="utf-8") as file:
+        found = re.findall(r'&str = "(module (util/\w+).*?)";', file.read(), re.S)
+    os.makedirs(os.path.join(copy, "util"), exist_ok=True)
+    for text, name in found:
+        with open(os.path.join(copy, name + ".als"), "w", encoding="utf-8") as file:
+            file.write(text)
+    return copy
+
+
+def stages(program, folder, name, number, limit):
+    """Returns the numbers of gates and lemmas, and the milliseconds of each stage."""
+    figures = []
+    for kind in ("sizes", "times"):
+        status, text, _, _ = run([program, kind, name, number], limit, folder)
+        words = text.decode().split() if status == 0 else []
+        figures.append(dict(zip(words[::2], words[1::2])))
+    sizes, times = figures
+    shown = [sizes.get("gates", "-"), sizes.get("lemmas", "-")]
+    return shown + [times.get(it, "-") for it in ("load", "prepare", "circuit", "clauses", "search")]
+
+
 def main():
     parser = argparse.ArgumentParser()
     parser.add_argument("alloyc")
@@ -80,11 +108,17 @@ def main():
     parser.add_argument("--limit", type=float, default=60)
     parser.add_argument("--only", default="")
     parser.add_argument("--solvers", action="store_true")
+    parser.add_argument("--stages", default="")
     given = parser.parse_args()
     alloyc = os.path.abspath(given.alloyc)
+    program = os.path.abspath(given.stages) if given.stages else ""
+    copy = with_library(given.folder) if program else ""
     wrong, total = [], 0.0
-    print("| Model | Command | Answer | s | MB |" + (" variables | clauses | minisat s | cadical s |" if given.solvers else ""))
-    print("|---|---|---|---|---|" + ("---|---|---|---|" if given.solvers else ""))
+    solver_names = ["variables", "clauses", "minisat s", "cadical s"] if given.solvers else []
+    stage_names = ["gates", "lemmas", "load", "prepare", "circuit", "clauses", "search"] if program else []
+    names = ["Model", "Command", "Answer", "s", "MB", *solver_names, *stage_names]
+    print("| " + " | ".join(names) + " |")
+    print("|" + "---|" * len(names))
     for name in sorted(it for it in os.listdir(given.folder) if it.endswith(".als") and given.only in it):
         expected = wanted(given.folder, name)
         for command in commands(alloyc, given.folder, name):
@@ -100,6 +134,8 @@ def main():
                     row += f" {head[2].decode()} | {head[3].decode()} | {solver(['minisat', '-verb=0'], found, given.limit)} | {solver(['cadical', '-q', '-n'], found, given.limit)} |"
                 else:
                     row += " - | - | - | - |"
+            if program:
+                row += "".join(f" {it} |" for it in stages(program, copy, name, number, given.limit))
             print(row, flush=True)
             if expected.get(number, answer) != answer:
                 wrong.append(f"{name} {number}: {answer}, and not {expected[number]}")
