@@ -8,7 +8,7 @@ use Rattle.solver_trail.specs.Assignment.{Assignment, assignment, value_at, IsAs
 use Rattle.solver_trail.specs.Watched.{InClause, IsArena}
 use Rattle.solver_trail.specs.Sound.{IsFree}
 use Rattle.solver_trail.specs.State.{Search}
-use Rattle.solver_trail.specs.Reasons.{level_of, reason_of, IsReason, IsForced, ForcesMore, AreReasoned, IsPut}
+use Rattle.solver_trail.specs.Reasons.{level_of, reason_of, IsReason, IsForced, ForcesMore, AreReasoned, AreApart, IsPut}
 use Rattle.solver_trail.proofs.Assigning.{apart_from}
 use Rattle.solver_trail.proofs.Adding.{in_more, in_less, in_literals, lit_more}
 use Rattle.solver_trail.proofs.Weaving.{longer-trans, longer-length}
@@ -285,3 +285,21 @@ pub some_reason : (s : Search) (n i : ℕ) → AreReasoned s → n ≡ get_or s.
 some_reason s n i h e some j k at c =
     let is : reason_of s.assignment j ≡ n = ap (λ (x : ℕ). get_or s.assignment.reasons x 0) at ∙ sym e in
     absurd (omega (arith, is, h.chosen j k c))
+
+-- each variable keeps its place, so the true literals are of different ones
+pub apart_by_places : (trail : List ℤ) (len : ℕ) (values : List ℤ) (places : List ℕ) → IsAssigned trail len values places → AreApart (take len trail)
+apart_by_places trail len values places a j k h i e =
+    let whole : length (take len trail) ≡ len = length-take-le len trail (omega (arith, a.fits, a.same_trail)) in
+    let here : j < len = omega (arith, whole) in
+    let there : k < len = omega (arith, whole) in
+    let one : value_at (take len trail) j ≡ value_at trail j = get_or-take len trail j (pos 0) here in
+    let two : value_at (take len trail) k ≡ value_at trail k = get_or-take len trail k (pos 0) there in
+    let same : index (value_at trail j) ≡ index (value_at trail k) = sym (ap index one) ∙ (e ∙ ap index two) in
+    sym (a.place j here) ∙ (ap (λ (v : ℕ). get_or places v 0) same ∙ a.place k there)
+
+-- where the last of some levels begins
+pub last_of_front : (xs : List ℕ) (n : ℕ) → n ≤ length xs → 0 < n → get_or (take n xs) (length (take n xs) - 1) 0 ≡ get_or xs (n - 1) 0
+last_of_front xs n h some = ap (λ (m : ℕ). get_or (take n xs) (m - 1) 0) (length-take-le n xs h) ∙ get_or-take n xs (n - 1) 0 (omega (arith, some))
+
+pub last_of_none : (xs : List ℕ) (n : ℕ) → n ≡ 0 → get_or (take n xs) (length (take n xs) - 1) 0 ≡ 0
+last_of_none xs n e = ap (λ (m : ℕ). get_or (take m xs) (length (take m xs) - 1) 0) e

@@ -50,3 +50,7 @@ pub record IsPut (a b : Assignment) (l : ℤ) (level n : ℕ) : Type 0 where
   pub in_reasons : index l < length a.reasons
   pub levels : b.levels ≡ slice_set a.levels (index l) level
   pub reasons : b.reasons ≡ slice_set a.reasons (index l) n
+
+-- no two literals of a list have one variable
+abbrev pub AreApart : List ℤ → Type 0
+AreApart xs = (j k : ℕ) → j < length xs → k < length xs → index (value_at xs j) ≡ index (value_at xs k) → j ≡ k

@@ -3,7 +3,7 @@ ghost use Rattle.std.specs.List.{All, Contains};
 ghost use Rattle.trail_literals.specs.Literal.{IsLiteral};
 ghost use Rattle.trail_literals.specs.Literal as spec;
 ghost use Rattle.solver_trail.specs.Assignment.{value_at};
-ghost use Rattle.solver_trail.specs.Reasons.{IsPut};
+ghost use Rattle.solver_trail.specs.Reasons.{IsPut, AreApart};
 
 use std::alloc::{AllocError, Global};
 use std::marker::Model;
@@ -85,6 +85,7 @@ impl Assigned {
     pub fn trail(&self) -> &[i64]
         ensures trail { result.now ≡ self.now.trail }
         ensures literals { All (IsLiteral (length self.now.values)) result.now }
+        ensures apart { AreApart result.now }
     {
         &self.trail[..self.len]
     }

@@ -7,7 +7,7 @@ ghost use Rattle.solver_trail.specs.Assignment.{value_at};
 ghost use Rattle.solver_trail.specs.Watched.{IsTrueIn, IsFalseIn};
 ghost use Rattle.solver_trail.specs.Sound.{IsFree, IsOpen};
 ghost use Rattle.solver_trail.specs.State.{clause_at, Keeps, Adds};
-ghost use Rattle.solver_trail.specs.Reasons.{ForcesMore, AreReasoned, IsPut};
+ghost use Rattle.solver_trail.specs.Reasons.{ForcesMore, AreReasoned, AreApart, IsPut};
 
 use crate::add::{bound, latest, lower};
 use crate::arena::Arena;
@@ -262,13 +262,28 @@ impl Trail {
         self.assigned.values()
     }
 
-    /// The true literals in the order in which they were put. Each has its level and, unless it opened one, its reason.
+    /// The true literals in the order in which they were put, at most one of each variable. Each has its level and,
+    /// unless it opened one, its reason.
+    #[inline]
     pub fn trail(&self) -> &[i64]
         ensures trail { result.now ≡ self.now.assignment.trail }
         ensures literals { All (IsLiteral self.now.variables) result.now }
+        ensures apart { AreApart result.now }
         ensures reasoned { AreReasoned self.now }
     {
         self.assigned.trail()
+    }
+
+    /// How many literals were true when the last level was opened: 0 at level 0.
+    #[inline]
+    pub fn base(&self) -> usize
+        ensures { result ≡ slice_index self.now.limits (length self.now.limits - 1) }
+    {
+        let top = self.top;
+        if top == 0 {
+            return 0;
+        }
+        self.lens[top - 1]
     }
 
     /// The present level.
