@@ -1,8 +1,9 @@
-ghost use Rattle.std.specs.Prelude.{◌≡◌, ◌<◌, ◌≤◌, ℕ, ℤ, List, IfOk, Some, Option, IsTrue, length};
+ghost use Rattle.std.specs.Prelude.{◌≡◌, ◌-◌, ◌<◌, ◌≤◌, ℕ, ℤ, List, IfOk, Some, Option, IsTrue, length};
 ghost use Rattle.lrat_form.specs.Step.{start};
 ghost use Rattle.lemma_log.specs.Outcome.{AreLemmas, Leaves};
 ghost use Rattle.trail_literals.specs.Literal.{IsLiteral};
 ghost use Rattle.solver_trail.specs.Sound.{IsFree};
+ghost use Rattle.solver_trail.specs.Watched.{IsFalseIn};
 ghost use Rattle.lrat_form.specs.declared.line.Line.{Line};
 ghost use Rattle.lrat_form.specs.Step.{State};
 ghost use Rattle.cdcl_solver.specs.Turn.{IsTurn};
@@ -132,7 +133,7 @@ fn take_conflict<C: Chooser>(
     conflict: u64,
 ) -> Result<Turn, AllocError>
     requires analysis { analysis.old.variables ≡ trail.old.variables }
-    requires conflict { (0 < conflict) × (conflict ≤ length trail.old.ends) }
+    requires conflict { (0 < conflict) × (conflict ≤ length trail.old.ends) × IsFalseIn trail.old.literals trail.old.ends trail.old.assignment.trail (conflict - 1) }
     ensures analysis { analysis.new.variables ≡ analysis.old.variables }
     ensures variables { trail.new.variables ≡ trail.old.variables }
     ensures turn { (formula : List (List ℤ)) → AreLemmas (start formula) log.old.lines log.old.checker →
@@ -143,7 +144,7 @@ fn take_conflict<C: Chooser>(
         return Ok(Turn::Spent);
     }
     analysis.learn(trail, conflict)?;
-    bump_all(chooser, &analysis.met);
+    bump_all(chooser, analysis.met());
     keep(alloc, log, trail, analysis)
 }
 

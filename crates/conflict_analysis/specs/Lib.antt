@@ -1,0 +1,4 @@
+pub mod Noted
+pub mod Resolved
+pub mod Hints
+pub mod Learnt

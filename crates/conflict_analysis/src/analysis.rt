@@ -1,9 +1,20 @@
-ghost use Rattle.std.specs.Prelude.{◌≡◌, ◌<◌, ◌≤◌, length, vec_len, IfOk, IfSome};
+ghost use Rattle.std.specs.Prelude.{◌≡◌, ℕ, ℤ, neg_ℤ, ◌+◌, ◌-◌, ◌<◌, ◌≤◌, ◌++◌, ◌∷◌, [], List, length, IfOk, IfSome, OnOk, Option};
+ghost use Rattle.std.specs.List.{All, Contains};
 ghost use Rattle.trail_literals.specs.Literal.{IsLiteral};
+ghost use Rattle.solver_trail.specs.Assignment.{value_at};
+ghost use Rattle.solver_trail.specs.Watched.{IsFalseIn};
+ghost use Rattle.solver_trail.specs.State.{clause_at};
+ghost use Rattle.conflict_analysis.specs.Resolved.{Stands, AllFail, IsClosed};
+ghost use Rattle.conflict_analysis.specs.Hints.{IsAnalysed};
+ghost use Rattle.conflict_analysis.specs.Learnt.{IsAsserting, IsLevelBelow, IsSecond, IsLearnt};
 
+use crate::clauses::level_of;
+use crate::hints::{gather_hints, gather_places};
+use crate::minimise::part;
+use crate::noted::Noted;
+use crate::point::find_point;
 use solver_trail::Trail;
 use std::alloc::{AllocError, Global};
-use trail_literals::index;
 
 /// What one conflict teaches, with room that is kept from one conflict to the next.
 #[derive(Drop)]
@@ -17,23 +28,16 @@ pub struct Analysis {
     pub hints: Vec<u64>,
     /// The greatest level among the clause's literals but the one of the last level, or 0.
     pub back_to: u64,
-    /// The false literals that were met between the false clause and the implication point.
-    pub met: Vec<i64>,
-    /// Whether each variable has been met.
-    pub(crate) marks: Vec<bool>,
-    /// The literals that were met behind the implication point.
-    pub(crate) touched: Vec<i64>,
-    /// How many literals of the last level are met and not yet resolved away.
-    pub(crate) open: usize,
-    /// The false clause, and then the reasons of the last level, last first.
-    pub(crate) steps: Vec<u64>,
-    /// The literals of lower levels that are resolved away.
-    pub(crate) resolved: Vec<i64>,
-    /// The places of these on the trail.
-    pub(crate) places: Vec<usize>,
-    /// A bit for each level of the clause's literals, by its rest at 64.
-    pub(crate) levels: u64,
-    ghost one_mark_each: { vec_len marks ≡ variables },
+    /// The literals that were met between the false clause and the implication point, and behind them those that show
+    /// that a met one can be left out.
+    noted: Noted,
+    /// How many were met.
+    met: usize,
+    /// The met literals that are left out.
+    dropped: Vec<i64>,
+    /// The places on the trail of the literals that are resolved away.
+    places: Vec<usize>,
+    ghost one_mark_each: { noted.variables ≡ variables },
 }
 
 impl Analysis {
@@ -46,173 +50,131 @@ impl Analysis {
             literals: Vec::new(alloc),
             hints: Vec::new(alloc),
             back_to: 0,
-            met: Vec::new(alloc),
-            marks: vec![in alloc; false; variables]?,
-            touched: Vec::new(alloc),
-            open: 0,
-            steps: Vec::new(alloc),
-            resolved: Vec::new(alloc),
+            noted: Noted::new(alloc, variables)?,
+            met: 0,
+            dropped: Vec::new(alloc),
             places: Vec::new(alloc),
-            levels: 0,
         })
     }
 
-    /// Learns from a clause that is false on the trail, where every level below the last was propagated to its end.
+    /// The false literals that were met between the false clause and the implication point.
+    pub fn met(&self) -> &[i64] {
+        let literals = self.noted.literals();
+        &literals[..self.met.min(literals.len())]
+    }
+
+    /// Learns from a clause that is false on the trail.
     ///
-    /// `literals`, `hints`, `back_to` and `met` then tell what was learnt: one literal is of the last level, or the
-    /// clause is empty at level 0. The only error is want of memory.
+    /// `literals`, `hints` and `back_to` then tell what was learnt. Every literal is false on the trail, and the hints
+    /// show the clause. It is empty at level 0. Above, one literal is of the last level, where every level below was
+    /// propagated to its end. The only error is want of memory.
     pub fn learn(&mut self, trail: &Trail, conflict: u64) -> Result<(), AllocError>
         requires variables { self.old.variables ≡ trail.now.variables }
-        requires conflict { (0 < conflict) × (conflict ≤ length trail.now.ends) }
-        ensures { self.new.variables ≡ self.old.variables }
+        requires conflict { (0 < conflict) × (conflict ≤ length trail.now.ends) × IsFalseIn trail.now.literals trail.now.ends trail.now.assignment.trail (conflict - 1) }
+        ensures variables { self.new.variables ≡ self.old.variables }
+        ensures literals { OnOk result (All (IsLiteral trail.now.variables) self.new.literals.items) }
+        ensures learnt { OnOk result (IsLearnt trail.now self.new.literals.items self.new.hints.items self.new.back_to) }
     {
+        let _literals = trail.trail();
         self.clear();
-        self.find_point(trail, conflict)?;
-        self.minimise(trail)?;
-        self.find_level(trail);
-        self.gather_hints(trail)
+        self.met = resolve_all(
+            trail,
+            &mut self.noted,
+            &mut self.places,
+            &mut self.literals,
+            &mut self.dropped,
+            conflict,
+        )?;
+        self.back_to = second_level(trail, self.literals.as_slice());
+        gather_hints(trail, &mut self.places, &mut self.hints, conflict)?;
+        Ok(())
     }
 
-    /// Takes back all marks, and what was learnt.
+    /// Forgets what was learnt.
     fn clear(&mut self)
-        ensures { self.new.variables ≡ self.old.variables }
+        ensures variables { self.new.variables ≡ self.old.variables }
+        ensures noted { self.new.noted.literals ≡ [] }
+        ensures places { self.new.places.items ≡ [] }
+        ensures literals { (self.new.literals.items ≡ []) × (self.new.dropped.items ≡ []) }
+        ensures hints { self.new.hints.items ≡ [] }
     {
-        unmark(&mut self.marks, &self.met);
-        unmark(&mut self.marks, &self.touched);
+        self.noted.cut(0);
         self.literals.clear();
         self.hints.clear();
-        self.back_to = 0;
-        self.met.clear();
-        self.touched.clear();
-        self.open = 0;
-        self.steps.clear();
-        self.resolved.clear();
+        self.dropped.clear();
         self.places.clear();
-        self.levels = 0;
-    }
-
-    /// Whether a literal's variable has been met.
-    #[inline]
-    pub(crate) fn is_marked(&self, literal: i64) -> bool
-        requires { IsLiteral self.now.variables literal }
-    {
-        self.marks[index(literal)]
-    }
-
-    /// The greatest level among the literals but that of the last level.
-    fn find_level(&mut self, trail: &Trail)
-        requires { self.old.variables ≡ trail.now.variables }
-        ensures { self.new.variables ≡ self.old.variables }
-    {
-        let top = trail.top();
-        let mut greatest = 0;
-        for literal in &self.literals {
-            let level = level_of(trail, *literal);
-            if level < top && level > greatest {
-                greatest = level;
-            }
-        }
-        self.back_to = greatest;
-    }
-
-    /// Makes the hints: the reasons of the lower levels in the order of the trail, those of the last level, and the
-    /// false clause.
-    fn gather_hints(&mut self, trail: &Trail) -> Result<(), AllocError>
-        requires { self.old.variables ≡ trail.now.variables }
-        ensures { self.new.variables ≡ self.old.variables }
-    {
-        gather_places(trail, &self.resolved, &mut self.places)?;
-        self.places.sort_unstable();
-        gather_reasons(trail, &self.places, &mut self.hints)?;
-        push_reversed(&self.steps, &mut self.hints)
     }
 }
 
-/// Takes back the marks of some literals.
-pub(crate) fn unmark(marks: &mut [bool], literals: &[i64])
-    ensures { length marks.new ≡ length marks.old }
-{
-    for literal in literals {
-        let number = literal.unsigned_abs() as usize;
-        if number >= 1 && number <= marks.len() {
-            marks[number - 1] = false;
-        }
-    }
-}
-
-/// The number of a literal's variable, where the trail has it.
-#[inline]
-fn variable_of(trail: &Trail, literal: i64) -> Option<u64>
-    ensures variable { IfSome result (λ v. (0 < v) × (v ≤ trail.now.variables)) }
-    ensures literal { IfSome result (λ _. IsLiteral trail.now.variables literal) }
-{
-    let number = literal.unsigned_abs();
-    if number == 0 || number > trail.values().len() as u64 {
-        None
-    } else {
-        Some(number)
-    }
-}
-
-/// The level of a literal's variable, or 0.
-#[inline]
-pub(crate) fn level_of(trail: &Trail, literal: i64) -> u64 {
-    match variable_of(trail, literal) {
-        Some(variable) => trail.level(variable),
-        None => 0,
-    }
-}
-
-/// The reason of a literal's variable.
-#[inline]
-pub(crate) fn reason_of(trail: &Trail, literal: i64) -> Option<u64>
-    ensures { IfSome result (λ n. (0 < n) × (n ≤ length trail.now.ends)) }
-{
-    match variable_of(trail, literal) {
-        Some(variable) => trail.reason(variable),
-        None => None,
-    }
-}
-
-/// Where the negation of a false literal stands on the trail.
-fn place_of(trail: &Trail, literal: i64) -> Option<usize> {
-    match variable_of(trail, literal) {
-        Some(_) => Some(trail.place(literal)),
-        None => None,
-    }
-}
-
-/// Adds some numbers from the last to the first.
-fn push_reversed(numbers: &[u64], items: &mut Vec<u64>) -> Result<(), AllocError> {
-    for number in numbers.iter().rev() {
-        items.push(*number)?;
-    }
-    Ok(())
-}
-
-/// Adds the places of false literals on the trail.
-fn gather_places(
+/// Resolves a false clause up to its implication point, and leaves out what others force. It gives how many literals
+/// were met up to the point.
+fn resolve_all(
     trail: &Trail,
-    literals: &[i64],
+    noted: &mut Noted,
     places: &mut Vec<usize>,
-) -> Result<(), AllocError> {
-    for literal in literals {
-        if let Some(place) = place_of(trail, *literal) {
-            places.push(place)?;
-        }
-    }
-    Ok(())
+    learnt: &mut Vec<i64>,
+    dropped: &mut Vec<i64>,
+    conflict: u64,
+) -> Result<usize, AllocError>
+    requires trail { Stands trail.now }
+    requires variables { noted.old.variables ≡ trail.now.variables }
+    requires conflict { (0 < conflict) × (conflict ≤ length trail.now.ends) × IsFalseIn trail.now.literals trail.now.ends trail.now.assignment.trail (conflict - 1) }
+    requires none { (noted.old.literals ≡ []) × (places.old.items ≡ []) × (learnt.old.items ≡ []) × (dropped.old.items ≡ []) }
+    ensures variables { noted.new.variables ≡ noted.old.variables }
+    ensures literals { OnOk result (All (IsLiteral trail.now.variables) learnt.new.items) }
+    ensures analysed { OnOk result (IsAnalysed trail.now (clause_at trail.now (conflict - 1)) noted.new.literals learnt.new.items places.new.items) }
+    ensures asserting { OnOk result (IsAsserting trail.now learnt.new.items) }
+{
+    let point = find_point(trail, noted, places, conflict)?;
+    let met = noted.len();
+    part(trail, noted, learnt, dropped)?;
+    gather_places(trail, dropped.as_slice(), 0, places)?;
+    gather_places(trail, noted.literals(), met, places)?;
+    close(trail, point, learnt)?;
+    Ok(met)
 }
 
-/// Adds the reasons of the literals at some places of the trail.
-fn gather_reasons(trail: &Trail, places: &[usize], hints: &mut Vec<u64>) -> Result<(), AllocError> {
-    let literals = trail.trail();
-    for place in places {
-        if *place < literals.len()
-            && let Some(reason) = reason_of(trail, literals[*place])
-        {
-            hints.push(reason)?;
+/// Adds the negation of the literal at the point, if there is one.
+fn close(trail: &Trail, point: Option<usize>, learnt: &mut Vec<i64>) -> Result<(), AllocError>
+    requires { IfSome point (λ place. place < length trail.now.assignment.trail) }
+    ensures { OnOk result (IsClosed trail.now point learnt.old.items learnt.new.items) }
+{
+    match point {
+        Some(place) => {
+            learnt.push(negation_at(trail, place))?;
+            Ok(())
         }
+        None => Ok(()),
     }
-    Ok(())
+}
+
+/// The negation of the true literal at a place.
+fn negation_at(trail: &Trail, place: usize) -> i64
+    requires { place < length trail.now.assignment.trail }
+    ensures { result ≡ neg_ℤ (value_at trail.now.assignment.trail place) }
+{
+    let _values = trail.values();
+    -trail.trail()[place]
+}
+
+/// The greatest level among the literals below the last level, or 0.
+fn second_level(trail: &Trail, literals: &[i64]) -> u64
+    requires { All (IsLiteral trail.now.variables) literals.now }
+    ensures { IsSecond trail.now literals.now result }
+{
+    let top = trail.top();
+    let mut second = 0;
+    for place in 0..literals.len() {
+        second = second.max(level_below(trail, literals[place], top));
+    }
+    second
+}
+
+/// The level of a literal, where it is below a bound, or 0.
+fn level_below(trail: &Trail, literal: i64, bound: u64) -> u64
+    requires { IsLiteral trail.now.variables literal }
+    ensures { IsLevelBelow trail.now literal bound result }
+{
+    let level = level_of(trail, literal);
+    if level < bound { level } else { 0 }
 }

@@ -6,7 +6,10 @@
 #![tactic(auto)]
 
 mod analysis;
+mod clauses;
+mod hints;
 mod minimise;
+mod noted;
 mod point;
 #[cfg(test)]
 mod tests;

@@ -1,93 +1,139 @@
-ghost use Rattle.std.specs.Prelude.{◌≡◌, ◌<◌, ◌≤◌, length};
+ghost use Rattle.std.specs.Prelude.{◌≡◌, ℕ, ℤ, ◌+◌, ◌-◌, ◌<◌, ◌≤◌, ◌↔◌, [], List, length, IfOk, OnOk, IsTrue, IsFalse};
+ghost use Rattle.solver_trail.specs.Watched.{IsFalseIn};
+ghost use Rattle.solver_trail.specs.State.{clause_at};
+ghost use Rattle.std.specs.List.{All};
 ghost use Rattle.trail_literals.specs.Literal.{IsLiteral};
+ghost use Rattle.conflict_analysis.specs.Resolved.{Stands, base, IsMet, IsMetIn, IsBack, IsFound};
 
-use crate::analysis::{Analysis, level_of, reason_of};
+use crate::clauses::{note_clause, reason_of};
+use crate::noted::Noted;
 use solver_trail::Trail;
 use std::alloc::AllocError;
-use trail_literals::index;
 
-impl Analysis {
-    /// Resolves from a false clause back to the first unique implication point.
-    pub(crate) fn find_point(&mut self, trail: &Trail, conflict: u64) -> Result<(), AllocError>
-        requires variables { self.old.variables ≡ trail.now.variables }
-        requires conflict { (0 < conflict) × (conflict ≤ length trail.now.ends) }
-        ensures { self.new.variables ≡ self.old.variables }
-    {
-        self.take_clause(trail, conflict)?;
-        self.go_back(trail)
-    }
+/// Whether the variable of the literal at a place was noted.
+#[inline]
+fn is_met(literals: &[i64], noted: &Noted, place: usize) -> bool
+    requires literals { All (IsLiteral noted.now.variables) literals.now }
+    requires within { place < length literals.now }
+    ensures { IsTrue result ↔ IsMetIn literals.now noted.now.literals place }
+{
+    noted.has(literals[place])
+}
 
-    /// Goes back over the trail, and resolves the marked literals away, up to one that is alone in the last level.
-    fn go_back(&mut self, trail: &Trail) -> Result<(), AllocError>
-        requires { self.old.variables ≡ trail.now.variables }
-        ensures { self.new.variables ≡ self.old.variables }
-    {
-        let literals = trail.trail();
-        for place in (0..literals.len()).rev() {
-            if self.open == 0 {
-                return Ok(());
-            }
-            let literal = literals[place];
-            if self.is_marked(literal) {
-                self.resolve(trail, literal)?;
-            }
+/// Whether such a variable was noted from one place on and below another.
+fn is_any_met(literals: &[i64], noted: &Noted, from: usize, to: usize) -> bool
+    requires literals { All (IsLiteral noted.now.variables) literals.now }
+    requires within { to ≤ length literals.now }
+    ensures some { IsTrue result → (j : ℕ) × (from ≤ j) × (j < to) × IsMetIn literals.now noted.now.literals j }
+    ensures none { IsFalse result → (j : ℕ) → from ≤ j → j < to → IsMetIn literals.now noted.now.literals j → ⊥ }
+{
+    let mut place = to;
+    'down: while place > from {
+        if is_met(literals, noted, place - 1) {
+            return true;
         }
-        Ok(())
+        place -= 1;
     }
+    false
+}
 
-    /// Takes a marked literal of the last level: the last one is learnt, another is resolved away.
-    fn resolve(&mut self, trail: &Trail, literal: i64) -> Result<(), AllocError>
-        requires variables { self.old.variables ≡ trail.now.variables }
-        requires literal { IsLiteral trail.now.variables literal }
-        ensures { self.new.variables ≡ self.old.variables }
-    {
-        self.open = self.open.saturating_sub(1);
-        if self.open == 0 && trail.top() > 0 {
-            if let Some(negation) = literal.checked_neg() {
-                self.literals.push(negation)?;
-            }
-            return Ok(());
-        }
-        if let Some(reason) = reason_of(trail, literal) {
-            return self.take_clause(trail, reason);
-        }
-        Ok(())
+/// Whether no variable before a place was noted in the last level, which is above 0.
+fn is_alone(trail: &Trail, literals: &[i64], noted: &Noted, place: usize) -> bool
+    requires trail { Stands trail.now × (literals.now ≡ trail.now.assignment.trail) }
+    requires variables { noted.now.variables ≡ trail.now.variables }
+    requires within { place < length trail.now.assignment.trail }
+    ensures alone { IsTrue result → (0 < length trail.now.limits) × ((j : ℕ) → base trail.now ≤ j → j < place → IsMet trail.now noted.now.literals j → ⊥) }
+    ensures other { IsFalse result → 0 < length trail.now.limits → (j : ℕ) × (base trail.now ≤ j) × (j < place) × IsMet trail.now noted.now.literals j }
+{
+    if trail.top() == 0 {
+        return false;
     }
+    if is_any_met(literals, noted, trail.base(), place) {
+        return false;
+    }
+    true
+}
 
-    /// Takes the literals of a clause that have not been met.
-    fn take_clause(&mut self, trail: &Trail, number: u64) -> Result<(), AllocError>
-        requires variables { self.old.variables ≡ trail.now.variables }
-        requires number { (0 < number) × (number ≤ length trail.now.ends) }
-        ensures { self.new.variables ≡ self.old.variables }
-    {
-        self.steps.push(number)?;
-        let literals = trail.clause(number);
-        for place in 0..literals.len() {
-            let literal = literals[place];
-            if !self.is_marked(literal) {
-                self.meet(trail, literal)?;
-            }
+/// Resolves with the reason of the true literal at a place of the last level, where it didn't open that level.
+fn resolve(
+    trail: &Trail,
+    literals: &[i64],
+    noted: &mut Noted,
+    places: &mut Vec<usize>,
+    place: usize,
+) -> Result<(), AllocError>
+    requires trail { Stands trail.now × (literals.now ≡ trail.now.assignment.trail) }
+    requires variables { noted.old.variables ≡ trail.now.variables }
+    requires within { (base trail.now ≤ place) × (place < length trail.now.assignment.trail) }
+    requires met { IsMet trail.now noted.old.literals place }
+    requires below { 0 < length trail.now.limits → (j : ℕ) × (base trail.now ≤ j) × (j < place) × IsMet trail.now noted.old.literals j }
+    ensures variables { noted.new.variables ≡ noted.old.variables }
+    ensures back { (clause : List ℤ) → IsBack trail.now clause noted.old.literals places.old.items (place + 1) →
+        OnOk result (IsBack trail.now clause noted.new.literals places.new.items place) }
+{
+    match reason_of(trail, literals[place]) {
+        Some(reason) => {
+            note_clause(trail, noted, reason)?;
+            places.push(place)?;
+            Ok(())
         }
-        Ok(())
+        None => Ok(()),
     }
+}
 
-    /// Meets a false literal: of the last level it is to be resolved away or learnt, of level 0 it is to be resolved
-    /// away, of a level between it is learnt.
-    fn meet(&mut self, trail: &Trail, literal: i64) -> Result<(), AllocError>
-        requires variables { self.old.variables ≡ trail.now.variables }
-        requires literal { IsLiteral trail.now.variables literal }
-        ensures { self.new.variables ≡ self.old.variables }
-    {
-        self.met.push(literal)?;
-        self.marks[index(literal)] = true;
-        let level = level_of(trail, literal);
-        if level == trail.top() {
-            self.open = self.open.saturating_add(1);
-        } else if level == 0 {
-            self.resolved.push(literal)?;
-        } else {
-            self.literals.push(literal)?;
-        }
-        Ok(())
+/// Resolves with the reason of the true literal at a place of the last level, if its variable was noted. It does
+/// nothing and answers true where there is no other noted one before it in the last level, which is above 0.
+fn take_place(
+    trail: &Trail,
+    literals: &[i64],
+    noted: &mut Noted,
+    places: &mut Vec<usize>,
+    place: usize,
+) -> Result<bool, AllocError>
+    requires trail { Stands trail.now × (literals.now ≡ trail.now.assignment.trail) }
+    requires variables { noted.old.variables ≡ trail.now.variables }
+    requires within { (base trail.now ≤ place) × (place < length trail.now.assignment.trail) }
+    ensures variables { noted.new.variables ≡ noted.old.variables }
+    ensures same { IfOk result (λ found. IsTrue found → (noted.new.literals ≡ noted.old.literals) × (places.new.items ≡ places.old.items)) }
+    ensures point { IfOk result (λ found. IsTrue found →
+        (0 < length trail.now.limits) × IsMet trail.now noted.old.literals place × ((j : ℕ) → base trail.now ≤ j → j < place → IsMet trail.now noted.old.literals j → ⊥)) }
+    ensures back { (clause : List ℤ) → IsBack trail.now clause noted.old.literals places.old.items (place + 1) →
+        IfOk result (λ found. IsFalse found → IsBack trail.now clause noted.new.literals places.new.items place) }
+{
+    if !is_met(literals, noted, place) {
+        return Ok(false);
     }
+    if is_alone(trail, literals, noted, place) {
+        return Ok(true);
+    }
+    resolve(trail, literals, noted, places, place)?;
+    Ok(false)
+}
+
+/// Resolves from a false clause back to the first unique implication point, and gives its place on the trail, if there
+/// is one. The places of the literals that are resolved away are added to `places`.
+pub(crate) fn find_point(
+    trail: &Trail,
+    noted: &mut Noted,
+    places: &mut Vec<usize>,
+    conflict: u64,
+) -> Result<Option<usize>, AllocError>
+    requires trail { Stands trail.now }
+    requires variables { noted.old.variables ≡ trail.now.variables }
+    requires conflict { (0 < conflict) × (conflict ≤ length trail.now.ends) × IsFalseIn trail.now.literals trail.now.ends trail.now.assignment.trail (conflict - 1) }
+    requires none { (noted.old.literals ≡ []) × (places.old.items ≡ []) }
+    ensures variables { noted.new.variables ≡ noted.old.variables }
+    ensures found { IfOk result (IsFound trail.now (clause_at trail.now (conflict - 1)) noted.new.literals places.new.items) }
+{
+    note_clause(trail, noted, conflict)?;
+    let literals = trail.trail();
+    let base = trail.base();
+    let mut place = literals.len();
+    'back: while place > base {
+        if take_place(trail, literals, noted, places, place - 1)? {
+            return Ok(Some(place - 1));
+        }
+        place -= 1;
+    }
+    Ok(None)
 }

@@ -1,0 +1,7 @@
+pub mod Noting
+pub mod Trailing
+pub mod Stepping
+pub mod Parting
+pub mod Passing
+pub mod Gathering
+pub mod Taking
