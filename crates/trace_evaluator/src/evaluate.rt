@@ -1,10 +1,17 @@
 // What is asked of a model on a lasso.
 
+ghost use Rattle.std.specs.Prelude.{◌↔◌, IfOk, IsTrue};
+ghost use Rattle.core_tree.specs.Trees.{term_of, claim_of};
+ghost use Rattle.core_meaning.specs.Meaning.{no_names};
+ghost use Rattle.core_meaning.specs.Satisfied.{HoldsAt, InTermAt};
+ghost use Rattle.set_operators.specs.SetOf.{IsSetOf};
+
 use core_meaning::{Lasso, Scope, Scopes};
 use core_tree::{Expr, Formula, Model};
+use evaluation_steps::{DEEP, claim_place, copy_of, judge_of, term_place};
 use set_operators::EvaluationFault;
 use std::alloc::{AllocError, Global};
-use tree_evaluator::{DEEP, claim_place, holds_in, judge_of, owned, term_place, tuples_in};
+use tree_evaluator::{holds_in, tuples_in};
 use tuple_sets::TupleSet;
 
 /// Whether a formula holds, or why that isn't known.
@@ -15,7 +22,9 @@ fn judged(
     lasso: &Lasso,
     formula: &Formula,
     position: u64,
-) -> Result<bool, EvaluationFault> {
+) -> Result<bool, EvaluationFault>
+    ensures { IfOk result (λ b. IsTrue b ↔ HoldsAt model.now scopes.now lasso.now (claim_of formula.now) no_names position) }
+{
     let judge = judge_of(alloc, model, scopes, lasso)?;
     let place = claim_place(&judge, formula, position)?;
     holds_in(&judge, formula, &Scope::Empty, place, DEEP)
@@ -23,10 +32,10 @@ fn judged(
 
 /// Whether a closed formula of the model holds at a position of the lasso's infinite sequence.
 ///
-/// The lasso has one set for each sig and field of the model, with its columns and numbers of the
-/// universe alone; the scopes have an entry for each sig, and a body's rank is above that of each
-/// body that it calls. Where that isn't so, a set is asked for that has tuples of two lengths, or
-/// past operators nest more than a million deep, the answer is that of want of memory.
+/// The answer is that of want of memory, too, where some body's rank isn't above that of each body
+/// that it calls, where past operators nest more than a million deep, where the universe has more
+/// than 16,384 numbers, and where a set would have tuples of two lengths, of no number or of more
+/// than nine. No other answer is given there, and every answer is right.
 pub fn holds(
     alloc: Global,
     model: &Model,
@@ -34,7 +43,9 @@ pub fn holds(
     lasso: &Lasso,
     formula: &Formula,
     position: u64,
-) -> Result<bool, AllocError> {
+) -> Result<bool, AllocError>
+    ensures { IfOk result (λ b. IsTrue b ↔ HoldsAt model.now scopes.now lasso.now (claim_of formula.now) no_names position) }
+{
     match judged(alloc, model, scopes, lasso, formula, position) {
         Ok(truth) => Ok(truth),
         Err(_) => Err(AllocError),
@@ -49,15 +60,17 @@ fn found(
     lasso: &Lasso,
     expr: &Expr,
     position: u64,
-) -> Result<TupleSet, EvaluationFault> {
+) -> Result<TupleSet, EvaluationFault>
+    ensures { IfOk result (λ set. IsSetOf set (InTermAt model.now scopes.now lasso.now (term_of expr.now) no_names position)) }
+{
     let judge = judge_of(alloc, model, scopes, lasso)?;
     let place = term_place(&judge, expr, position)?;
     let set = tuples_in(&judge, expr, &Scope::Empty, place, DEEP)?;
-    owned(alloc, set)
+    copy_of(alloc, &set)
 }
 
-/// The tuples of a closed expression of the model at a position of the lasso's infinite sequence,
-/// under the conditions of `holds`.
+/// The tuples of a closed expression of the model at a position of the lasso's infinite sequence:
+/// just those of its meaning, or the answer of want of memory where `holds` gives it.
 pub fn tuples(
     alloc: Global,
     model: &Model,
@@ -65,7 +78,9 @@ pub fn tuples(
     lasso: &Lasso,
     expr: &Expr,
     position: u64,
-) -> Result<TupleSet, AllocError> {
+) -> Result<TupleSet, AllocError>
+    ensures { IfOk result (λ set. IsSetOf set (InTermAt model.now scopes.now lasso.now (term_of expr.now) no_names position)) }
+{
     match found(alloc, model, scopes, lasso, expr, position) {
         Ok(set) => Ok(set),
         Err(_) => Err(AllocError),

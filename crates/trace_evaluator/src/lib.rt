@@ -5,11 +5,11 @@
 pub mod declarations;
 pub mod evaluate;
 pub mod fields;
-pub mod kept;
+pub mod sigs;
 
 pub use declarations::declared;
 pub use evaluate::{holds, tuples};
-pub use kept::keeps;
+pub use scope_keeper::keeps;
 
 #[cfg(test)]
 mod tests;

@@ -1,0 +1,9 @@
+pub mod TimeLaw
+pub mod CallLaw
+pub mod ChoiceLaw
+pub mod RowLaw
+pub mod SumLaw
+pub mod FitsLaw
+pub mod NameLaw
+pub mod Cases
+pub mod ListCases

@@ -1,0 +1,4 @@
+use Rattle.tree_evaluator.proofs.walk.Walk.+enter_term.Given as goal
+
+abbrev pub decreases-enter_term : goal.decreases-enter_term
+decreases-enter_term g l = l.deep
