@@ -27,15 +27,22 @@ fn trail_of(rt: &impl AllocGlobal, text: &[u8], one: i64, two: i64) -> Result<Tr
     Ok(trail)
 }
 
+/// What is learnt from a trail where a clause is false, or becomes false as it is propagated.
+fn learnt_on(rt: &impl AllocGlobal, trail: &mut Trail) -> Result<Analysis, Fail> {
+    let mut analysis = Analysis::new(rt.alloc(), trail.values().len())?;
+    match trail.propagate() {
+        Some(conflict) => {
+            analysis.learn(trail, conflict)?;
+            Ok(analysis)
+        }
+        None => Err("no clause is false")?,
+    }
+}
+
 /// What is learnt from clauses once two literals were assigned in turn.
 fn learnt(rt: &impl AllocGlobal, text: &[u8], one: i64, two: i64) -> Result<Analysis, Fail> {
     let mut trail = trail_of(rt, text, one, two)?;
-    let mut analysis = Analysis::new(rt.alloc(), trail.values().len())?;
-    let Some(conflict) = trail.propagate() else {
-        return Err("no clause is false")?;
-    };
-    analysis.learn(&trail, conflict)?;
-    Ok(analysis)
+    learnt_on(rt, &mut trail)
 }
 
 #[test]
