@@ -1,7 +1,8 @@
 -- Labels under which a text is that of one lasso, and the lassos that fit them.
 use Rattle.std.specs.Prelude.{◌≡◌, ℕ, ◌<◌, ◌^◌, Bool, false, ◌||◌, eqb, List, [], ◌∷◌, ◌++◌, length, Contains, All, Some, slice_get}
 use Rattle.std.specs.List.{list_any}
-use Rattle.tuple_sets.specs.Sets.{TupleList}
+use Rattle.line_words.specs.Words.{is_feed}
+use Rattle.tuple_sets.specs.Sets.{TupleList, IsTupleSet}
 use Rattle.core_meaning.specs.Sequence.{LassoValue}
 use Rattle.trace_form.specs.declared.label.Shown.{Shown}
 use Rattle.trace_form.specs.declared.label.Shown.TheVariants.{Line, Nothing, Just}
@@ -53,3 +54,18 @@ pub record FitsLabels (labels : Labels) (lasso : LassoValue) : Type 0 where
   pub states : All (FitsState labels) lasso.states
   pub count : length lasso.states < 2 ^ 32
   pub loop_start : lasso.loop_start < 2 ^ 32
+
+abbrev pub HasNoFeed : List ℕ → Type 0
+HasNoFeed text = list_any is_feed text ≡ false
+
+-- labels of a right form, of which none has a line feed, nor has the text of an atom
+pub record HasLines (labels : Labels) : Type 0 where
+  pub form : HasForm labels
+  pub texts : All HasNoFeed labels.atoms
+  pub names : All (λ (r : RelationLabel). HasNoFeed r.label) labels.relations
+
+-- a lasso that fits the labels: each set of it is a set of tuples, and its loop index is below the number of its states
+pub record IsLassoOf (labels : Labels) (lasso : LassoValue) : Type 0 where
+  pub fits : FitsLabels labels lasso
+  pub sets : All (λ state. All IsTupleSet state) lasso.states
+  pub start : lasso.loop_start < length lasso.states
