@@ -70,7 +70,7 @@ commas_feed atoms none columns [] each = refl
 commas_feed atoms none columns (t ∷ ts) each =
     no_feed_in_both (codes ", " ++ tuple_text atoms t) (commas atoms ts) (no_feed_in_both (codes ", ") (tuple_text atoms t) refl (tuple_feed atoms none t each.0.places)) (commas_feed atoms none columns ts each.1)
 
-tuples_feed : (atoms : List (List ℕ)) → AllByRecursion HasNoFeed atoms → (columns : ℕ) (ts : List (List ℕ)) → AllByRecursion (IsTuple atoms columns) ts → list_any is_feed (tuples_text atoms ts) ≡ false
+pub tuples_feed : (atoms : List (List ℕ)) → AllByRecursion HasNoFeed atoms → (columns : ℕ) (ts : List (List ℕ)) → AllByRecursion (IsTuple atoms columns) ts → list_any is_feed (tuples_text atoms ts) ≡ false
 tuples_feed atoms none columns [] each = refl
 tuples_feed atoms none columns (t ∷ ts) each =
     no_feed_in_both (codes " " ++ tuple_text atoms t) (commas atoms ts) (no_feed_in_both (codes " ") (tuple_text atoms t) refl (tuple_feed atoms none t each.0.places)) (commas_feed atoms none columns ts each.1)

@@ -6,3 +6,5 @@ mod Whole
 mod Fits
 mod Local
 mod Sound
+mod Progress
+mod Built

@@ -83,7 +83,7 @@ line_off {A} f (line ∷ next ∷ more) others n k e = by_found (f line) refl e
       λ agree. let there = alike_next 0 line next more others agree in ap (λ ls. on_line f ls n) there.is ∙ ap (after_line (there.next ∷ there.more) n) found ∙ e,
     )
 
-line_on : {A : Type 0} (f : List ℕ → Option A) (lines : List (List ℕ)) (n : ℕ) (a : A) (rest : List (List ℕ)) (m : ℕ) → on_line f lines n ≡ on a rest m
+pub line_on : {A : Type 0} (f : List ℕ → Option A) (lines : List (List ℕ)) (n : ℕ) (a : A) (rest : List (List ℕ)) (m : ℕ) → on_line f lines n ≡ on a rest m
     → (line next : List ℕ) × (more : List (List ℕ)) × (lines ≡ line ∷ next ∷ more) × (f line ≡ Some a) × (rest ≡ next ∷ more) × (m ≡ suc n)
 line_on f [] n a rest m e = cc
 line_on f (line ∷ []) n a rest m e = cc

@@ -153,7 +153,7 @@ relations_again labels are state sets (r ∷ rs) rest n each =
 abbrev pub ArePlaced : List RelationLabel → Type 0
 ArePlaced rs = (k : ℕ) → k < length rs → (r : RelationLabel) × Contains rs r × (r.place ≡ k)
 
-first_of : (rs : List RelationLabel) (k : ℕ) (r : RelationLabel) → Contains rs r → r.place ≡ k → order_of rs k < length rs
+pub first_of : (rs : List RelationLabel) (k : ℕ) (r : RelationLabel) → Contains rs r → r.place ≡ k → order_of rs k < length rs
 first_of [] k r (i, lt, e) same = absurd (omega arith)
 first_of (x ∷ rs) k r there same = by_test (eqb x.place k) refl there (λ later. first_of rs k r later same)
   where
@@ -210,7 +210,7 @@ state_again labels are placed i state rest n few has =
 
 -- ---- the states
 
-abbrev from_text : Labels → ℕ → List (List TupleList) → List ℕ
+abbrev pub from_text : Labels → ℕ → List (List TupleList) → List ℕ
 from_text labels i [] = []
 from_text labels i (state ∷ states) = state_text labels i state ++ from_text labels (suc i) states
 
@@ -224,7 +224,7 @@ split_text labels vs (suc n) h =
     ∙ ap (λ xs. states_text labels vs n ++ from_text labels n xs) (sym next)
     ∙ split_text labels vs n (omega arith)
 
-whole_text : (labels : Labels) (vs : List (List TupleList)) → states_text labels vs (length vs) ≡ from_text labels 0 vs
+pub whole_text : (labels : Labels) (vs : List (List TupleList)) → states_text labels vs (length vs) ≡ from_text labels 0 vs
 whole_text labels vs =
     sym (append-nil (states_text labels vs (length vs)))
     ∙ ap (λ xs. states_text labels vs (length vs) ++ from_text labels (length vs) xs) (sym (drop_all (length vs) vs (omega arith)))
@@ -246,7 +246,7 @@ states_again labels are placed (state ∷ states) before i rest n few each =
 
 -- ---- a lasso
 
-abbrev header_line : ℕ → ℕ → List ℕ
+abbrev pub header_line : ℕ → ℕ → List ℕ
 header_line count start = codes "trace states " ++ decimal count ++ codes " loop " ++ decimal start
 
 header_again : (count start : ℕ) → start < count → count < 2 ^ 32 → header_of (header_line count start) ≡ Some (count, start)
@@ -266,7 +266,7 @@ header_again count start less few =
     ∙ ap (counts (Some count)) (decimal_again 4294967295 start (omega arith) (omega arith))
     ∙ ap (λ b. cond b (Some (count, start)) None) (lt-ltb start count less)
 
-header_feeds : (count start : ℕ) → count < 2 ^ 32 → start < 2 ^ 32 → list_any is_feed (header_line count start) ≡ false
+pub header_feeds : (count start : ℕ) → count < 2 ^ 32 → start < 2 ^ 32 → list_any is_feed (header_line count start) ≡ false
 header_feeds count start h k =
     no_feed_in_both (codes "trace states " ++ decimal count ++ codes " loop ") (decimal start)
     (no_feed_in_both (codes "trace states " ++ decimal count) (codes " loop ") (no_feed_in_both (codes "trace states ") (decimal count) refl (none_in_decimal is_feed count digit_no_feed (omega arith))) refl)

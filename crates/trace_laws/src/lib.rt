@@ -10,8 +10,8 @@ ghost use Rattle.core_meaning.specs.Sequence.{LassoValue};
 ghost use Rattle.trace_form.specs.Text.{trace_text, tuples_text};
 ghost use Rattle.trace_form.specs.declared.label.Labels.{Labels};
 ghost use Rattle.trace_form.specs.declared.label.RelationLabel.{RelationLabel};
-ghost use Rattle.trace_laws.specs.Form.{HasForm, HasLines, FitsLabels, IsLassoOf};
-ghost use Rattle.trace_laws.specs.Fault.{AgreeTo};
+ghost use Rattle.trace_laws.specs.Form.{HasForm, HasLines, HaveLassos, FitsLabels, IsLassoOf};
+ghost use Rattle.trace_laws.specs.Fault.{AgreeTo, IsFirstFault};
 ghost use Rattle.trace_laws.specs.Reading.{trace_way, line_set, header_of, is_state_line};
 ghost use Rattle.trace_laws.specs.Reading.Way.{on, off};
 
@@ -30,6 +30,12 @@ pub fn no_text_agrees()
     ensures { (labels : Labels) (text : List ℕ) (line : ℕ) (lasso : LassoValue) → HasLines labels → IsLassoOf labels lasso → trace_way labels text ≡ off line → AgreeTo line (trace_text labels lasso) text → ⊥ }
 {}
 
+/// A law: where reading a text stops, that line is the first at which no text of a lasso of these labels has all lines up to
+/// it.
+pub fn faults_are_first()
+    ensures { (labels : Labels) (text : List ℕ) (line : ℕ) → HaveLassos labels → trace_way labels text ≡ off line → IsFirstFault labels text line }
+{}
+
 /// A law: a line that is read is the line of what it gave.
 pub fn lines_are_read()
     ensures header { (line : List ℕ) (count start : ℕ) → header_of line ≡ Some (count, start) → line ≡ codes "trace states " ++ decimal count ++ codes " loop " ++ decimal start }
@@ -46,6 +52,7 @@ mod tests {
         texts_are_of_one_lasso();
         texts_are_read();
         no_text_agrees();
+        faults_are_first();
         lines_are_read();
     }
 }
