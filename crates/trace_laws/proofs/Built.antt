@@ -341,7 +341,7 @@ all_none labels lines v =
       all_both HasNoFeed (states_lines labels 0 v.all) (codes "end" ∷ []) (states_none labels lines 0 v.all (omega arith) v.are) (refl, tt),
     )
 
-text_parts : (labels : Labels) → Allow labels → (v : Values labels) → parts (trace_text labels (lasso_of labels v)) ≡ all_lines labels v ++ [] ∷ []
+pub text_parts : (labels : Labels) → Allow labels → (v : Values labels) → parts (trace_text labels (lasso_of labels v)) ≡ all_lines labels v ++ [] ∷ []
 text_parts labels allow v = ap parts (text_joined labels allow v) ∙ parts_joined (all_lines labels v) (all_none labels allow.lines v)
 
 -- ---- tuples that come one after the other are in order

@@ -8,3 +8,4 @@ mod Local
 mod Sound
 mod Progress
 mod Built
+mod Ended

@@ -36,6 +36,11 @@ pub fn faults_are_first()
     ensures { (labels : Labels) (text : List ℕ) (line : ℕ) → HaveLassos labels → trace_way labels text ≡ off line → IsFirstFault labels text line }
 {}
 
+/// A law: a text that is read to its end is the text of the lasso that was read, and that is a lasso of the labels.
+pub fn reading_is_of_the_text()
+    ensures { (labels : Labels) (text : List ℕ) (lasso : LassoValue) (rest : List (List ℕ)) (lines : ℕ) → HaveLassos labels → trace_way labels text ≡ on lasso rest lines → (trace_text labels lasso ≡ text) × IsLassoOf labels lasso }
+{}
+
 /// A law: a line that is read is the line of what it gave.
 pub fn lines_are_read()
     ensures header { (line : List ℕ) (count start : ℕ) → header_of line ≡ Some (count, start) → line ≡ codes "trace states " ++ decimal count ++ codes " loop " ++ decimal start }
@@ -53,6 +58,7 @@ mod tests {
         texts_are_read();
         no_text_agrees();
         faults_are_first();
+        reading_is_of_the_text();
         lines_are_read();
     }
 }
