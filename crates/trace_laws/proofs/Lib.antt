@@ -1,3 +1,11 @@
 mod Apart
 mod Sets
 mod Lassos
+mod Again
+mod Whole
+mod Fits
+mod Local
+mod Sound
+mod Progress
+mod Built
+mod Ended

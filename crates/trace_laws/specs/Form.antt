@@ -1,7 +1,8 @@
 -- Labels under which a text is that of one lasso, and the lassos that fit them.
-use Rattle.std.specs.Prelude.{◌≡◌, ℕ, ◌<◌, ◌^◌, Bool, false, ◌||◌, eqb, List, [], ◌∷◌, ◌++◌, length, Contains, All, Some, slice_get}
+use Rattle.std.specs.Prelude.{◌≡◌, ℕ, ◌<◌, ◌≤◌, ◌^◌, Bool, false, ◌||◌, eqb, List, [], ◌∷◌, ◌++◌, length, Contains, All, Some, slice_get}
 use Rattle.std.specs.List.{list_any}
-use Rattle.tuple_sets.specs.Sets.{TupleList}
+use Rattle.line_words.specs.Words.{is_feed}
+use Rattle.tuple_sets.specs.Sets.{TupleList, IsTupleSet}
 use Rattle.core_meaning.specs.Sequence.{LassoValue}
 use Rattle.trace_form.specs.declared.label.Shown.{Shown}
 use Rattle.trace_form.specs.declared.label.Shown.TheVariants.{Line, Nothing, Just}
@@ -53,3 +54,33 @@ pub record FitsLabels (labels : Labels) (lasso : LassoValue) : Type 0 where
   pub states : All (FitsState labels) lasso.states
   pub count : length lasso.states < 2 ^ 32
   pub loop_start : lasso.loop_start < 2 ^ 32
+
+abbrev pub HasNoFeed : List ℕ → Type 0
+HasNoFeed text = list_any is_feed text ≡ false
+
+-- labels of a right form, of which none has a line feed, nor has the text of an atom
+pub record HasLines (labels : Labels) : Type 0 where
+  pub form : HasForm labels
+  pub texts : All HasNoFeed labels.atoms
+  pub names : All (λ (r : RelationLabel). HasNoFeed r.label) labels.relations
+
+-- a lasso that fits the labels: each set of it is a set of tuples, and its loop index is below the number of its states
+pub record IsLassoOf (labels : Labels) (lasso : LassoValue) : Type 0 where
+  pub fits : FitsLabels labels lasso
+  pub sets : All (λ state. All IsTupleSet state) lasso.states
+  pub start : lasso.loop_start < length lasso.states
+
+-- what a relation without a line is to hold can be held: one column, and a number of the universe that a set of tuples has
+abbrev pub HasAtom : Labels → ℕ → Shown → Type 0
+HasAtom labels columns Line = Unit {0}
+HasAtom labels columns Nothing = Unit {0}
+HasAtom labels columns (Just a) = (columns ≡ 1) × (a < length labels.atoms) × (a < 16384)
+
+-- Labels under which there are lassos: each relation has one to nine columns and can hold what it is to hold, and each place
+-- of a state is that of just one relation.
+pub record HaveLassos (labels : Labels) : Type 0 where
+  pub lines : HasLines labels
+  pub columns : All (λ (r : RelationLabel). (1 ≤ r.columns) × (r.columns ≤ 9)) labels.relations
+  pub hidden : All (λ (r : RelationLabel). HasAtom labels r.columns r.shown) labels.relations
+  pub within : All (λ (r : RelationLabel). r.place < length labels.relations) labels.relations
+  pub once : (i j : ℕ) (r s : RelationLabel) → slice_get labels.relations i ≡ Some r → slice_get labels.relations j ≡ Some s → r.place ≡ s.place → i ≡ j
