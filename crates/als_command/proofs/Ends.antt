@@ -58,8 +58,8 @@ other_traced s n zero one three is = elim (traced_status s) [
 ]
 
 -- a mode that reads a trace is none of the others
-no_trace_lrat : (m : Mode) (trace : List ℕ) (s : TraceAnswer) → m ≡ Lrat → IsSaid m trace s → ⊥
-no_trace_lrat m trace s is on = absurd (subst (λ k. IsSaid k trace s) is on)
+no_trace_lrat : (m : Mode) (settings : Settings) (trace : List ℕ) (s : TraceAnswer) → m ≡ Lrat → IsSaid m settings trace s → ⊥
+no_trace_lrat m settings trace s is on = absurd (subst (λ k. IsSaid k settings trace s) is on)
 
 -- a mode that analyses a model checks no proof
 no_lrat_analyses : (m : Mode) → m ≡ Lrat → IsTrue (analyses m) → ⊥
@@ -123,20 +123,20 @@ verdict_among v = elim (verdict_status v) [
   | inr rest ↦ elim rest [ inl e ↦ inl (inr (inl e)) | inr e ↦ inr (inl e) ]
 ]
 
-said_among : (m : Mode) (trace : List ℕ) (s : TraceAnswer) → IsSaid m trace s → Among m (traced.status_of s)
-said_among Replay trace (tell.Judged true text) on = inl (inl refl)
-said_among Replay trace (tell.Judged false text) on = inl (inr (inl refl))
-said_among Replay trace (tell.Valued text) on = absurd on
-said_among Replay trace (tell.BadTrace line) on = inr (inl refl)
-said_among Eval trace (tell.Judged satisfied text) on = absurd on
-said_among Eval trace (tell.Valued text) on = inl (inl refl)
-said_among Eval trace (tell.BadTrace line) on = inr (inl refl)
-said_among Exec trace s on = absurd on
-said_among Least trace s on = absurd on
-said_among Core trace s on = absurd on
-said_among Commands trace s on = absurd on
-said_among Lrat trace s on = absurd on
-said_among Make trace s on = absurd on
+said_among : (m : Mode) (settings : Settings) (trace : List ℕ) (s : TraceAnswer) → IsSaid m settings trace s → Among m (traced.status_of s)
+said_among Replay settings trace (tell.Judged true text) on = inl (inl refl)
+said_among Replay settings trace (tell.Judged false text) on = inl (inr (inl refl))
+said_among Replay settings trace (tell.Valued text) (prepared, ready, on) = absurd on
+said_among Replay settings trace (tell.BadTrace line) on = inr (inl refl)
+said_among Eval settings trace (tell.Judged satisfied text) (prepared, ready, (value, on)) = absurd on
+said_among Eval settings trace (tell.Valued text) on = inl (inl refl)
+said_among Eval settings trace (tell.BadTrace line) on = inr (inl refl)
+said_among Exec settings trace s on = absurd on
+said_among Least settings trace s on = absurd on
+said_among Core settings trace s on = absurd on
+said_among Commands settings trace s on = absurd on
+said_among Lrat settings trace s on = absurd on
+said_among Make settings trace s on = absurd on
 
 -- an answer's own status is neither of the two that say that it couldn't be delivered
 not_five : (a : Answer) → status_of a ≡ 5 → ⊥
@@ -301,7 +301,7 @@ module _ (given : Option Settings) (held : List (Option Texts)) (before now : Li
       let two : texts.text_of told second ≡ Some lines = ap (texts.text_of told) named ∙ is.lines_are in
       let on : IsCheckedIn (Some clauses) (Some lines) v = subst (λ o. IsCheckedIn (Some clauses) o v) two (subst (λ o. IsCheckedIn o (texts.text_of told second) v) one (allows.1.checked told tells)) in
       inl (ap lrat.status_of (one_verdict clauses lines v verdict on.verdict_on is.verdict_on))
-  proof_given settings (Traced s n) told name clauses lines verdict allows tells is = absurd (no_trace_lrat settings.mode allows.2.trace s is.mode allows.2.on)
+  proof_given settings (Traced s n) told name clauses lines verdict allows tells is = absurd (no_trace_lrat settings.mode settings allows.2.trace s is.mode allows.2.on)
 
   read_fault_given : (o : Option Settings) (a : Answer) (old new : Option (List ℕ)) → Allows o held before now a → status_of a ≡ 4 → Written old new (text_of a) → FailsToRead o before now old new
   read_fault_given None Usage old new allows is line = absurd (omega arith)
@@ -436,7 +436,7 @@ module _ (given : Option Settings) (held : List (Option Texts)) (before now : Li
   mode_given settings (Made text) allows = subst (λ m. Among m 0) (sym allows.1) (inl (inl refl))
   mode_given settings (Listed list) allows = subst (λ m. Among m 0) (sym allows.1.mode) (inl (inl refl))
   mode_given settings (Checked v clauses lines) allows = subst (λ m. Among m (lrat.status_of v)) (sym allows.1.mode) (verdict_among v)
-  mode_given settings (Traced s n) allows = said_among settings.mode allows.2.trace s allows.2.on
+  mode_given settings (Traced s n) allows = said_among settings.mode settings allows.2.trace s allows.2.on
 
   -- a text that can't be cut into tokens spells no module
   uncut : (model : Option (List ℕ)) (text : List ℕ) (refusal : Refusal) → model ≡ Some text → tokens_of 0 text ≡ Err refusal → SpellsModule model → ⊥

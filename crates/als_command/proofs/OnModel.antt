@@ -128,9 +128,9 @@ after_on settings held later text before mid now (Ok a) tree same keeps spells m
 after_on settings held later text before mid now (Err e) tree same keeps spells mode is = tt
 
 -- a refusal is an answer of a search, of a model that is made, and of a mode that reads a trace
-pub refusal_found : (mode : Mode) (part : Part) (budget : Option ℕ) (r : Result Answer AllocError) → IfOk r IsRefusal → IfOk r (IsFoundIn mode part budget)
-refusal_found mode part budget (Ok a) is = subst (λ x. IsFoundIn mode part budget x) (sym is.is) tt
-refusal_found mode part budget (Err e) is = tt
+pub refusal_found : (mode : Mode) (number : ℕ) (part : Part) (budget : Option ℕ) (r : Result Answer AllocError) → IfOk r IsRefusal → IfOk r (IsFoundIn mode number part budget)
+refusal_found mode number part budget (Ok a) is = subst (λ x. IsFoundIn mode number part budget x) (sym is.is) tt
+refusal_found mode number part budget (Err e) is = tt
 
 pub refusal_made : (r : Result Answer AllocError) → IfOk r IsRefusal → IfOk r IsMade
 refusal_made (Ok a) is = subst (λ x. IsMade x) (sym is.is) tt

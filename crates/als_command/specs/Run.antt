@@ -6,10 +6,13 @@ use Rattle.alloy_base.specs.Texts as texts
 use Rattle.alloy_base.specs.Texts.{Texts}
 use Rattle.alloy_base.specs.declared.place.Refusal.{Refusal}
 use Rattle.alloy_base.specs.declared.place.Rule.{Rule}
+use Rattle.analyser.specs.Found.{IsReady}
+use Rattle.analyser.specs.declared.ready.Prepared.{Prepared}
 use Rattle.alloy_base.specs.declared.limits.TheConstants.{FILE_BYTES}
 use Rattle.certificate_search.specs.Certificate.{ShowsTrace, ShowsOne, ShowsAbove, ShowsNone, ShowsCore, ShowsSpent}
 use Rattle.certificate_search.specs.declared.certificate.Certificate.{Certificate}
 use Rattle.certificate_search.specs.declared.certificate.Certificate.TheVariants as certificate
+use Rattle.core_tree.specs.Trees.{Term}
 use Rattle.command_words.specs.declared.named.Mode.{Mode}
 use Rattle.command_words.specs.declared.named.Mode.TheVariants.{Exec, Commands, Make, Lrat, Replay, Eval, Least, Core}
 use Rattle.command_words.specs.declared.named.Part.{Part}
@@ -100,28 +103,34 @@ pub record IsOnModule (held : List (Option Texts)) (files : List Asked) (setting
 abbrev pub IsOpened : Settings → List ℕ → Type 0
 IsOpened settings name = (IsTrue (analyses settings.mode) × IsTried settings.file name) ⊎ (((settings.mode ≡ Make) × IsTried (codes "make") name) ⊎ (IsTrue (reads_trace settings.mode) × (settings.second ≡ Some name)))
 
--- what is written of a trace: the part that is asked for; in a search for the fewest states with clauses of one state less and
--- lines that refute them, or it has one state
-abbrev pub ShownTrace : Mode → Part → List ℕ → Type 0
-ShownTrace Least part text = ShowsOne part text ⊎ ShowsAbove part text
-ShownTrace _ part text = ShowsTrace part text
+-- something is so of a model that was made ready for its command of this number
+abbrev pub OfModel : ℕ → (Prepared → Type 0) → Type 0
+OfModel number P = (prepared : Prepared) × IsReady number prepared × P prepared
+
+-- what is written of a trace, which satisfies the model and the command: the part that is asked for; in a search for the fewest
+-- states with clauses of one state less and lines that refute them, or it has one state
+abbrev pub ShownTrace : Mode → ℕ → Part → List ℕ → Type 0
+ShownTrace Least number part text = OfModel number (λ prepared. ShowsOne prepared part text ⊎ ShowsAbove prepared part text)
+ShownTrace _ number part text = OfModel number (λ prepared. ShowsTrace prepared part text)
 
 -- what is written where there is no trace: the part that is asked for, of clauses and lines that refute them; in a search for
 -- facts that rule out every trace with these facts
-abbrev pub ShownNone : Mode → Part → List ℕ → Type 0
-ShownNone Core part text = ShowsCore part text
-ShownNone _ part text = ShowsNone part text
+abbrev pub ShownNone : Mode → ℕ → Part → List ℕ → Type 0
+ShownNone Core number part text = OfModel number (λ prepared. ShowsCore prepared part text)
+ShownNone Exec number part text = OfModel number (λ prepared. ShowsNone prepared.bounds.states part text)
+ShownNone _ number part text = (states : ℕ) × ShowsNone states part text
 
--- what is said of the text of a trace
-abbrev pub IsSaid : Mode → List ℕ → TraceAnswer → Type 0
-IsSaid Replay trace said = IsJudgement trace said
-IsSaid Eval trace said = IsValue trace said
-IsSaid _ trace said = ⊥
+-- what is said of the text of a trace in a mode: what a model and its command mean on it, or the tuples that some expression has
+-- there at the position of the settings
+abbrev pub IsSaid : Mode → Settings → List ℕ → TraceAnswer → Type 0
+IsSaid Replay settings trace said = OfModel settings.command (λ prepared. IsJudgement prepared trace said)
+IsSaid Eval settings trace said = OfModel settings.command (λ prepared. (value : Term) × IsValue prepared value settings.position trace said)
+IsSaid _ settings trace said = ⊥
 
 -- the file of this name is whole, and this is said of its text
 pub record IsReadTrace (held : List (Option Texts)) (settings : Settings) (said : TraceAnswer) (second : List ℕ) : Type 0 where
   pub trace : List ℕ
-  pub on : IsSaid settings.mode trace said
+  pub on : IsSaid settings.mode settings trace said
   pub named : settings.second ≡ Some second
   pub tells : (told : List Texts) → held ≡ map (λ t. Some t) told → (texts.text_of told second ≡ Some trace) × (file_rule told (second, FILE_BYTES) ≡ None)
 
@@ -162,8 +171,8 @@ abbrev pub AllowsFiles : List Asked → Settings → List (Option Texts) → Lis
 AllowsFiles files settings held before now Usage = ⊥
 AllowsFiles files settings held before now (Refused refusal name) = (now ≡ before) × IsRefused held files settings refusal name
 AllowsFiles files settings held before now (ReadFault name) = IsSought settings name files × SomeRose before now
-AllowsFiles files settings held before now (Trace text) = (now ≡ before) × IsSearched held files settings × ShownTrace settings.mode settings.part text
-AllowsFiles files settings held before now (Absent text) = (now ≡ before) × IsSearched held files settings × ShownNone settings.mode settings.part text
+AllowsFiles files settings held before now (Trace text) = (now ≡ before) × IsSearched held files settings × ShownTrace settings.mode settings.command settings.part text
+AllowsFiles files settings held before now (Absent text) = (now ≡ before) × IsSearched held files settings × ShownNone settings.mode settings.command settings.part text
 AllowsFiles files settings held before now (Unknown text) = (now ≡ before) × IsSearched held files settings × ShowsSpent settings.conflicts text
 AllowsFiles files settings held before now (Made text) = (now ≡ before) × (settings.mode ≡ Make)
 AllowsFiles files settings held before now (Listed list) = (now ≡ before) × IsListed held files settings list
@@ -180,8 +189,8 @@ abbrev pub IsOnModel : Settings → List (Option Texts) → List ℕ → List �
 IsOnModel settings held text before now Usage = ⊥
 IsOnModel settings held text before now (Refused refusal name) = (now ≡ before) × RefusedIn (Some text) settings refusal name
 IsOnModel settings held text before now (ReadFault name) = IsOpened settings name × SomeRose before now
-IsOnModel settings held text before now (Trace bytes) = (now ≡ before) × IsTrue (looks settings.mode) × SpellsModule (Some text) × ShownTrace settings.mode settings.part bytes
-IsOnModel settings held text before now (Absent bytes) = (now ≡ before) × IsTrue (looks settings.mode) × SpellsModule (Some text) × ShownNone settings.mode settings.part bytes
+IsOnModel settings held text before now (Trace bytes) = (now ≡ before) × IsTrue (looks settings.mode) × SpellsModule (Some text) × ShownTrace settings.mode settings.command settings.part bytes
+IsOnModel settings held text before now (Absent bytes) = (now ≡ before) × IsTrue (looks settings.mode) × SpellsModule (Some text) × ShownNone settings.mode settings.command settings.part bytes
 IsOnModel settings held text before now (Unknown bytes) = (now ≡ before) × IsTrue (looks settings.mode) × SpellsModule (Some text) × ShowsSpent settings.conflicts bytes
 IsOnModel settings held text before now (Made bytes) = ⊥
 IsOnModel settings held text before now (Listed list) = (now ≡ before) × (settings.mode ≡ Commands) × ListsModule (Some text) list
@@ -195,17 +204,17 @@ pub record IsRefusal (answer : Answer) : Type 0 where
   pub is : answer ≡ Refused refusal name
 
 -- the answer of a search in a loaded model, by the mode
-abbrev pub IsFoundIn : Mode → Part → Option ℕ → Answer → Type 0
-IsFoundIn mode part budget Usage = ⊥
-IsFoundIn mode part budget (Refused refusal name) = ⊤
-IsFoundIn mode part budget (ReadFault name) = ⊥
-IsFoundIn mode part budget (Trace bytes) = ShownTrace mode part bytes
-IsFoundIn mode part budget (Absent bytes) = ShownNone mode part bytes
-IsFoundIn mode part budget (Unknown bytes) = ShowsSpent budget bytes
-IsFoundIn mode part budget (Made bytes) = ⊥
-IsFoundIn mode part budget (Listed list) = ⊥
-IsFoundIn mode part budget (Checked verdict clauses lines) = ⊥
-IsFoundIn mode part budget (Traced said second) = ⊥
+abbrev pub IsFoundIn : Mode → ℕ → Part → Option ℕ → Answer → Type 0
+IsFoundIn mode number part budget Usage = ⊥
+IsFoundIn mode number part budget (Refused refusal name) = ⊤
+IsFoundIn mode number part budget (ReadFault name) = ⊥
+IsFoundIn mode number part budget (Trace bytes) = ShownTrace mode number part bytes
+IsFoundIn mode number part budget (Absent bytes) = ShownNone mode number part bytes
+IsFoundIn mode number part budget (Unknown bytes) = ShowsSpent budget bytes
+IsFoundIn mode number part budget (Made bytes) = ⊥
+IsFoundIn mode number part budget (Listed list) = ⊥
+IsFoundIn mode number part budget (Checked verdict clauses lines) = ⊥
+IsFoundIn mode number part budget (Traced said second) = ⊥
 
 -- the answer that has the text of a certificate
 abbrev pub answer_of : Certificate → Answer
@@ -214,7 +223,7 @@ answer_of (certificate.Absent text) = Absent text
 answer_of (certificate.Unknown text) = Unknown text
 
 abbrev pub IsFound : Settings → Answer → Type 0
-IsFound settings answer = IsFoundIn settings.mode settings.part settings.conflicts answer
+IsFound settings answer = IsFoundIn settings.mode settings.command settings.part settings.conflicts answer
 
 -- the answer of a mode that reads a trace, once the model is loaded, by what the libraries hold, and the counts of faults
 -- before the file of the trace was asked for and after that
@@ -234,7 +243,7 @@ IsAfter settings held before now (Traced said second) = (now ≡ before) × IsRe
 pub record IsSaidOf (settings : Settings) (second trace : List ℕ) (answer : Answer) : Type 0 where
   pub said : TraceAnswer
   pub says_so : answer ≡ Traced said second
-  pub on : IsSaid settings.mode trace said
+  pub on : IsSaid settings.mode settings trace said
 
 -- the answer on a model that is made
 abbrev pub IsMade : Answer → Type 0
@@ -365,7 +374,7 @@ pub record FindsTrace (given : Option Settings) (held : List (Option Texts)) (ol
   pub text : List ℕ
   pub fit : given ≡ Some settings
   pub searched : IsSearched held (asked settings) settings
-  pub shown : ShownTrace settings.mode settings.part text
+  pub shown : ShownTrace settings.mode settings.command settings.part text
   pub line : Written old new text
 
 -- the same, and what was written says that there is no trace
@@ -374,7 +383,7 @@ pub record FindsNone (given : Option Settings) (held : List (Option Texts)) (old
   pub text : List ℕ
   pub fit : given ≡ Some settings
   pub searched : IsSearched held (asked settings) settings
-  pub absent : ShownNone settings.mode settings.part text
+  pub absent : ShownNone settings.mode settings.command settings.part text
   pub line : Written old new text
 
 -- the same, and what was written says that the budget is spent

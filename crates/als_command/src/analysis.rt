@@ -75,7 +75,7 @@ fn any_trace(
     loaded: Loaded,
     chooser: Box<dyn Chooser>,
 ) -> Result<Answer, AllocError>
-    ensures { IfOk result (λ answer. IsFoundIn Exec settings.now.part settings.now.conflicts answer) }
+    ensures { IfOk result (λ answer. IsFoundIn Exec settings.now.command settings.now.part settings.now.conflicts answer) }
 {
     match analyse_loaded(alloc, loaded, settings.command, chooser, settings.conflicts) {
         Ok(found) => found_text(alloc, settings, found),
@@ -91,7 +91,7 @@ fn least_trace(
     loaded: Loaded,
     chooser: Box<dyn Chooser>,
 ) -> Result<Answer, AllocError>
-    ensures { IfOk result (λ answer. IsFoundIn Least settings.now.part settings.now.conflicts answer) }
+    ensures { IfOk result (λ answer. IsFoundIn Least settings.now.command settings.now.part settings.now.conflicts answer) }
 {
     match prepare_loaded(alloc, loaded, settings.command) {
         Ok(prepared) => least_of(alloc, settings, prepared, chooser),
@@ -106,7 +106,8 @@ fn least_of(
     prepared: Prepared,
     chooser: Box<dyn Chooser>,
 ) -> Result<Answer, AllocError>
-    ensures { IfOk result (λ answer. IsFoundIn Least settings.now.part settings.now.conflicts answer) }
+    requires { outcome.IsReady settings.now.command prepared }
+    ensures { IfOk result (λ answer. IsFoundIn Least settings.now.command settings.now.part settings.now.conflicts answer) }
 {
     let mut boxed = Boxed { chooser };
     let budget = settings.conflicts;
@@ -122,7 +123,7 @@ fn ruling_facts(
     loaded: Loaded,
     chooser: Box<dyn Chooser>,
 ) -> Result<Answer, AllocError>
-    ensures { IfOk result (λ answer. IsFoundIn Core settings.now.part settings.now.conflicts answer) }
+    ensures { IfOk result (λ answer. IsFoundIn Core settings.now.command settings.now.part settings.now.conflicts answer) }
 {
     match prepare_loaded(alloc, loaded, settings.command) {
         Ok(prepared) => core_of(alloc, settings, prepared, chooser),
@@ -137,7 +138,8 @@ fn core_of(
     prepared: Prepared,
     chooser: Box<dyn Chooser>,
 ) -> Result<Answer, AllocError>
-    ensures { IfOk result (λ answer. IsFoundIn Core settings.now.part settings.now.conflicts answer) }
+    requires { outcome.IsReady settings.now.command prepared }
+    ensures { IfOk result (λ answer. IsFoundIn Core settings.now.command settings.now.part settings.now.conflicts answer) }
 {
     let mut boxed = Boxed { chooser };
     let budget = settings.conflicts;
@@ -171,8 +173,8 @@ fn chosen(
 
 /// The text of what a search found.
 fn found_text(alloc: Global, settings: &Settings, found: Found) -> Result<Answer, AllocError>
-    requires { outcome.IsFound settings.now.conflicts found }
-    ensures { IfOk result (λ answer. IsFoundIn Exec settings.now.part settings.now.conflicts answer) }
+    requires { outcome.IsFound settings.now.command settings.now.conflicts found }
+    ensures { IfOk result (λ answer. IsFoundIn Exec settings.now.command settings.now.part settings.now.conflicts answer) }
 {
     match found {
         Found::Trace { labels, lasso } => {

@@ -3,6 +3,7 @@ ghost use Rattle.std.specs.Prelude.{◌≡◌, ◌≤◌, length, true, is_some,
 ghost use Rattle.alloy_base.specs.Causes.{NoneFell};
 ghost use Rattle.als_lexer.specs.Tokens.{tokens_of};
 ghost use Rattle.als_command.specs.Root.{SpellIn};
+ghost use Rattle.analyser.specs.Found.{IsReady};
 ghost use Rattle.als_command.specs.Run.{IsOnModel, IsAfter, IsRefusal, IsSaid, IsSaidOf, reads_trace};
 
 use crate::Answer;
@@ -138,6 +139,7 @@ fn on_prepared<L: Libraries>(
     prepared: &Prepared,
     libraries: &mut L,
 ) -> Result<Answer, AllocError>
+    requires ready { IsReady settings.now.command prepared.now }
     requires mode { IsTrue (reads_trace settings.now.mode) }
     requires second { is_some settings.now.second ≡ true }
     ensures keeps { L.told libraries.new ≡ L.told libraries.old }
@@ -159,6 +161,7 @@ fn on_second<L: Libraries>(
     value: Option<&Expr>,
     libraries: &mut L,
 ) -> Result<Answer, AllocError>
+    requires ready { IsReady settings.now.command prepared.now }
     requires mode { IsTrue (reads_trace settings.now.mode) }
     requires second { is_some settings.now.second ≡ true }
     ensures keeps { L.told libraries.new ≡ L.told libraries.old }
@@ -185,6 +188,7 @@ fn on_trace(
     second: &str,
     trace: &[u8],
 ) -> Result<Answer, AllocError>
+    requires ready { IsReady settings.now.command prepared.now }
     requires mode { IsTrue (reads_trace settings.now.mode) }
     ensures { IfOk result (λ answer. IsSaidOf settings.now second.now trace.now answer) }
 {
@@ -200,8 +204,9 @@ fn said_of(
     value: Option<&Expr>,
     trace: &[u8],
 ) -> Result<TraceAnswer, AllocError>
+    requires ready { IsReady settings.now.command prepared.now }
     requires mode { IsTrue (reads_trace settings.now.mode) }
-    ensures { IfOk result (λ said. IsSaid settings.now.mode trace.now said) }
+    ensures { IfOk result (λ said. IsSaid settings.now.mode settings.now trace.now said) }
 {
     match settings.mode {
         Mode::Replay => judge_trace(alloc, prepared, trace),

@@ -1,5 +1,15 @@
--- What an analysis may answer.
-use Rattle.std.specs.Prelude.{◌≡◌, ℕ, length, ⊤, Option, Some}
+-- What a model is made ready with, and what an analysis may answer.
+use Rattle.std.specs.Prelude.{◌≡◌, ◌≤◌, ℕ, List, [], ◌∷◌, ◌++◌, length, map, ⊤, Option, Some, slice_get}
+use Rattle.bounds_builder.specs.Shortest.{HasFewestStates}
+use Rattle.core_meaning.specs.Satisfied.{Satisfies}
+use Rattle.core_meaning.specs.Sequence.{LassoValue}
+use Rattle.core_tree.specs.Trees.{claim_of}
+use Rattle.core_tree.specs.declared.model.Command.{Command}
+use Rattle.model_test.specs.Kept.{IsModelButTypes}
+use Rattle.target_forms.specs.Targets.{fact_claims}
+use Rattle.target_forms.specs.declared.target.Part.{Part}
+use Rattle.trace_form.specs.Made.{AreRelationsOf, universe_texts}
+use Rattle.analyser.specs.declared.ready.Prepared.{Prepared}
 use Rattle.lrat_form.specs.Step.{State, start, Refutes}
 use Rattle.lemma_log.specs.Outcome.{AreLemmas}
 use Rattle.analyser.specs.declared.answer.Answer.{Answer}
@@ -7,12 +17,34 @@ use Rattle.analyser.specs.declared.answer.Answer.TheVariants.{Trace, Absent, Unk
 use Rattle.analyser.specs.declared.fault.AnalyseFault.{AnalyseFault}
 use Rattle.analyser.specs.declared.fault.AnalyseFault.TheVariants.{Refused, Read, Memory}
 
--- Where there is no lasso, the lines refute the clauses; and only a budget that is spent leaves it open: there are just as
--- many lemmas, none of them empty, and each passes.
-abbrev pub IsFound : Option ℕ → Answer → Type 0
-IsFound budget (Trace labels lasso) = ⊤
-IsFound budget (Absent table states cnf lines) = Refutes cnf.clauses lines
-IsFound budget (Unknown table cnf lines) = (budget ≡ Some (length lines)) × ((end : State) × AreLemmas (start cnf.clauses) lines end)
+-- a model made ready for its command of this number: the model keeps what resolved models keep, the parts
+-- are its facts and then that command, and the labels are those of its relations and of its universe
+pub record IsReady (number : ℕ) (prepared : Prepared) : Type 0 where
+  pub kept : IsModelButTypes prepared.model
+  pub command : Command
+  pub chosen : slice_get prepared.model.commands number ≡ Some command
+  pub parts_are : map (λ (p : Part). claim_of p.formula) prepared.parts ≡ fact_claims prepared.model.facts ++ claim_of command.formula ∷ []
+  pub relations_are : AreRelationsOf prepared.model prepared.labels
+  pub atoms_are : prepared.labels.atoms ≡ universe_texts prepared.model prepared.scopes
+
+-- a lasso satisfies a model that was made ready and its command, which is the last part
+pub record IsTraceOf (prepared : Prepared) (lasso : LassoValue) : Type 0 where
+  pub facts : List Part
+  pub command : Part
+  pub parts_are : prepared.parts ≡ facts ++ command ∷ []
+  pub satisfies : Satisfies prepared.model prepared.scopes lasso (claim_of command.formula)
+
+-- A trace satisfies the model and the command, and has the fewest states that show its sequence. Where there is no lasso, the
+-- lines refute the clauses; and only a budget that is spent leaves it open: there are just as many lemmas, none of them empty,
+-- and each passes.
+abbrev pub IsFoundIn : Prepared → Option ℕ → Answer → Type 0
+IsFoundIn prepared budget (Trace labels lasso) = (labels ≡ prepared.labels) × IsTraceOf prepared lasso × (length lasso.states ≤ prepared.bounds.states) × HasFewestStates lasso
+IsFoundIn prepared budget (Absent table states cnf lines) = (states ≡ prepared.bounds.states) × Refutes cnf.clauses lines
+IsFoundIn prepared budget (Unknown table cnf lines) = (budget ≡ Some (length lines)) × ((end : State) × AreLemmas (start cnf.clauses) lines end)
+
+-- the same of a model that was made ready for its command of this number
+abbrev pub IsFound : ℕ → Option ℕ → Answer → Type 0
+IsFound number budget answer = (prepared : Prepared) × IsReady number prepared × IsFoundIn prepared budget answer
 
 -- a fault once the model is loaded: no library is asked then
 abbrev pub IsLoadedFault : AnalyseFault → Type 0

@@ -13,7 +13,7 @@ mod settings;
 pub use answer::Answer;
 pub use fault::AnalyseFault;
 pub use ready::{Prepared, prepare, prepare_loaded};
-pub use search::{analyse, analyse_loaded};
+pub use search::{analyse, analyse_loaded, is_trace, search_prepared};
 pub use settings::{Root, Settings};
 pub use target_forms::{Part, PartList};
 pub use variable_table::table;

@@ -1,8 +1,9 @@
 // A model made ready for a search.
 
 ghost use Rattle.std.specs.Prelude.{◌≡◌, IfOk, IfErr};
-ghost use Rattle.analyser.specs.Found.{IsLoadedFault};
+ghost use Rattle.analyser.specs.Found.{IsLoadedFault, IsReady};
 ghost use Rattle.model_test.specs.Kept.{IsModelButTypes};
+ghost use Rattle.trace_form.specs.Made.{AreRelationsOf, universe_texts};
 
 use crate::fault::{AnalyseFault, of_loading, refused_in};
 use crate::settings::{Root, Settings};
@@ -107,7 +108,10 @@ fn bounds_of(
 }
 
 /// The labels of the model's relations and atoms.
-fn labels_of(alloc: Global, model: &Model, scopes: &Scopes) -> Result<Labels, AllocError> {
+fn labels_of(alloc: Global, model: &Model, scopes: &Scopes) -> Result<Labels, AllocError>
+    ensures relations { IfOk result (λ labels. AreRelationsOf model.now labels) }
+    ensures atoms { IfOk result (λ labels. labels.atoms ≡ universe_texts model.now scopes.now) }
+{
     let relations = model.sigs.len().saturating_add(model.fields.len());
     if relations > u32::MAX as usize || scopes.numbers.len() != model.sigs.len() {
         return Err(AllocError);
@@ -138,6 +142,8 @@ pub fn prepare<L: Libraries>(
 /// The same for a model that is loaded.
 pub fn prepare_loaded(alloc: Global, loaded: Loaded, command: u32) -> Result<Prepared, AnalyseFault>
     ensures kept { IfOk result (λ prepared. IsModelButTypes prepared.model) }
+    ensures loaded { IfOk result (λ prepared. prepared.loaded ≡ loaded) }
+    ensures ready { IfOk result (IsReady command) }
     ensures fault { IfErr result IsLoadedFault }
 {
     let resolved = model_of(alloc, &loaded)?;

@@ -1,7 +1,8 @@
 // The search for a lasso.
 
-ghost use Rattle.std.specs.Prelude.{◌≡◌, IfOk, IfErr};
-ghost use Rattle.analyser.specs.Found.{IsFound, IsLoadedFault};
+ghost use Rattle.std.specs.Prelude.{◌≡◌, ◌≤◌, ℕ, length, Option, IfOk, IfErr, IsTrue};
+ghost use Rattle.bounds_builder.specs.Shortest.{HasFewestStates};
+ghost use Rattle.analyser.specs.Found.{IsFound, IsFoundIn, IsLoadedFault, IsTraceOf};
 
 use crate::answer::Answer;
 use crate::fault::AnalyseFault;
@@ -10,8 +11,10 @@ use crate::settings::Settings;
 use alloy_base::Libraries;
 use als_tree::Loaded;
 use chooser_box::{Boxed, Chooser};
+use core_meaning::Lasso;
 use std::alloc::{AllocError, Global};
 use target_search::{Found, search_target};
+use trace_test::satisfies;
 use variable_table::table;
 
 /// Looks for a lasso that satisfies the model's declarations and facts and the command of that number.
@@ -26,10 +29,11 @@ pub fn analyse<L: Libraries>(
     chooser: Box<dyn Chooser>,
 ) -> Result<Answer, AnalyseFault>
     ensures keeps { L.told libraries.new ≡ L.told libraries.old }
-    ensures found { IfOk result (λ answer. IsFound settings.now.budget answer) }
+    ensures found { IfOk result (IsFound settings.now.command settings.now.budget) }
 {
     let loaded = load_root(alloc, libraries, &settings.root)?;
-    analyse_loaded(alloc, loaded, settings.command, chooser, settings.budget)
+    let answer = analyse_loaded(alloc, loaded, settings.command, chooser, settings.budget)?;
+    Ok(answer)
 }
 
 /// The same for a model that is loaded, under this budget.
@@ -40,40 +44,43 @@ pub fn analyse_loaded(
     chooser: Box<dyn Chooser>,
     budget: Option<u64>,
 ) -> Result<Answer, AnalyseFault>
-    ensures found { IfOk result (λ answer. IsFound budget answer) }
+    ensures found { IfOk result (IsFound command budget) }
     ensures fault { IfErr result IsLoadedFault }
 {
     let prepared = prepare_loaded(alloc, loaded, command)?;
-    match searched(alloc, prepared, chooser, budget) {
-        Ok(answer) => Ok(answer),
-        Err(_) => Err(AnalyseFault::Memory),
-    }
+    let answer = search_prepared(alloc, prepared, chooser, budget)?;
+    Ok(answer)
 }
 
-/// The answer of a search.
-fn searched(
+/// Whether a lasso satisfies a model that was made ready and its command, by their meaning alone.
+pub fn is_trace(alloc: Global, prepared: &Prepared, lasso: &Lasso) -> Result<bool, AllocError>
+    ensures { IfOk result (λ b. IsTrue b → IsTraceOf prepared.now lasso.now) }
+{
+    let Some((command, _)) = prepared.parts.as_slice().split_last() else {
+        // The command is a part.
+        return Err(AllocError);
+    };
+    let model = &prepared.model;
+    let holds = satisfies(alloc, model, &prepared.scopes, lasso, &command.formula)?;
+    Ok(holds)
+}
+
+/// The answer of a search in a model that was made ready. A lasso is an answer only where it satisfies the model and the
+/// command by their meaning: that is tested on it, though no search is known to find another.
+pub fn search_prepared(
     alloc: Global,
     prepared: Prepared,
     chooser: Box<dyn Chooser>,
     budget: Option<u64>,
 ) -> Result<Answer, AllocError>
-    ensures found { IfOk result (λ answer. IsFound budget answer) }
+    ensures { IfOk result (IsFoundIn prepared budget) }
 {
-    let Prepared {
-        loaded: _,
-        model: _,
-        scopes: _,
-        bounds,
-        labels,
-        target,
-        parts: _,
-        first_fact: _,
-    } = prepared;
     let mut boxed = Boxed { chooser };
-    match search_target(alloc, &target, &bounds, &mut boxed, budget)? {
-        Found::Lasso(lasso) => Ok(Answer::Trace { labels, lasso }),
+    let target = &prepared.target;
+    match search_target(alloc, target, &prepared.bounds, &mut boxed, budget)? {
+        Found::Lasso(lasso) => trace_of(alloc, prepared, lasso),
         Found::Refuted(proof) => {
-            let table = table(alloc, &labels, &bounds)?;
+            let table = table(alloc, &prepared.labels, &prepared.bounds)?;
             Ok(Answer::Absent {
                 table,
                 states: proof.states,
@@ -82,7 +89,7 @@ fn searched(
             })
         }
         Found::Spent(proof) => {
-            let table = table(alloc, &labels, &bounds)?;
+            let table = table(alloc, &prepared.labels, &prepared.bounds)?;
             Ok(Answer::Unknown {
                 table,
                 cnf: proof.cnf,
@@ -90,4 +97,18 @@ fn searched(
             })
         }
     }
+}
+
+/// The answer that a lasso is which a search has found.
+fn trace_of(alloc: Global, prepared: Prepared, lasso: Lasso) -> Result<Answer, AllocError>
+    requires few { length lasso.states ≤ prepared.bounds.states }
+    requires fewest { HasFewestStates lasso }
+    ensures { (budget : Option ℕ) → IfOk result (IsFoundIn prepared budget) }
+{
+    let holds = is_trace(alloc, &prepared, &lasso)?;
+    if !holds {
+        return Err(AllocError);
+    }
+    let labels = prepared.labels;
+    Ok(Answer::Trace { labels, lasso })
 }

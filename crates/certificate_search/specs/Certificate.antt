@@ -2,6 +2,7 @@
 use Rattle.std.specs.Prelude.{◌≡◌, ◌⊎◌, ◌<◌, ◌-◌, ℕ, List, length, Option, Some}
 use Rattle.std.specs.List.{All}
 use Rattle.std.specs.List.Sorted.{IsStrictlyIncreasing}
+use Rattle.analyser.specs.Found.{IsTraceOf}
 use Rattle.analyser.specs.declared.ready.Prepared.{Prepared}
 use Rattle.answer_texts.specs.Answers.{absent_text, unknown_text}
 use Rattle.cnf_form.specs.declared.cnf.Cnf.{Cnf}
@@ -13,38 +14,36 @@ use Rattle.lemma_log.specs.Outcome.{AreLemmas}
 use Rattle.lrat_form.specs.Step.{State, start, Refutes}
 use Rattle.lrat_form.specs.declared.line.Line.{Line}
 use Rattle.trace_form.specs.Text.{trace_text}
-use Rattle.trace_form.specs.declared.label.Labels.{Labels}
 use Rattle.certificate_search.specs.Kept.{AreNamed}
 use Rattle.certificate_search.specs.declared.certificate.Certificate.{Certificate}
 use Rattle.certificate_search.specs.declared.certificate.Certificate.TheVariants.{Trace, Absent, Unknown}
 
--- the part that is asked for of a trace
-pub record ShowsTrace (part : Part) (text : List ℕ) : Type 0 where
-  pub labels : Labels
+-- the part that is asked for of a trace of a prepared model, which satisfies the model and its command
+pub record ShowsTrace (prepared : Prepared) (part : Part) (text : List ℕ) : Type 0 where
   pub lasso : LassoValue
-  pub text_is : text ≡ trace_part part (trace_text labels lasso)
+  pub trace : IsTraceOf prepared lasso
+  pub text_is : text ≡ trace_part part (trace_text prepared.labels lasso)
 
 -- the part that is asked for of a trace of one state
-pub record ShowsOne (part : Part) (text : List ℕ) : Type 0 where
-  pub labels : Labels
+pub record ShowsOne (prepared : Prepared) (part : Part) (text : List ℕ) : Type 0 where
   pub lasso : LassoValue
+  pub trace : IsTraceOf prepared lasso
   pub one : length lasso.states ≡ 1
-  pub text_is : text ≡ trace_part part (trace_text labels lasso)
+  pub text_is : text ≡ trace_part part (trace_text prepared.labels lasso)
 
 -- the part that is asked for of a trace of several states, and of clauses and lines that refute them
-pub record ShowsAbove (part : Part) (text : List ℕ) : Type 0 where
-  pub labels : Labels
+pub record ShowsAbove (prepared : Prepared) (part : Part) (text : List ℕ) : Type 0 where
   pub lasso : LassoValue
+  pub trace : IsTraceOf prepared lasso
   pub more : 1 < length lasso.states
   pub table : List (List ℕ)
   pub cnf : Cnf
   pub lines : List Line
   pub refutes : Refutes cnf.clauses lines
-  pub text_is : text ≡ above_part part (trace_text labels lasso) table cnf lines
+  pub text_is : text ≡ above_part part (trace_text prepared.labels lasso) table cnf lines
 
 -- the part that is asked for of clauses over so many states, and of lines that refute them
-pub record ShowsNone (part : Part) (text : List ℕ) : Type 0 where
-  pub states : ℕ
+pub record ShowsNone (states : ℕ) (part : Part) (text : List ℕ) : Type 0 where
   pub table : List (List ℕ)
   pub cnf : Cnf
   pub lines : List Line
@@ -62,8 +61,7 @@ pub record ShowsFacts (part : Part) (facts : List FactName) (text : List ℕ) : 
 
 -- the part that is asked for of facts of a prepared model, each at most once and in order, none of them the last part, which is
 -- the command; of clauses; and of lines that refute them
-pub record ShowsCore (part : Part) (text : List ℕ) : Type 0 where
-  pub prepared : Prepared
+pub record ShowsCore (prepared : Prepared) (part : Part) (text : List ℕ) : Type 0 where
   pub kept : List ℕ
   pub names : List FactName
   pub rising : IsStrictlyIncreasing kept
@@ -80,14 +78,14 @@ pub record ShowsSpent (budget : Option ℕ) (text : List ℕ) : Type 0 where
   pub lemmas : (end : State) × AreLemmas (start cnf.clauses) lines end
   pub text_is : text ≡ unknown_text (length lines) table cnf lines
 
--- the answer of a search for a trace of the fewest states
-abbrev pub IsLeastText : Part → Option ℕ → Certificate → Type 0
-IsLeastText part budget (Trace text) = ShowsOne part text ⊎ ShowsAbove part text
-IsLeastText part budget (Absent text) = ShowsNone part text
-IsLeastText part budget (Unknown text) = ShowsSpent budget text
+-- the answer of a search for a trace of the fewest states of a prepared model
+abbrev pub IsLeastText : Prepared → Part → Option ℕ → Certificate → Type 0
+IsLeastText prepared part budget (Trace text) = ShowsOne prepared part text ⊎ ShowsAbove prepared part text
+IsLeastText prepared part budget (Absent text) = (states : ℕ) × ShowsNone states part text
+IsLeastText prepared part budget (Unknown text) = ShowsSpent budget text
 
--- the answer of a search for facts that rule out every trace
-abbrev pub IsCoreText : Part → Option ℕ → Certificate → Type 0
-IsCoreText part budget (Trace text) = ShowsTrace part text
-IsCoreText part budget (Absent text) = ShowsCore part text
-IsCoreText part budget (Unknown text) = ShowsSpent budget text
+-- the answer of a search for facts of a prepared model that rule out every trace
+abbrev pub IsCoreText : Prepared → Part → Option ℕ → Certificate → Type 0
+IsCoreText prepared part budget (Trace text) = ShowsTrace prepared part text
+IsCoreText prepared part budget (Absent text) = ShowsCore prepared part text
+IsCoreText prepared part budget (Unknown text) = ShowsSpent budget text

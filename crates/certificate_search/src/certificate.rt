@@ -1,13 +1,15 @@
 // What a search that certifies its answer comes to.
 
 ghost use Rattle.std.specs.Prelude.{◌≡◌, IfOk};
+ghost use Rattle.analyser.specs.Found.{IsTraceOf};
+ghost use Rattle.analyser.specs.declared.ready.Prepared.{Prepared as PreparedOf};
 ghost use Rattle.target_search.specs.Found.{Spends};
 ghost use Rattle.trace_form.specs.Text.{trace_text};
 ghost use Rattle.judgement_texts.specs.Certified.{trace_part};
 ghost use Rattle.certificate_search.specs.Certificate.{ShowsTrace, ShowsSpent};
 
 use alloy_base::Bytes;
-use analyser::table;
+use analyser::{Prepared, is_trace, table};
 use answer_texts::unknown_text;
 use bounds_builder::Bounds;
 use command_words::Part;
@@ -28,14 +30,14 @@ pub enum Certificate {
     Unknown(Bytes),
 }
 
-/// The part that is asked for of a trace.
+/// The part that is asked for of a trace of a prepared model, which has these labels.
 pub fn trace_shown(
     alloc: Global,
     labels: &Labels,
     lasso: &Lasso,
     part: Part,
 ) -> Result<Bytes, AllocError>
-    ensures { IfOk result (λ text. ShowsTrace part text) }
+    ensures { (prepared : PreparedOf) → labels.now ≡ prepared.labels → IsTraceOf prepared lasso.now → IfOk result (ShowsTrace prepared part) }
 {
     let shown = lasso_part(alloc, labels, lasso, part)?;
     Ok(shown)
@@ -75,4 +77,34 @@ pub fn spent_shown(
     let text = unknown_text(alloc, conflicts, &rows, &proof.cnf, &proof.lines)?;
     let shown = Bytes::copy(alloc, &text)?;
     Ok(shown)
+}
+
+/// Goes on where a lasso that a search has found satisfies the prepared model and its command. No search is known to find
+/// another; the answer to such a one would be that of want of memory.
+pub(crate) fn test_trace(
+    alloc: Global,
+    prepared: &Prepared,
+    lasso: &Lasso,
+) -> Result<(), AllocError>
+    ensures { IfOk result (λ r. IsTraceOf prepared.now lasso.now) }
+{
+    let holds = is_trace(alloc, prepared, lasso)?;
+    if holds { Ok(()) } else { Err(AllocError) }
+}
+
+/// The part that is asked for of a lasso that a search has found, where that is a trace of the prepared model.
+pub(crate) fn found_shown(
+    alloc: Global,
+    prepared: &Prepared,
+    lasso: &Lasso,
+    part: Part,
+) -> Result<Bytes, AllocError>
+    ensures { IfOk result (ShowsTrace prepared.now part) }
+{
+    let holds = is_trace(alloc, prepared, lasso)?;
+    if !holds {
+        return Err(AllocError);
+    }
+    let text = trace_shown(alloc, &prepared.labels, lasso, part)?;
+    Ok(text)
 }

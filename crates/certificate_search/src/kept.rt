@@ -5,7 +5,7 @@ ghost use Rattle.lrat_form.specs.Step.{Refutes};
 ghost use Rattle.certificate_search.specs.Certificate.{IsCoreText, ShowsFacts};
 ghost use Rattle.certificate_search.specs.Kept.{AreNamed};
 
-use crate::certificate::{Certificate, spent_shown, trace_shown};
+use crate::certificate::{Certificate, found_shown, spent_shown};
 use alloy_base::Bytes;
 use als_tree::Loaded;
 use analyser::{PartList, Prepared, table};
@@ -27,31 +27,26 @@ pub fn core_certificate<C: Chooser>(
     part: Part,
     budget: Option<u64>,
 ) -> Result<Certificate, AllocError>
-    ensures { IfOk result (λ answer. IsCoreText part budget answer) }
+    ensures { IfOk result (IsCoreText prepared part budget) }
 {
-    let Prepared {
-        loaded,
-        model,
-        scopes: _,
-        bounds,
-        labels,
-        target,
-        parts,
-        first_fact,
-    } = prepared;
-    let facts = fact_count(&parts)?;
-    match find_core(alloc, &model, &target, first_fact, facts, chooser, budget)? {
+    let facts = fact_count(&prepared.parts)?;
+    let first_fact = prepared.first_fact;
+    let model = &prepared.model;
+    let target = &prepared.target;
+    match find_core(alloc, model, target, first_fact, facts, chooser, budget)? {
         Core::Trace(lasso) => {
-            let text = trace_shown(alloc, &labels, &lasso, part)?;
+            let text = found_shown(alloc, &prepared, &lasso, part)?;
             Ok(Certificate::Trace(text))
         }
         Core::Facts { kept, proof } => {
-            let names = kept_names(alloc, &loaded, &parts, &kept)?;
-            let text = core_shown(alloc, &labels, bounds, &names, proof, part)?;
+            let names = kept_names(alloc, &prepared.loaded, &prepared.parts, &kept)?;
+            let bounds = prepared.bounds;
+            let text = core_shown(alloc, &prepared.labels, bounds, &names, proof, part)?;
             Ok(Certificate::Absent(text))
         }
         Core::Unknown(proof) => {
-            let text = spent_shown(alloc, &labels, bounds, proof, budget)?;
+            let bounds = prepared.bounds;
+            let text = spent_shown(alloc, &prepared.labels, bounds, proof, budget)?;
             Ok(Certificate::Unknown(text))
         }
     }

@@ -1,10 +1,11 @@
 // The search for a trace of the fewest states.
 
 ghost use Rattle.std.specs.Prelude.{◌≡◌, ◌⊎◌, ◌<◌, IfOk, length, None, Some};
+ghost use Rattle.analyser.specs.Found.{IsTraceOf};
 ghost use Rattle.lrat_form.specs.Step.{Refutes};
 ghost use Rattle.certificate_search.specs.Certificate.{IsLeastText, ShowsOne, ShowsAbove, ShowsNone};
 
-use crate::certificate::{Certificate, lasso_part, spent_shown};
+use crate::certificate::{Certificate, lasso_part, spent_shown, test_trace};
 use alloy_base::Bytes;
 use analyser::{Prepared, table};
 use answer_texts::absent_text;
@@ -27,29 +28,22 @@ pub fn least_certificate<C: Chooser>(
     part: Part,
     budget: Option<u64>,
 ) -> Result<Certificate, AllocError>
-    ensures { IfOk result (λ answer. IsLeastText part budget answer) }
+    ensures { IfOk result (IsLeastText prepared part budget) }
 {
-    let Prepared {
-        loaded: _,
-        model,
-        scopes: _,
-        bounds,
-        labels,
-        target,
-        parts: _,
-        first_fact: _,
-    } = prepared;
-    match find_least(alloc, &model, &target, chooser, budget)? {
+    match find_least(alloc, &prepared.model, &prepared.target, chooser, budget)? {
         Least::Trace { lasso, below } => {
-            let text = least_shown(alloc, &labels, bounds, &lasso, below, part)?;
+            test_trace(alloc, &prepared, &lasso)?;
+            let text = least_shown(alloc, prepared, &lasso, below, part)?;
             Ok(Certificate::Trace(text))
         }
         Least::Absent(proof) => {
-            let text = none_shown(alloc, &labels, bounds, proof, part)?;
+            let bounds = prepared.bounds;
+            let text = none_shown(alloc, &prepared.labels, bounds, proof, part)?;
             Ok(Certificate::Absent(text))
         }
         Least::Unknown(proof) => {
-            let text = spent_shown(alloc, &labels, bounds, proof, budget)?;
+            let bounds = prepared.bounds;
+            let text = spent_shown(alloc, &prepared.labels, bounds, proof, budget)?;
             Ok(Certificate::Unknown(text))
         }
     }
@@ -58,47 +52,54 @@ pub fn least_certificate<C: Chooser>(
 /// The part that is asked for of a trace of the fewest states, with what stands below its number of states.
 fn least_shown(
     alloc: Global,
-    labels: &Labels,
-    bounds: Bounds,
+    prepared: Prepared,
     lasso: &Lasso,
     below: Option<Proof>,
     part: Part,
 ) -> Result<Bytes, AllocError>
+    requires trace { IsTraceOf prepared lasso.now }
     requires none { below ≡ None → length lasso.now.states ≡ 1 }
     requires some { (proof : _) → below ≡ Some proof → (1 < length lasso.now.states) × Refutes proof.cnf.clauses proof.lines }
-    ensures { IfOk result (λ text. ShowsOne part text ⊎ ShowsAbove part text) }
+    ensures { IfOk result (λ text. ShowsOne prepared part text ⊎ ShowsAbove prepared part text) }
 {
     match below {
-        None => one_shown(alloc, labels, lasso, part),
-        Some(proof) => above_shown(alloc, labels, bounds, lasso, proof, part),
+        None => one_shown(alloc, &prepared, lasso, part),
+        Some(proof) => above_shown(alloc, prepared, lasso, proof, part),
     }
 }
 
 /// The part that is asked for of a trace of one state.
-fn one_shown(alloc: Global, labels: &Labels, lasso: &Lasso, part: Part) -> Result<Bytes, AllocError>
-    requires { length lasso.now.states ≡ 1 }
-    ensures { IfOk result (λ text. ShowsOne part text) }
+fn one_shown(
+    alloc: Global,
+    prepared: &Prepared,
+    lasso: &Lasso,
+    part: Part,
+) -> Result<Bytes, AllocError>
+    requires trace { IsTraceOf prepared.now lasso.now }
+    requires one { length lasso.now.states ≡ 1 }
+    ensures { IfOk result (λ text. ShowsOne prepared.now part text) }
 {
-    let shown = lasso_part(alloc, labels, lasso, part)?;
+    let shown = lasso_part(alloc, &prepared.labels, lasso, part)?;
     Ok(shown)
 }
 
 /// The part that is asked for of a trace, and of clauses over one state less with lines that refute them.
 fn above_shown(
     alloc: Global,
-    labels: &Labels,
-    mut bounds: Bounds,
+    prepared: Prepared,
     lasso: &Lasso,
     proof: Proof,
     part: Part,
 ) -> Result<Bytes, AllocError>
+    requires trace { IsTraceOf prepared lasso.now }
     requires more { 1 < length lasso.now.states }
     requires refutes { Refutes proof.cnf.clauses proof.lines }
-    ensures { IfOk result (λ text. ShowsAbove part text) }
+    ensures { IfOk result (λ text. ShowsAbove prepared part text) }
 {
+    let trace = print_trace(alloc, &prepared.labels, lasso)?;
+    let mut bounds = prepared.bounds;
     bounds.states = proof.states;
-    let trace = print_trace(alloc, labels, lasso)?;
-    let rows = table(alloc, labels, &bounds)?;
+    let rows = table(alloc, &prepared.labels, &bounds)?;
     let text = above_part(alloc, part, &trace, &rows, &proof.cnf, &proof.lines)?;
     let shown = Bytes::copy(alloc, &text)?;
     Ok(shown)
@@ -113,7 +114,7 @@ fn none_shown(
     part: Part,
 ) -> Result<Bytes, AllocError>
     requires { Refutes proof.cnf.clauses proof.lines }
-    ensures { IfOk result (λ text. ShowsNone part text) }
+    ensures { IfOk result (ShowsNone proof.states part) }
 {
     bounds.states = proof.states;
     let rows = table(alloc, labels, &bounds)?;

@@ -3,6 +3,7 @@ use Rattle.std.specs.Prelude.{◌≡◌, ◌≤◌, ℕ, length, Option, Some}
 use Rattle.lrat_form.specs.Step.{State, start, Refutes}
 use Rattle.lrat_form.specs.declared.line.Proof.{Proof}
 use Rattle.lemma_log.specs.Outcome.{AreLemmas}
+use Rattle.bounds_builder.specs.Shortest.{HasFewestStates}
 use Rattle.target_search.specs.declared.found.Found.{Found}
 use Rattle.target_search.specs.declared.found.Found.TheVariants.{Lasso, Refuted, Spent}
 
@@ -24,8 +25,8 @@ IsFound states budget (Lasso lasso) = length lasso.states ≡ states
 IsFound states budget (Refuted proof) = IsRefuted states proof
 IsFound states budget (Spent proof) = IsSpent states budget proof
 
--- The same, where the lasso may have fewer states.
+-- The same, where the lasso may have fewer states: the fewest with which its sequence can be shown.
 abbrev pub IsFoundWithin : ℕ → Option ℕ → Found → Type 0
-IsFoundWithin states budget (Lasso lasso) = length lasso.states ≤ states
+IsFoundWithin states budget (Lasso lasso) = (length lasso.states ≤ states) × HasFewestStates lasso
 IsFoundWithin states budget (Refuted proof) = IsRefuted states proof
 IsFoundWithin states budget (Spent proof) = IsSpent states budget proof

@@ -1,8 +1,8 @@
 // A trace is judged part by part.
 
-ghost use Rattle.std.specs.Prelude.{◌≡◌, IfOk, map};
+ghost use Rattle.std.specs.Prelude.{◌≡◌, ◌↔◌, IfOk, IsTrue};
 ghost use Rattle.trace_form.specs.Text.{trace_text};
-ghost use Rattle.trace_judge.specs.Judged.{IsJudgement, JudgesFacts, name_in};
+ghost use Rattle.trace_judge.specs.Judged.{IsJudgement, IsRight, IsJudgedFact, AreJudged, PartHolds};
 
 use crate::answer::TraceAnswer;
 use alloy_base::Bytes;
@@ -15,14 +15,14 @@ use std::alloc::{AllocError, Global};
 use trace_evaluator::{declared, holds, keeps};
 use trace_form::{TraceFault, read_trace};
 
-/// Judges the trace that a text spells: whether it keeps the scopes, whether the declarations hold at every position, and
-/// whether each fact and the command hold at the first.
+/// Judges the trace that a text spells: whether it keeps the scopes, the first position at which the declarations don't hold,
+/// and whether each fact and the command hold at the first position, by what the model means.
 pub fn judge_trace(
     alloc: Global,
     prepared: &Prepared,
     trace: &[u8],
 ) -> Result<TraceAnswer, AllocError>
-    ensures { IfOk result (λ answer. IsJudgement trace.now answer) }
+    ensures { IfOk result (λ answer. IsJudgement prepared.now trace.now answer) }
 {
     match read_trace(alloc, &prepared.labels, trace) {
         Ok(lasso) => judged_text(alloc, prepared, &lasso, trace),
@@ -39,7 +39,7 @@ fn judged_text(
     trace: &[u8],
 ) -> Result<TraceAnswer, AllocError>
     requires { trace_text prepared.now.labels lasso.now ≡ trace.now }
-    ensures { IfOk result (λ answer. IsJudgement trace.now answer) }
+    ensures { IfOk result (λ answer. IsJudgement prepared.now trace.now answer) }
 {
     let judgement = judgement_on(alloc, prepared, lasso)?;
     let text = judgement_text(alloc, &judgement)?;
@@ -51,7 +51,7 @@ fn judged_text(
 
 /// What holds on a lasso.
 fn judgement_on(alloc: Global, prepared: &Prepared, lasso: &Lasso) -> Result<Judgement, AllocError>
-    ensures { IfOk result (λ judgement. JudgesFacts prepared.now judgement) }
+    ensures { IfOk result (λ judgement. IsRight prepared.now lasso.now judgement) }
 {
     let Some((command, facts)) = prepared.parts.as_slice().split_last() else {
         // The command is a part.
@@ -77,11 +77,12 @@ fn judged_facts(
     lasso: &Lasso,
     facts: &[Part],
 ) -> Result<JudgedFactList, AllocError>
-    ensures { IfOk result (λ judged. map (λ j. j.fact) judged ≡ map (name_in prepared.now.loaded) facts.now) }
+    ensures { IfOk result (λ judged. AreJudged prepared.now lasso.now judged facts.now) }
 {
     let mut judged = JudgedFactList::new(alloc);
     for fact in facts {
-        judged.push(judged_fact(alloc, prepared, lasso, fact)?)?;
+        let more = judged_fact(alloc, prepared, lasso, fact)?;
+        judged.push(more)?;
     }
     Ok(judged)
 }
@@ -93,7 +94,7 @@ fn judged_fact(
     lasso: &Lasso,
     part: &Part,
 ) -> Result<JudgedFact, AllocError>
-    ensures { IfOk result (λ judged. judged.fact ≡ name_in prepared.now.loaded part.now) }
+    ensures { IfOk result (λ judged. IsJudgedFact prepared.now lasso.now judged part.now) }
 {
     let fact = fact_name(
         alloc,
@@ -112,7 +113,9 @@ fn part_holds(
     prepared: &Prepared,
     lasso: &Lasso,
     part: &Part,
-) -> Result<bool, AllocError> {
+) -> Result<bool, AllocError>
+    ensures { IfOk result (λ b. IsTrue b ↔ PartHolds prepared.now lasso.now part.now) }
+{
     holds(
         alloc,
         &prepared.model,

@@ -1,6 +1,7 @@
 // The tuples of an expression on a trace.
 
 ghost use Rattle.std.specs.Prelude.{◌≡◌, IfOk};
+ghost use Rattle.core_tree.specs.Trees.{term_of};
 ghost use Rattle.trace_form.specs.Text.{trace_text};
 ghost use Rattle.trace_judge.specs.Judged.{IsValue, value_text};
 
@@ -14,7 +15,8 @@ use trace_evaluator::tuples;
 use trace_form::{TextList, TraceFault, push_tuples, read_trace};
 use tuple_sets::TupleSet;
 
-/// The tuples of an expression at a position of the sequence of the trace that a text spells.
+/// The tuples of an expression at a position of the sequence of the trace that a text spells: just those of its meaning, in
+/// ascending order.
 pub fn value_on_trace(
     alloc: Global,
     prepared: &Prepared,
@@ -22,7 +24,7 @@ pub fn value_on_trace(
     position: u64,
     trace: &[u8],
 ) -> Result<TraceAnswer, AllocError>
-    ensures { IfOk result (λ answer. IsValue trace.now answer) }
+    ensures { IfOk result (λ answer. IsValue prepared.now (term_of value.now) position trace.now answer) }
 {
     match read_trace(alloc, &prepared.labels, trace) {
         Ok(lasso) => valued(alloc, prepared, value, position, &lasso, trace),
@@ -41,7 +43,7 @@ fn valued(
     trace: &[u8],
 ) -> Result<TraceAnswer, AllocError>
     requires { trace_text prepared.now.labels lasso.now ≡ trace.now }
-    ensures { IfOk result (λ answer. IsValue trace.now answer) }
+    ensures { IfOk result (λ answer. IsValue prepared.now (term_of value.now) position trace.now answer) }
 {
     let set = tuples(
         alloc,
@@ -51,6 +53,7 @@ fn valued(
         value,
         position,
     )?;
+    let _ = set.arity();
     let text = value_text(alloc, &prepared.labels.atoms, &set)?;
     let shown = Bytes::copy(alloc, &text)?;
     let _ = trace;

@@ -1,23 +1,32 @@
-use Rattle.std.proofs.Common.{◌≡◌, Some, length}
+use Rattle.std.proofs.Common.{◌≡◌, Some, length, subst}
 use Rattle.analyser.specs.Found as outcome
-use Rattle.analyser.specs.declared.answer.Answer.TheVariants.{Absent, Unknown}
+use Rattle.analyser.specs.declared.answer.Answer.TheVariants.{Trace, Absent, Unknown}
+use Rattle.certificate_search.specs.Certificate.{ShowsNone}
 use Rattle.als_command.proofs.analysis.found_text.Goals as goal
+
+pub returns-in_ok-text-in-Trace : goal.returns-in_ok-text-in-Trace
+returns-in_ok-text-in-Trace c =
+    let prepared = c.requires.0 in
+    let found : outcome.IsFoundIn prepared c.args.settings.now.conflicts (Trace c.in-Trace.labels c.in-Trace.lasso) = rw c.in-Trace.is at c.requires.2 in
+    (prepared, c.requires.1, c.in_ok-text-in-Trace.ensures prepared found.0 found.1)
 
 pub returns-in_ok-copy-in-Absent : goal.returns-in_ok-copy-in-Absent
 returns-in_ok-copy-in-Absent c =
-    let found : outcome.IsFound c.args.settings.now.conflicts (Absent c.in-Absent.table c.in-Absent.states c.in-Absent.cnf c.in-Absent.lines) = rw c.in-Absent.is at c.requires in
-    record {
-      states = c.in-Absent.states;
+    let prepared = c.requires.0 in
+    let found : outcome.IsFoundIn prepared c.args.settings.now.conflicts (Absent c.in-Absent.table c.in-Absent.states c.in-Absent.cnf c.in-Absent.lines) = rw c.in-Absent.is at c.requires.2 in
+    let shown : ShowsNone c.in-Absent.states c.args.settings.now.part c.in_ok-copy-in-Absent.field-0 = record {
       table = c.in-Absent.table;
       cnf = c.in-Absent.cnf;
       lines = c.in-Absent.lines;
-      refutes = found;
+      refutes = found.1;
       text_is = cc (c.in_ok-copy-in-Absent.ensures, c.deref.ensures.value, c.in_ok-text-in-Absent.ensures);
-    }
+    } in
+    (prepared, c.requires.1, subst (λ n. ShowsNone n c.args.settings.now.part c.in_ok-copy-in-Absent.field-0) found.0 shown)
 
 pub returns-in_ok-copy-in-Unknown : goal.returns-in_ok-copy-in-Unknown
 returns-in_ok-copy-in-Unknown c =
-    let found : outcome.IsFound c.args.settings.now.conflicts (Unknown c.in-Unknown.table c.in-Unknown.cnf c.in-Unknown.lines) = rw c.in-Unknown.is at c.requires in
+    let prepared = c.requires.0 in
+    let found : outcome.IsFoundIn prepared c.args.settings.now.conflicts (Unknown c.in-Unknown.table c.in-Unknown.cnf c.in-Unknown.lines) = rw c.in-Unknown.is at c.requires.2 in
     record {
       table = c.in-Unknown.table;
       cnf = c.in-Unknown.cnf;

@@ -1,8 +1,11 @@
+use Rattle.std.proofs.Common.{ap, ◌∙◌}
+use Rattle.trace_form.specs.Text.{trace_text}
+use Rattle.judgement_texts.specs.Certified.{trace_part}
 use Rattle.certificate_search.proofs.certificate.trace_shown.Goals as goal
 
 pub returns : goal.returns
-returns c = record {
-  labels = c.args.labels.now;
+returns c prepared labels trace = record {
   lasso = c.args.lasso.now;
-  text_is = c.in_ok-shown.ensures;
+  trace = trace;
+  text_is = c.in_ok-shown.ensures ∙ ap (λ l. trace_part c.args.part (trace_text l c.args.lasso.now)) labels;
 }

@@ -4,11 +4,10 @@ use Rattle.fact_core.specs.Core.{IsCore}
 use Rattle.fact_core.specs.declared.answer.Core.{Core}
 use Rattle.certificate_search.proofs.kept.core_certificate.Goals as goal
 
-pub returns-in-Facts : goal.returns-in-Facts
-returns-in-Facts g c =
+pub returns-in_ok-text-in-Facts : goal.returns-in_ok-text-in-Facts
+returns-in_ok-text-in-Facts g c =
     let found = subst (λ (x : Core). IsCore c.args.prepared.target.scopes.states c.in_ok-facts.facts c.args.budget x) c.in-Facts.is c.in_ok-lasso.ensures in
     record {
-      prepared = c.args.prepared;
       kept = c.in-Facts.kept;
       names = c.in_ok-names-in-Facts.names;
       rising = found.0.0;

@@ -2,8 +2,8 @@ use Rattle.certificate_search.proofs.least.above_shown.Goals as goal
 
 pub returns : goal.returns
 returns c = record {
-  labels = c.args.labels.now;
   lasso = c.args.lasso.now;
+  trace = c.requires.trace;
   more = c.requires.more;
   table = c.in_ok-rows.rows;
   cnf = c.args.proof.cnf;

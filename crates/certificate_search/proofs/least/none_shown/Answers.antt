@@ -2,7 +2,6 @@ use Rattle.certificate_search.proofs.least.none_shown.Goals as goal
 
 pub returns : goal.returns
 returns c = record {
-  states = c.args.proof.states;
   table = c.in_ok-rows.rows;
   cnf = c.args.proof.cnf;
   lines = c.args.proof.lines;

@@ -2,8 +2,8 @@ use Rattle.certificate_search.proofs.least.one_shown.Goals as goal
 
 pub returns : goal.returns
 returns c = record {
-  labels = c.args.labels.now;
   lasso = c.args.lasso.now;
-  one = c.requires;
+  trace = c.requires.trace;
+  one = c.requires.one;
   text_is = c.in_ok-shown.ensures;
 }

@@ -2,7 +2,10 @@ use Rattle.trace_judge.proofs.value.valued.Goals as goal
 
 pub returns : goal.returns
 returns c = record {
-  spells = record { prepared = c.args.prepared.now; lasso = c.args.lasso.now; spelled = c.requires };
-  tuples = c.in_ok-set.set.tuples;
+  lasso = c.args.lasso.now;
+  spelled = c.requires;
+  set = c.in_ok-set.set;
+  sorted = c.arity.ensures.set;
+  has = c.in_ok-set.ensures;
   text_is = cc (c.in_ok-shown.ensures, c.deref.ensures.value, c.in_ok-text.ensures);
 }

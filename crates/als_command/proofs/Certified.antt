@@ -1,0 +1,21 @@
+-- The answer that has the text of a certificate.
+use Rattle.std.proofs.Common.{ℕ, Option}
+use Rattle.analyser.specs.Found.{IsReady}
+use Rattle.analyser.specs.declared.ready.Prepared.{Prepared}
+use Rattle.certificate_search.specs.Certificate.{IsLeastText, IsCoreText}
+use Rattle.certificate_search.specs.declared.certificate.Certificate.{Certificate}
+use Rattle.certificate_search.specs.declared.certificate.Certificate.TheVariants.{Trace, Absent, Unknown}
+use Rattle.command_words.specs.declared.named.Mode.TheVariants.{Least, Core}
+use Rattle.command_words.specs.declared.named.Part.{Part}
+use Rattle.als_command.specs.Run.{IsFoundIn, answer_of}
+
+module _ (number : ℕ) (part : Part) (budget : Option ℕ) (prepared : Prepared) (ready : IsReady number prepared) where
+  pub least_found : (found : Certificate) → IsLeastText prepared part budget found → IsFoundIn Least number part budget (answer_of found)
+  least_found (Trace text) shows = (prepared, ready, shows)
+  least_found (Absent text) shows = shows
+  least_found (Unknown text) shows = shows
+
+  pub core_found : (found : Certificate) → IsCoreText prepared part budget found → IsFoundIn Core number part budget (answer_of found)
+  core_found (Trace text) shows = (prepared, ready, shows)
+  core_found (Absent text) shows = (prepared, ready, shows)
+  core_found (Unknown text) shows = shows

@@ -1,0 +1,12 @@
+use Rattle.std.proofs.Common.{subst}
+use Rattle.target_search.specs.Found as target
+use Rattle.analyser.proofs.search.search_prepared.Goals as goal
+
+pub returns-in-Lasso : goal.returns-in-Lasso
+returns-in-Lasso g c = c.trace_of.ensures c.args.budget
+
+pub returns-in_ok-table-in-Spent : goal.returns-in_ok-table-in-Spent
+returns-in_ok-table-in-Spent g c =
+    let spent = subst (target.IsFoundWithin c.args.prepared.bounds.states c.args.budget) c.in-Spent.is c.in_ok-lasso.ensures in
+    let spends = spent.1 in
+    (spends.0, (spends.1, spends.2))
