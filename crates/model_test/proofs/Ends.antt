@@ -13,9 +13,9 @@ use Rattle.model_test.specs.declared.shape.BodyShape.{BodyShape}
 use Rattle.model_test.specs.declared.shape.Shape.{Shape}
 use Rattle.model_test.specs.declared.shape.Limits.{Limits}
 use Rattle.model_test.specs.declared.shape.Calls.TheVariants.{Any, Below}
-use Rattle.model_test.specs.Fits.{shapes_in, signature_in, is_allowed_field, is_allowed_body, bounded, bound_limits, has_columns, columns_at, is_right, order_of, HasColumns}
+use Rattle.model_test.specs.Fits.{shapes_in, signature_in, is_allowed_field, is_allowed_body, bounded, bound_limits, has_columns, is_there, columns_at, is_right, order_of, HasColumns}
 use Rattle.model_test.specs.Kept.{HasBound}
-use Rattle.model_test.proofs.Parts.{missing_from, has_from, bounded_from}
+use Rattle.model_test.proofs.Parts.{not_false, missing_from, has_from, bounded_from}
 use Rattle.model_test.proofs.Right.{columns_from, term_right, claim_right}
 use Rattle.model_test.proofs.Results.{if_ok}
 
@@ -29,6 +29,15 @@ module _ (shape : Shape) (names : Columns) where
   pub formula_end : {E : Type 0} (f : Claim) (r : Result Bool E) → IfOk r (λ b. b ≡ is_right shape any_limits f names) → IfOk r (λ b. IsTrue b → IsRightClaim (shapes_in shape) AnyField AnyBody f names)
   formula_end f r e = if_ok (λ b. b ≡ is_right shape any_limits f names) (λ b. IsTrue b → IsRightClaim (shapes_in shape) AnyField AnyBody f names)
       (λ b is t. claim_right shape any_limits AnyField AnyBody (λ g h. tt) (λ s h. tt) refl f names (sym is ∙ t)) r e
+
+  there : (o : Option ℕ) → is_there o ≡ true → (n : ℕ) × (o ≡ Some n)
+  there (Some n) e = (n, refl)
+  there None e = absurd (not_false e)
+
+  pub term_end : (e : Term) (o : Option ℕ) (b : Bool) → o ≡ columns_at shape any_limits e names → b ≡ is_there o → IsTrue b → IsRightTerm (shapes_in shape) AnyField AnyBody e names
+  term_end e o b at is t =
+      let found = there o (sym is ∙ t) in
+      term_right shape any_limits AnyField AnyBody (λ g h. tt) (λ s h. tt) refl e names found.0 (sym at ∙ found.1)
 
   pub value_has : (limits : Limits) (e : Expr) (bound : Bound) (o p : Option ℕ) (w : ℕ) (r : Bool) → o ≡ columns_at shape limits (term_of e) names → p ≡ bounded bound.multiplicity (columns_at shape (bound_limits None) (term_of bound.expr) names) → p ≡ Some w → r ≡ has_columns o w → IsTrue r → HasColumns shape limits names e bound
   value_has limits e bound o p w r eo ep is er t = record { columns = w; expr = sym eo ∙ has_from o w (sym er ∙ t); limit = sym ep ∙ is }

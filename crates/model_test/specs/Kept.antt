@@ -11,9 +11,9 @@ use Rattle.core_tree.specs.declared.model.Assert.{Assert}
 use Rattle.core_tree.specs.declared.model.Command.{Command}
 use Rattle.core_tree.specs.declared.model.Parameter.{Parameter}
 use Rattle.core_tree.specs.declared.operators.Multiplicity.TheVariants.{One}
-use Rattle.core_tree.specs.Trees.{term_of, claim_of}
-use Rattle.core_tree.specs.Columns.{no_columns, columns_in, IsFew}
-use Rattle.core_tree.specs.Models.{IsAncestor, IsParent, parents_of, shapes_of, this_column, IsRightSig, IsRightBody, IsRightBound, IsRightFormula, HasAtomParameters}
+use Rattle.core_tree.specs.Trees.{Term, term_of, claim_of}
+use Rattle.core_tree.specs.Columns.{no_columns, columns_in, IsFew, IsRightTerm}
+use Rattle.core_tree.specs.Models.{AnyField, AnyBody, IsAncestor, IsParent, parents_of, shapes_of, this_column, IsRightSig, IsRightBody, IsRightBound, IsRightFormula, HasAtomParameters}
 use Rattle.model_test.specs.declared.shape.Shape.{Shape}
 use Rattle.model_test.specs.Fits.{order_of}
 
@@ -53,6 +53,10 @@ pub record IsModelButTypes (model : Model) : Type 0 where
   pub asserts : All (λ (a : Assert). IsRightFormula model (claim_of a.formula) no_columns) model.asserts
   pub bodies : All (IsRightBody model) model.bodies
   pub commands : All (IsCommand model) model.commands
+
+-- an expression of the model that has no free name
+abbrev pub IsRightValue : Model → Term → Type 0
+IsRightValue model e = IsRightTerm (shapes_of model) AnyField AnyBody e no_columns
 
 -- a parameter stands for one atom
 abbrev pub IsOne : Parameter → Type 0

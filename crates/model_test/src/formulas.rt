@@ -3,15 +3,15 @@
 ghost use Rattle.std.specs.Prelude.{◌≡◌, ℕ, ◌<◌, IfOk, IfSome, IsTrue, slice_index};
 ghost use Rattle.core_tree.specs.Trees.{term_of, claim_of};
 ghost use Rattle.core_tree.specs.Models.{AnyField, AnyBody, NoFunction, IsRightFormula, this_column, shapes_of};
-ghost use Rattle.core_tree.specs.Columns.{IsRightClaim, no_columns};
+ghost use Rattle.core_tree.specs.Columns.{IsRightClaim, IsRightTerm, no_columns};
 ghost use Rattle.model_test.specs.Names.{names_of};
 ghost use Rattle.model_test.specs.Fits.{shapes_in, bounded, bound_limits, columns_at};
 
-use crate::columns::bounded;
+use crate::columns::{bounded, is_there};
 use crate::names::{NameList, with_name};
 use crate::shape::{Calls, Limits, Shape};
 use crate::walk::{columns_at, is_right};
-use core_tree::{Bound, Formula};
+use core_tree::{Bound, Expr, Formula};
 use std::alloc::{AllocError, Global};
 
 /// The name `this` alone.
@@ -36,6 +36,24 @@ pub fn is_right_formula(
         look: true,
     };
     is_right(alloc, shape, limits, names, formula)
+}
+
+/// Whether an expression that may call every function is right.
+pub fn is_right_term(
+    alloc: Global,
+    shape: &Shape,
+    names: &NameList,
+    expr: &Expr,
+) -> Result<bool, AllocError>
+    ensures { IfOk result (λ b. IsTrue b → IsRightTerm (shapes_in shape.now) AnyField AnyBody (term_of expr.now) (names_of names.now)) }
+{
+    let limits = Limits {
+        below: None,
+        calls: Calls::Any,
+        look: true,
+    };
+    let columns = columns_at(alloc, shape, limits, names, expr)?;
+    Ok(is_there(columns))
 }
 
 /// The columns of a right bound that calls no function.

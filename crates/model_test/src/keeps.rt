@@ -5,23 +5,23 @@ ghost use Rattle.core_tree.specs.declared.model.Field.{Field};
 ghost use Rattle.core_tree.specs.declared.model.Fact.{Fact};
 ghost use Rattle.core_tree.specs.declared.model.Assert.{Assert};
 ghost use Rattle.core_tree.specs.declared.model.Parameter.{Parameter};
-ghost use Rattle.core_tree.specs.Trees.{claim_of};
+ghost use Rattle.core_tree.specs.Trees.{claim_of, term_of};
 ghost use Rattle.core_tree.specs.Columns.{no_columns};
 ghost use Rattle.core_tree.specs.Models.{HasAtomParameters, IsRightFormula, plain_shapes, shapes_of};
 ghost use Rattle.model_test.specs.Names.{names_of};
 ghost use Rattle.model_test.specs.Fits.{shapes_in};
-ghost use Rattle.model_test.specs.Kept.{HasDeclarations, HasFormulas, IsCommand, IsModelButTypes, IsOne};
+ghost use Rattle.model_test.specs.Kept.{HasDeclarations, HasFormulas, IsCommand, IsModelButTypes, IsOne, IsRightValue};
 
 use crate::bodies::are_right_bodies;
 use crate::columns::both;
 use crate::fields::are_right_fields;
-use crate::formulas::{is_right_formula, this_name};
+use crate::formulas::{is_right_formula, is_right_term, this_name};
 use crate::names::NameList;
 use crate::numbering::sig_numbers;
 use crate::shape::Shape;
 use crate::signatures::{full_shape, plain_shape};
 use crate::sigs::{are_falling, are_right_sigs};
-use core_tree::{Assert, Command, Fact, Formula, Model, Multiplicity, Parameter};
+use core_tree::{Assert, Command, Expr, Fact, Formula, Model, Multiplicity, Parameter};
 use std::alloc::{AllocError, Global};
 
 /// Whether a formula of the model without free names is right.
@@ -35,6 +35,19 @@ fn is_right_closed(
     ensures { IfOk result (λ b. IsTrue b → IsRightFormula model.now (claim_of formula.now) no_columns) }
 {
     is_right_formula(alloc, shape, &NameList::new(alloc), formula)
+}
+
+/// Whether an expression of the model without free names is right.
+fn is_right_closed_term(
+    alloc: Global,
+    model: &Model,
+    shape: &Shape,
+    expr: &Expr,
+) -> Result<bool, AllocError>
+    requires { shapes_in shape.now ≡ shapes_of model.now }
+    ensures { IfOk result (λ b. IsTrue b → IsRightValue model.now (term_of expr.now)) }
+{
+    is_right_term(alloc, shape, &NameList::new(alloc), expr)
 }
 
 /// Whether all facts are right.
@@ -236,5 +249,18 @@ pub fn keeps_model(alloc: Global, model: &Model) -> Result<bool, AllocError>
     match full_shape(alloc, model, &plain)? {
         None => Ok(false),
         Some(shape) => has_right_parts(alloc, model, &plain, &shape),
+    }
+}
+
+/// Whether an expression fits a model: it has no free name, its numbers are in range, each part has the
+/// columns that its place needs, nine at most, and each call has its arguments. Errors where memory
+/// runs out.
+pub fn keeps_value(alloc: Global, model: &Model, value: &Expr) -> Result<bool, AllocError>
+    ensures { IfOk result (λ b. b ≡ true → IsRightValue model.now (term_of value.now)) }
+{
+    let plain = plain_shape(alloc, model)?;
+    match full_shape(alloc, model, &plain)? {
+        None => Ok(false),
+        Some(shape) => is_right_closed_term(alloc, model, &shape, value),
     }
 }

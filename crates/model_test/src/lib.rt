@@ -14,7 +14,7 @@ mod signatures;
 mod sigs;
 mod walk;
 
-pub use keeps::keeps_model;
+pub use keeps::{keeps_model, keeps_value};
 
 #[cfg(test)]
 mod tests;

@@ -1,5 +1,5 @@
 -- The declarations that are collected are just those that are seen.
-use Rattle.std.proofs.Common.{◌≡◌, ◌⊎◌, ◌↔◌, ℕ, ◌+◌, ◌<◌, ◌==◌, Bool, true, false, not, cond, ◌&&◌, ◌||◌, List, [], ◌∷◌, ◌++◌, map, take, length, get_or, Option, Some, None, slice_get, append_assoc, append-nil, refl, sym, ◌∙◌, ap, subst, inl, inr}
+use Rattle.std.proofs.Common.{◌≡◌, ◌⊎◌, ◌↔◌, ℕ, ◌+◌, ◌<◌, ◌==◌, Bool, true, false, not, cond, ◌&&◌, ◌||◌, List, [], ◌∷◌, ◌++◌, map, take, length, get_or, Option, Some, None, slice_get, append_assoc, append-nil, refl, sym, ◌∙◌, ap, inl, inr}
 use Rattle.std.specs.List.{filter_map, cons_option}
 use Rattle.std.proofs.lemmas.List.{take_more}
 use Rattle.std.proofs.lemmas.List.Elements.{filter_map-append}
@@ -30,21 +30,21 @@ map_append : {X Y : Type 0} (f : X → Y) (xs ys : List X) → map f (xs ++ ys) 
 map_append f [] ys = refl
 map_append f (x ∷ xs) ys = ap (λ zs. f x ∷ zs) (map_append f xs ys)
 
-both : (a b : Bool) → (a && b) ≡ true → (a ≡ true) × (b ≡ true)
+pub both : (a b : Bool) → (a && b) ≡ true → (a ≡ true) × (b ≡ true)
 both true b e = (refl, e)
 both false b e = absurd cc
 
-either : (a b : Bool) → (a || not b) ≡ true → (a ≡ true) ⊎ (b ≡ false)
+pub either : (a b : Bool) → (a || not b) ≡ true → (a ≡ true) ⊎ (b ≡ false)
 either true b e = inl refl
 either false true e = absurd cc
 either false false e = inr refl
 
-either_back : (a b : Bool) → (a ≡ true) ⊎ (b ≡ false) → (a || not b) ≡ true
+pub either_back : (a b : Bool) → (a ≡ true) ⊎ (b ≡ false) → (a || not b) ≡ true
 either_back true b h = refl
 either_back false b (inl e) = absurd cc
 either_back false b (inr e) = ap not e
 
-both_back : (a b : Bool) → a ≡ true → b ≡ true → (a && b) ≡ true
+pub both_back : (a b : Bool) → a ≡ true → b ≡ true → (a && b) ≡ true
 both_back true b e g = g
 both_back false b e g = absurd cc
 
@@ -106,10 +106,9 @@ none_seen None is_own name ds all no_mark = sym (append-nil all)
 none_seen (Some false) is_own name ds all no_mark = sym (append-nil all)
 none_seen (Some true) is_own name ds all no_mark = absurd (no_mark refl)
 
--- what is collected from the instances to which a name without a path leads are its candidates
-pub candidates_of : (scopes : List Scope) (from : ℕ) (name : QualName) (marks : List Bool) (all : List Decl) → path_of name.parts ≡ [] → AreLed scopes from name.is_own [] marks →
+-- what is collected from the instances to which the part before a name leads are its candidates
+pub candidates_of : (scopes : List Scope) (from : ℕ) (name : QualName) (marks : List Bool) (all : List Decl) → AreLed scopes from name.is_own (path_of name.parts) marks →
     all ≡ seen_from marks from (last_of name.parts) 0 scopes → AreCandidates scopes from name all
-candidates_of scopes from name marks all e led is =
-    let out = kept_from (Leads scopes from name.is_own (path_of name.parts)) from (last_of name.parts) marks
-    (λ j. subst (λ (p : List (List ℕ)). IsMarked marks j ↔ Leads scopes from name.is_own p j) (sym e) (led.just j)) 0 scopes in
+candidates_of scopes from name marks all led is =
+    let out = kept_from (Leads scopes from name.is_own (path_of name.parts)) from (last_of name.parts) marks led.just 0 scopes in
     (out.0, out.1, is ∙ out.2)

@@ -9,7 +9,7 @@ use Rattle.name_tables.specs.Visible.{HasOpen, Passes, here, further, Reaches, o
 use Rattle.name_tables.specs.Marks.{IsMarked, IsLinked, IsNext, IsClosed, IsBegun, AreReached, AreLed}
 
 -- a mark more, and no other
-set_cases : (marks : List Bool) (t j : ℕ) → IsMarked (slice_set marks t true) j → (j ≡ t) ⊎ IsMarked marks j
+pub set_cases : (marks : List Bool) (t j : ℕ) → IsMarked (slice_set marks t true) j → (j ≡ t) ⊎ IsMarked marks j
 set_cases [] t j h = inr h
 set_cases (m ∷ marks) zero zero h = inl refl
 set_cases (m ∷ marks) zero (suc j) h = inr h
@@ -19,19 +19,19 @@ set_cases (m ∷ marks) (suc t) (suc j) h = elim (set_cases marks t j h) [
   | inr k ↦ inr k
 ]
 
-set_here : (marks : List Bool) (t : ℕ) → t < length marks → IsMarked (slice_set marks t true) t
+pub set_here : (marks : List Bool) (t : ℕ) → t < length marks → IsMarked (slice_set marks t true) t
 set_here [] t lt = absurd (omega arith)
 set_here (m ∷ marks) zero lt = refl
 set_here (m ∷ marks) (suc t) lt = set_here marks t (omega arith)
 
-set_kept : (marks : List Bool) (t j : ℕ) → IsMarked marks j → IsMarked (slice_set marks t true) j
+pub set_kept : (marks : List Bool) (t j : ℕ) → IsMarked marks j → IsMarked (slice_set marks t true) j
 set_kept [] t j h = h
 set_kept (m ∷ marks) zero zero h = refl
 set_kept (m ∷ marks) zero (suc j) h = h
 set_kept (m ∷ marks) (suc t) zero h = h
 set_kept (m ∷ marks) (suc t) (suc j) h = set_kept marks t j h
 
-set_length : (marks : List Bool) (t : ℕ) → length (slice_set marks t true) ≡ length marks
+pub set_length : (marks : List Bool) (t : ℕ) → length (slice_set marks t true) ≡ length marks
 set_length [] t = refl
 set_length (m ∷ marks) zero = refl
 set_length (m ∷ marks) (suc t) = ap suc (set_length marks t)
@@ -93,7 +93,7 @@ fewer_free (true ∷ marks) zero e = absurd cc
 fewer_free (false ∷ marks) zero e = omega arith
 fewer_free (m ∷ marks) (suc t) e = let less = fewer_free marks t e in omega arith
 
-no_mark : (n j : ℕ) → IsMarked (replicate n false) j → ⊥
+pub no_mark : (n j : ℕ) → IsMarked (replicate n false) j → ⊥
 no_mark zero j e = cc
 no_mark (suc n) zero e = cc
 no_mark (suc n) (suc j) e = no_mark n j e

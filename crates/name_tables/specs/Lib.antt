@@ -2,3 +2,5 @@ pub mod Visible
 pub mod Marks
 pub mod Lookup
 pub mod Refused
+pub mod Gathered
+pub mod Twice

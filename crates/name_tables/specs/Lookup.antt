@@ -1,10 +1,15 @@
--- The declarations that a look-up collects from the marked instances.
-use Rattle.std.specs.Prelude.{ℕ, ◌+◌, ◌==◌, Bool, true, false, not, cond, ◌&&◌, ◌||◌, List, [], ◌∷◌, ◌++◌, Option, Some, None, slice_get}
+-- The opens that a look-up follows, and the declarations that it collects from the marked instances.
+use Rattle.std.specs.Prelude.{ℕ, ◌+◌, ◌==◌, Bool, true, not, cond, ◌&&◌, ◌||◌, List, [], ◌∷◌, ◌++◌, Option, Some, None, slice_get}
 use Rattle.std.specs.List.{filter_map}
 use Rattle.std.specs.Str.{bytes_eq}
 use Rattle.name_tables.specs.declared.table.Decl.{Decl}
 use Rattle.name_tables.specs.declared.table.Declared.{Declared}
+use Rattle.name_tables.specs.declared.table.Link.{Link}
 use Rattle.name_tables.specs.declared.table.Scope.{Scope}
+
+-- an open with the alias that may be followed
+abbrev pub may_follow : Bool → List ℕ → Link → Bool
+may_follow is_own alias o = bytes_eq o.alias alias && (is_own || not o.is_private)
 
 abbrev pub has_name : Bool → List ℕ → Declared → Bool
 has_name is_own name d = bytes_eq d.name name && (is_own || not d.is_private)

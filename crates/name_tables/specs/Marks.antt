@@ -1,5 +1,5 @@
 -- Marks of the instances that an instance reaches.
-use Rattle.std.specs.Prelude.{◌≡◌, ◌↔◌, ℕ, ◌<◌, Bool, true, false, List, All, Contains, Some, length, slice_get}
+use Rattle.std.specs.Prelude.{◌≡◌, ◌↔◌, ◌⊎◌, ℕ, ◌<◌, Bool, true, false, List, All, Contains, Some, length, slice_get}
 use Rattle.name_tables.specs.declared.table.Link.{Link}
 use Rattle.name_tables.specs.declared.table.Scope.{Scope}
 use Rattle.name_tables.specs.Visible.{HasOpen, Reaches, IsStep, Follows, Leads}
@@ -30,6 +30,32 @@ pub record IsBegun (scopes : List Scope) (from : ℕ) (opens : List Link) (marks
 pub record AreReached (scopes : List Scope) (from : ℕ) (marks : List Bool) : Type 0 where
   pub every : length marks ≡ length scopes
   pub just : (j : ℕ) → IsMarked marks j ↔ Reaches scopes from j
+
+-- an open that has the alias and isn't private, or stands in the name's own instance
+abbrev pub MayFollow : Bool → List ℕ → Link → Type 0
+MayFollow is_own alias o = (o.alias ≡ alias) × ((is_own ≡ true) ⊎ (o.is_private ≡ false))
+
+-- one of the opens may be followed and leads to j
+abbrev pub LeadsTo : Bool → List ℕ → List Link → ℕ → Type 0
+LeadsTo is_own alias opens j = (o : Link) × Contains opens o × MayFollow is_own alias o × (o.instance ≡ j)
+
+-- the marks to which just those are added to which the opens lead
+pub record AreOpened (is_own : Bool) (alias : List ℕ) (opens : List Link) (old : List Bool) (new : List Bool) : Type 0 where
+  pub every : length new ≡ length old
+  pub just : (j : ℕ) → IsMarked new j ↔ (IsMarked old j ⊎ LeadsTo is_own alias opens j)
+
+-- an open with the alias leads to j from one of the first n instances, which was marked before
+abbrev pub IsAfter : List Scope → ℕ → List ℕ → List Bool → ℕ → ℕ → Type 0
+IsAfter scopes from alias before n j = (i : ℕ) × (o : Link) × (i < n) × IsMarked before i × IsStep scopes from alias i o × (o.instance ≡ j)
+
+-- just the instances to which such opens lead are marked
+pub record AreFollowed (scopes : List Scope) (from : ℕ) (alias : List ℕ) (before : List Bool) (n : ℕ) (marks : List Bool) : Type 0 where
+  pub every : length marks ≡ length scopes
+  pub just : (j : ℕ) → IsMarked marks j ↔ IsAfter scopes from alias before n j
+
+-- just the instances to which the aliases in turn lead are marked
+pub record AreBehind (scopes : List Scope) (from : ℕ) (path : List (List ℕ)) (marks : List Bool) : Type 0 where
+  pub just : (j : ℕ) → IsMarked marks j ↔ Follows scopes from from path j
 
 -- just the instances to which the part before a name leads are marked
 pub record AreLed (scopes : List Scope) (from : ℕ) (is_own : Bool) (path : List (List ℕ)) (marks : List Bool) : Type 0 where

@@ -1,11 +1,13 @@
 // The instances to which the part before a name leads.
 
-ghost use Rattle.std.specs.Prelude.{◌≡◌, ◌<◌, true, false, IfOk, [], length};
+ghost use Rattle.std.specs.Prelude.{◌≡◌, ◌+◌, ◌<◌, true, false, IfOk, [], ◌∷◌, Contains, length};
 ghost use Rattle.std.specs.Str.{bytes_eq};
-ghost use Rattle.name_tables.specs.Marks.{AreLed};
+ghost use Rattle.name_tables.specs.declared.table.Link.{Link};
+ghost use Rattle.name_tables.specs.Lookup.{may_follow};
+ghost use Rattle.name_tables.specs.Marks.{AreLed, IsLinked, AreOpened, AreFollowed, AreBehind};
 ghost use Rattle.name_tables.specs.Visible.{path_of, last_of};
 
-use crate::reach::{is_marked, mark, no_marks, reached};
+use crate::reach::{is_marked, mark, no_marks, opens_of, reached};
 use crate::table::{Link, Names, Scope};
 use alloy_base::Name;
 use std::alloc::{AllocError, Global};
@@ -37,12 +39,52 @@ pub fn last_part(parts: &[Name]) -> &str
     parts[parts.len() - 1].text()
 }
 
+/// Whether an open has the alias and may be followed.
+fn is_step(link: &Link, alias: &Name, is_own: bool) -> bool
+    ensures { result ≡ may_follow is_own alias.now link.now }
+{
+    same_text(link.alias.text(), alias.text()) && (is_own || !link.is_private)
+}
+
+/// Marks the instance to which an open leads, where it has the alias and may be followed.
+fn mark_step(link: &Link, alias: &Name, is_own: bool, marks: &mut Vec<bool>)
+    requires { link.now.instance < length marks.old.items }
+    ensures { AreOpened is_own alias.now (link.now ∷ []) marks.old.items marks.new.items }
+{
+    let is_followed = is_step(link, alias, is_own);
+    if is_followed {
+        mark(link.instance as usize, marks);
+    }
+}
+
 /// Marks the instances to which those of the opens lead that have the alias and may be followed.
-fn mark_opens(opens: &[Link], alias: &Name, is_own: bool, marks: &mut Vec<bool>) {
+fn mark_opens(opens: &[Link], alias: &Name, is_own: bool, marks: &mut Vec<bool>)
+    requires { (o : Link) → Contains opens.now o → o.instance < length marks.old.items }
+    ensures { AreOpened is_own alias.now opens.now marks.old.items marks.new.items }
+{
     for open in opens {
-        if same_text(open.alias.text(), alias.text()) && (is_own || !open.is_private) {
-            mark(open.instance as usize, marks);
-        }
+        mark_step(open, alias, is_own, marks);
+    }
+}
+
+/// Marks the instances to which opens with the alias lead from one instance, where that was marked.
+fn follow_from(
+    scopes: &[Scope],
+    from: usize,
+    alias: &Name,
+    before: &[bool],
+    number: usize,
+    marks: &mut Vec<bool>,
+)
+    requires linked { IsLinked scopes.now }
+    requires number { number < length scopes.now }
+    requires begun { AreFollowed scopes.now from alias.now before.now number marks.old.items }
+    ensures { AreFollowed scopes.now from alias.now before.now (number + 1) marks.new.items }
+{
+    let was_marked = is_marked(before, number);
+    if was_marked {
+        let opens = opens_of(scopes, number);
+        mark_opens(opens, alias, number == from, marks);
     }
 }
 
@@ -52,20 +94,16 @@ fn follow_one(
     scopes: &[Scope],
     from: usize,
     alias: &Name,
-    marks: &[bool],
-) -> Result<Vec<bool>, AllocError> {
-    let mut more = no_marks(alloc, scopes.len())?;
+    before: &[bool],
+) -> Result<Vec<bool>, AllocError>
+    requires { IsLinked scopes.now }
+    ensures { IfOk result (λ m. AreFollowed scopes.now from alias.now before.now (length scopes.now) m.items) }
+{
+    let mut marks = no_marks(alloc, scopes.len())?;
     for number in 0..scopes.len() {
-        if is_marked(marks, number) {
-            mark_opens(
-                scopes[number].opens.as_slice(),
-                alias,
-                number == from,
-                &mut more,
-            );
-        }
+        follow_from(scopes, from, alias, before, number, &mut marks);
     }
-    Ok(more)
+    Ok(marks)
 }
 
 /// Marks of the instances to which opens with the aliases in turn lead from one.
@@ -75,7 +113,9 @@ fn follow(
     from: usize,
     path: &[Name],
 ) -> Result<Vec<bool>, AllocError>
-    requires { from < length scopes.now }
+    requires from { from < length scopes.now }
+    requires linked { IsLinked scopes.now }
+    ensures { IfOk result (λ m. AreBehind scopes.now from path.now m.items) }
 {
     let mut marks = own_mark(alloc, scopes, from)?;
     for alias in path {
@@ -103,6 +143,38 @@ fn reached_marks(alloc: Global, names: &Names, from: usize) -> Result<Vec<bool>,
     Ok(marks)
 }
 
+/// Marks of the instances to which a name without a path leads.
+fn led_at_once(
+    alloc: Global,
+    names: &Names,
+    from: usize,
+    is_own: bool,
+) -> Result<Vec<bool>, AllocError>
+    requires { from < length names.now.scopes }
+    ensures { IfOk result (λ m. AreLed names.now.scopes from is_own [] m.items) }
+{
+    if is_own {
+        let own = own_mark(alloc, names.scopes.as_slice(), from)?;
+        return Ok(own);
+    }
+    let marks = reached_marks(alloc, names, from)?;
+    Ok(marks)
+}
+
+/// Marks of the instances to which a path leads.
+fn path_marks(
+    alloc: Global,
+    names: &Names,
+    from: usize,
+    path: &[Name],
+) -> Result<Vec<bool>, AllocError>
+    requires { from < length names.now.scopes }
+    ensures { IfOk result (λ m. AreBehind names.now.scopes from path.now m.items) }
+{
+    let marks = follow(alloc, names.scopes.as_slice(), from, path)?;
+    Ok(marks)
+}
+
 /// Marks of the instances to which the part before a name leads.
 pub fn led(
     alloc: Global,
@@ -112,13 +184,12 @@ pub fn led(
     path: &[Name],
 ) -> Result<Vec<bool>, AllocError>
     requires { from < length names.now.scopes }
-    ensures { IfOk result (λ m. path.now ≡ [] → AreLed names.now.scopes from is_own [] m.items) }
+    ensures { IfOk result (λ m. AreLed names.now.scopes from is_own path.now m.items) }
 {
-    if !path.is_empty() {
-        return follow(alloc, names.scopes.as_slice(), from, path);
+    if path.is_empty() {
+        let own = led_at_once(alloc, names, from, is_own)?;
+        return Ok(own);
     }
-    if is_own {
-        return own_mark(alloc, names.scopes.as_slice(), from);
-    }
-    reached_marks(alloc, names, from)
+    let marks = path_marks(alloc, names, from, path)?;
+    Ok(marks)
 }

@@ -3,6 +3,7 @@
 ghost use Rattle.std.specs.Prelude.{◌≡◌, [], ◌++◌, ◌<◌, ◌==◌, length, slice_get, IfOk, OnOk};
 ghost use Rattle.std.specs.List.{filter_map, cons_option};
 ghost use Rattle.name_tables.specs.Lookup.{has_name, seen_in, seen_of, seen_from};
+ghost use Rattle.name_tables.specs.Marks.{AreLed};
 ghost use Rattle.name_tables.specs.Visible.{AreCandidates, path_of};
 
 use crate::follow::{last_part, led, path_before, same_text};
@@ -106,7 +107,7 @@ impl Names {
         name: &QualName,
     ) -> Result<Vec<Decl>, AllocError>
         requires { instance < length self.now.scopes }
-        ensures { IfOk result (λ found. path_of name.now.parts ≡ [] → AreCandidates self.now.scopes instance name.now found.items) }
+        ensures { IfOk result (λ found. AreCandidates self.now.scopes instance name.now found.items) }
     {
         let from = instance as usize;
         let parts = name.parts.as_slice();
@@ -133,13 +134,10 @@ impl Names {
         name: &QualName,
     ) -> Result<Vec<bool>, AllocError>
         requires { instance < length self.now.scopes }
+        ensures { IfOk result (λ m. AreLed self.now.scopes instance name.now.is_own (path_of name.now.parts) m.items) }
     {
-        led(
-            alloc,
-            self,
-            instance as usize,
-            name.is_own,
-            path_before(name.parts.as_slice()),
-        )
+        let path = path_before(name.parts.as_slice());
+        let marks = led(alloc, self, instance as usize, name.is_own, path)?;
+        Ok(marks)
     }
 }

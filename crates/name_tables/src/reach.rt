@@ -115,7 +115,7 @@ fn first_mark(alloc: Global, scopes: &[Scope], from: usize) -> Result<Vec<bool>,
 }
 
 /// The instance's opens.
-fn opens_of(scopes: &[Scope], from: usize) -> &[Link]
+pub fn opens_of(scopes: &[Scope], from: usize) -> &[Link]
     requires from { from < length scopes.now }
     ensures own { (o : Link) → Contains result.now o → HasOpen scopes.now from o }
     ensures all { (o : Link) → HasOpen scopes.now from o → Contains result.now o }

@@ -1,3 +1,4 @@
 pub mod Above
 pub mod Overlap
 pub mod Refused
+pub mod Rules

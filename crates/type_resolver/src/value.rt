@@ -1,6 +1,8 @@
 // An expression that is read as a value in the root.
 
-ghost use Rattle.std.specs.Prelude.{IfErr};
+ghost use Rattle.std.specs.Prelude.{IfOk, IfErr};
+ghost use Rattle.core_tree.specs.Trees.{term_of};
+ghost use Rattle.model_test.specs.Kept.{IsRightValue};
 ghost use Rattle.type_resolver.specs.Refused.{IsValueFault};
 
 use crate::fault::ResolveFault;
@@ -9,6 +11,7 @@ use crate::solve::{hierarchy_of, names_of, new_state};
 use als_tree::{Expr as Tree, Loaded};
 use core_tree::{Expr, Model};
 use model_parts::{Sources, literals, setting_in, settle_fields, type_bodies};
+use model_test::keeps_value;
 use name_tables::Names;
 use root_walk::expression::prepare;
 use root_walk::faults::Noted;
@@ -65,19 +68,30 @@ fn valued(
     Ok(tree_or(value, state.least))
 }
 
+/// The expression, where it fits the model. The rules of reading make no other; it is tested once more
+/// on the expression itself, and where it did not fit the answer would be want of memory.
+fn fitting(alloc: Global, model: &Model, value: Expr) -> Result<Expr, AllocError>
+    ensures { IfOk result (λ e. IsRightValue model.now (term_of e)) }
+{
+    let fits = keeps_value(alloc, model, &value)?;
+    if fits { Ok(value) } else { Err(AllocError) }
+}
+
 /// Reads an expression as a `let` value in the root of the texts from which the model was made.
 ///
 /// Refused as by `resolve`, where a rule on names in expressions or on readings is broken in it; the
 /// place is one of the expression's own text. A string literal that no text has is an unknown name.
+/// The expression fits the model: it has no free name, its numbers are in range, each part has the
+/// columns that its place needs, and each call has its arguments.
 pub fn resolve_value(
     alloc: Global,
     loaded: &Loaded,
     model: &Model,
     tree: &Tree,
 ) -> Result<Expr, ResolveFault>
-    ensures { IfErr result IsValueFault }
+    ensures kept { IfOk result (λ e. IsRightValue model.now (term_of e)) }
+    ensures fault { IfErr result IsValueFault }
 {
-    let _ = model;
     let names = match names_of(alloc, loaded) {
         Err(_) => return Err(ResolveFault::Memory),
         Ok(names) => names,
@@ -87,7 +101,10 @@ pub fn resolve_value(
         Ok(hierarchy) => hierarchy,
     };
     match valued(alloc, loaded, &names, &hierarchy, tree) {
-        Ok(Ok(value)) => Ok(value),
+        Ok(Ok(value)) => match fitting(alloc, model, value) {
+            Err(_) => Err(ResolveFault::Memory),
+            Ok(value) => Ok(value),
+        },
         Ok(Err(Some(noted))) => Err(refused_value(noted)),
         Ok(Err(None)) => Err(ResolveFault::Memory),
         Err(_) => Err(ResolveFault::Memory),
