@@ -1,7 +1,7 @@
 -- The type of a resolved expression: rows of non-subset sigs and `Int`. In these types a `var` sig
 -- stands as its nearest ancestor that isn't `var`, or as its top-level sig where there is none, so
 -- that a type holds at every position.
-use Rattle.std.specs.Prelude.{ℕ, zero, suc, eqb, Bool, true, false, if◌then◌else◌, List, [], ◌∷◌, ◌++◌, map, length, reverse, Option, Some, None, slice_get}
+use Rattle.std.specs.Prelude.{ℕ, zero, suc, eqb, Bool, true, false, if◌then◌else◌, List, [], ◌∷◌, ◌++◌, map, length, reverse, Option, Some, None, slice_get, is_some}
 use Rattle.std.specs.List.{flat_map}
 use Rattle.core_tree.specs.declared.operators.RelationOp.{RelationOp}
 use Rattle.core_tree.specs.declared.operators.RelationOp.TheVariants.{Union, Difference, Intersection, Join, Override, LeftRestrict, RightRestrict}
@@ -152,11 +152,19 @@ abbrev pub rows_or_none : Option Field → TypeRows
 rows_or_none None = []
 rows_or_none (Some f) = f.rows
 
+-- as which sig an expression's sig is typed: a literal's sig, which follows `String` and stands in
+-- no text, as `String`
+abbrev pub literal_parent : ℕ → Sig → ℕ
+literal_parent s d = if is_some d.origin then s else by_parent s (λ p. p) d.kind
+
+abbrev pub typed_as : List Sig → ℕ → ℕ
+typed_as sigs s = by_sig s (literal_parent s) (slice_get sigs s)
+
 -- the type of an expression, where calls have the rows that `results` says
 module _ (sigs : List Sig) (fields : List Field) (results : ℕ → TypeRows) where
   abbrev mutual
     pub rows_in : Term → NameRows → TypeRows
-    rows_in (sig s) names = sig_rows sigs (length sigs) s
+    rows_in (sig s) names = sig_rows sigs (length sigs) (typed_as sigs s)
     rows_in (field f) names = rows_or_none (slice_get fields f)
     rows_in (name x) names = names x
     rows_in univ names = top_rows sigs 0
