@@ -1,0 +1,4 @@
+pub mod Children
+pub mod Unions
+pub mod Asked
+pub mod Added

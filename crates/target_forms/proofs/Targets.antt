@@ -22,7 +22,7 @@ use Rattle.call_inliner.specs.CallFree.{IsCallFree}
 use Rattle.call_inliner.specs.Written.{atoms}
 use Rattle.kernel_form.specs.Left.{IsLeft}
 use Rattle.target_forms.specs.declared.target.Part.{Part}
-use Rattle.target_forms.specs.Targets.{IsWrittenOut, Adds, none_added, one_added, fact_claims, always_claims, HoldsWith, IsTargetOf}
+use Rattle.target_forms.specs.Targets.{IsWrittenOut, Adds, none_added, one_added, fact_claims, always_claims, HoldsWith, SayDeclared, IsTargetOf}
 
 -- where a formula without calls holds, so does its kernel
 pub written : {E : Type 0} (bodies : List Body) (old flat : Claim) (r : Result Formula E) → IsCallFree flat → ((w : World) (i : ℕ) → Holds w no_bodies flat no_names i ↔ Holds w (bodies_of w bodies) old no_names i) → IfOk r (λ f. IsLeft (claim_of f)) →
@@ -136,20 +136,21 @@ target_holds : (model : Model) (scopes : Scopes) (command : Claim) (declared ask
 target_holds model scopes command declared asked target same first adds lasso = subst (λ s. SatisfiesTarget target lasso ↔ HoldsWith model s command asked lasso) same (its_scopes_hold model command declared asked target first adds lasso)
 
 -- there is a list of what the declarations ask
-pub asked_of : {E : Type 0} (bodies : List Body) (asked : List Formula) (r : Result (List Formula) E) → IfOk r (λ all. Adds bodies [] all (always_claims asked)) → IfOk r (λ all. (list : List Formula) × Adds bodies [] all (always_claims list))
-asked_of bodies asked (Ok all) h = (asked, h)
-asked_of bodies asked (Err e) h = tt
+pub asked_of : {E : Type 0} (model : Model) (asked : List Formula) (r : Result (List Formula) E) → SayDeclared model asked → IfOk r (λ all. Adds model.bodies [] all (always_claims asked)) → IfOk r (λ all. (list : List Formula) × Adds model.bodies [] all (always_claims list) × SayDeclared model list)
+asked_of model asked (Ok all) says h = (asked, h, says)
+asked_of model asked (Err e) says h = tt
 
-pub target_is : (model : Model) (scopes : Scopes) (command : Claim) (declared : List Formula) (target : Target) (first : ℕ) → target.scopes ≡ scopes → first ≡ length declared → ((asked : List Formula) × Adds model.bodies [] declared (always_claims asked)) → Adds model.bodies declared target.formulas (fact_claims model.facts ++ command ∷ []) → IsTargetOf model scopes command target first
+pub target_is : (model : Model) (scopes : Scopes) (command : Claim) (declared : List Formula) (target : Target) (first : ℕ) → target.scopes ≡ scopes → first ≡ length declared → ((asked : List Formula) × Adds model.bodies [] declared (always_claims asked) × SayDeclared model asked) → Adds model.bodies declared target.formulas (fact_claims model.facts ++ command ∷ []) → IsTargetOf model scopes command target first
 target_is model scopes command declared target first same count early adds = record {
   asked = early.0;
+  says = early.2;
   declared = subst (λ l. Adds model.bodies [] l (always_claims early.0)) (sym (ap (λ n. take n target.formulas) count ∙ added_first model.bodies declared target.formulas (fact_claims model.facts ++ command ∷ []) adds)) early.1;
   parts = added_from model.bodies declared target.formulas (fact_claims model.facts ++ command ∷ []) first count adds;
   same = target_holds model scopes command declared early.0 target same early.1 adds;
 }
 
-pub target_left : (bodies : List Body) (declared now : List Formula) (olds : List Claim) → ((asked : List Formula) × Adds bodies [] declared (always_claims asked)) → Adds bodies declared now olds → All (λ f. IsLeft (claim_of f)) now
-target_left bodies declared now olds early adds = added_left bodies declared now olds adds (added_left bodies [] declared (always_claims early.0) early.1 (All-nil (λ f. IsLeft (claim_of f))))
+pub target_left : (model : Model) (declared now : List Formula) (olds : List Claim) → ((asked : List Formula) × Adds model.bodies [] declared (always_claims asked) × SayDeclared model asked) → Adds model.bodies declared now olds → All (λ f. IsLeft (claim_of f)) now
+target_left model declared now olds early adds = added_left model.bodies declared now olds adds (added_left model.bodies [] declared (always_claims early.0) early.1 (All-nil (λ f. IsLeft (claim_of f))))
 
 -- the parts' formulas are those of the facts
 pub parts_next : (parts new : List Part) (facts : List Fact) (k next : ℕ) (fact : Fact) (part : Part) → new ≡ parts ++ part ∷ [] → next ≡ k + 1 → k < length facts → fact ≡ get_or facts k fact → map (λ (p : Part). claim_of p.formula) parts ≡ fact_claims (take k facts) → claim_of part.formula ≡ claim_of fact.formula → map (λ (p : Part). claim_of p.formula) new ≡ fact_claims (take next facts)

@@ -14,6 +14,8 @@ use Rattle.core_meaning.specs.Called.{no_bodies, bodies_of}
 use Rattle.core_meaning.specs.Kept.{KeepsNumbers}
 use Rattle.core_meaning.specs.Satisfied.{HoldsAt, SatisfiesTarget}
 use Rattle.core_meaning.specs.declared.target.Target.{Target}
+use Rattle.core_meaning.specs.Declarations.{Declares}
+use Rattle.decl_constraints.specs.Added.{IsWorldOf, HoldsIn}
 use Rattle.kernel_form.specs.Left.{IsLeft}
 
 -- a formula is written out of one of a model with these bodies: it has only the forms that are left, and holds at the
@@ -47,10 +49,15 @@ pub record HoldsWith (model : Model) (scopes : Scopes) (command : Claim) (asked 
   pub facts_hold : All (λ (f : Fact). HoldsAt model scopes lasso (claim_of f.formula) no_names 0) model.facts
   pub command_holds : HoldsAt model scopes lasso command no_names 0
 
+-- formulas that all hold at a position of a world exactly where the model's declarations do
+abbrev pub SayDeclared : Model → List Formula → Type 0
+SayDeclared model asked = (w : World) (i : ℕ) → IsWorldOf model w → All (HoldsIn model w i) asked ↔ Declares model w (bodies_of w model.bodies) i
+
 -- the first formulas of a target are for the declarations, then comes one for each fact, and last the command's
 pub record IsTargetOf (model : Model) (scopes : Scopes) (command : Claim) (target : Target) (first : ℕ) : Type 0 where
   -- what the declarations ask
   pub asked : List Formula
+  pub says : SayDeclared model asked
   pub declared : Adds model.bodies [] (take first target.formulas) (always_claims asked)
   pub parts : Adds model.bodies (take first target.formulas) target.formulas (fact_claims model.facts ++ command ∷ [])
   pub same : (lasso : LassoValue) → SatisfiesTarget target lasso ↔ HoldsWith model scopes command asked lasso

@@ -4,7 +4,7 @@ ghost use Rattle.std.specs.Prelude.{◌≡◌, List, [], ◌∷◌, ◌++◌, ma
 ghost use Rattle.core_tree.specs.declared.operators.TemporalUnary.TheVariants.{Always as AlwaysOf};
 ghost use Rattle.core_tree.specs.Trees.{claim_of, temporal};
 ghost use Rattle.kernel_form.specs.Left.{IsLeft};
-ghost use Rattle.target_forms.specs.Targets.{IsWrittenOut, Adds, fact_claims, always_claims, IsTargetOf};
+ghost use Rattle.target_forms.specs.Targets.{IsWrittenOut, Adds, fact_claims, always_claims, SayDeclared, IsTargetOf};
 ghost use Rattle.core_tree.specs.declared.tree.Formula.{Formula};
 ghost use Rattle.target_forms.specs.declared.target.Part.{Part as PartOf};
 
@@ -66,7 +66,7 @@ fn all_always(alloc: Global, model: &Model, list: &[Formula]) -> Result<FormulaL
 /// What the declarations ask of all positions, a formula each.
 #[tactic(auto, using(crate::proofs::Targets::asked_of))]
 fn declarations(alloc: Global, model: &Model) -> Result<FormulaList, AllocError>
-    ensures { IfOk result (λ all. (asked : List Formula) × Adds model.now.bodies [] all (always_claims asked)) }
+    ensures { IfOk result (λ all. (asked : List Formula) × Adds model.now.bodies [] all (always_claims asked) × SayDeclared model.now asked) }
 {
     let list = implied(alloc, model)?;
     all_always(alloc, model, &list)
