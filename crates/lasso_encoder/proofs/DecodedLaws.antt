@@ -8,8 +8,8 @@ use Rattle.bounds_builder.specs.declared.places.Layout.{Layout}
 use Rattle.bounds_builder.specs.declared.table.Bound.{Bound}
 use Rattle.bounds_builder.specs.declared.table.Bounds.{Bounds}
 use Rattle.lasso_frame.specs.Pushes.{push_kept, push_at}
-use Rattle.lasso_encoder.specs.Loops.{IsLoopOf}
-use Rattle.lasso_encoder.specs.Table.{first_at, InTable, InState, Decodes}
+use Rattle.lasso_sets.specs.Loops.{IsLoopOf}
+use Rattle.lasso_sets.specs.Table.{first_at, InTable, InState, Decodes}
 
 -- the tuples whose variables are true
 abbrev chosen : (ℕ → Bool) → ℕ → List (List ℕ) → List (List ℕ)

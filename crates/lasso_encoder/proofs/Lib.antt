@@ -1,4 +1,4 @@
 pub mod LoopLaws
+pub mod DepthLaws
+pub mod RootLaws
 pub mod DecodedLaws
-pub mod MarkLaws
-pub mod ScopeLaws

@@ -1,4 +1,3 @@
-pub mod Loops
-pub mod Table
-pub mod Numbers
+pub mod Depths
+pub mod Firsts
 pub mod Encodes

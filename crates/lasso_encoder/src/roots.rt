@@ -1,21 +1,26 @@
 // The roots of a target.
 
 ghost use Rattle.std.specs.Prelude.{◌≡◌, ◌<◌, ◌+◌, ℕ, Bool, IfOk, OnOk, Some, length, slice_get};
+ghost use Rattle.core_tree.specs.declared.tree.Formula.{Formula as FormulaTree};
+ghost use Rattle.lasso_frame.specs.declared.frame.Stretch.{Stretch as Window};
+ghost use Rattle.temporal_rows.specs.Rows.{row_value, IsOnly};
+ghost use Rattle.lasso_encoder.specs.Firsts.{AreFirsts, SaysRoot};
 ghost use Rattle.gate_trait.specs.Built.{Keeps, AllIn};
 ghost use Rattle.gate_trait.specs.declared.node.Node.{Node as CircuitNode};
 ghost use Rattle.bounds_builder.specs.declared.places.Layout.{Layout as VariableTable};
-ghost use Rattle.lasso_encoder.specs.Loops.{AreChoices};
+ghost use Rattle.lasso_sets.specs.Loops.{AreChoices};
 ghost use Rattle.lasso_encoder.specs.Encodes.{IsEncoded};
 
-use crate::running::push_formula;
-use crate::scopes::keeps_numbers;
-use crate::setting::Setting;
+use crate::past_depth::depth_of;
 use bounds_builder::{Bounds, Layout, layout};
 use core_meaning::{Scopes, Target};
 use core_tree::Formula;
 use gate_trait::{Gates, Node, NodeList};
-use lasso_frame::{Frame, depth_of, frame_of};
+use lasso_frame::{Frame, Stretch, frame_of};
+use lasso_sets::scopes::keeps_numbers;
+use lasso_sets::setting::Setting;
 use lasso_stack::{empty_store, node_or_false, pop_row};
+use lasso_steps::running::push_formula;
 use std::alloc::{AllocError, Global};
 use temporal_rows::{chosen, only_one};
 use tuple_sets::Universe;
@@ -70,6 +75,16 @@ fn loop_choices<G: Gates>(
     Ok(row)
 }
 
+/// The first place of a window, 0 where there is none of this number.
+fn start_at(windows: &[Stretch], number: usize) -> usize
+    ensures { (s : Window) → slice_get windows.now number ≡ Some s → result ≡ s.start }
+{
+    if number < windows.len() {
+        return windows[number].start;
+    }
+    0
+}
+
 /// The nodes at the first places of the windows.
 fn beginnings<G: Gates>(
     alloc: Global,
@@ -78,11 +93,13 @@ fn beginnings<G: Gates>(
     all: &NodeList,
 ) -> Result<NodeList, AllocError>
     requires { AllIn (G.belongs gates.now) all.now }
-    ensures { IfOk result (λ firsts. AllIn (G.belongs gates.now) firsts) }
+    ensures belongs { IfOk result (λ firsts. AllIn (G.belongs gates.now) firsts) }
+    ensures firsts { IfOk result (λ firsts. AreFirsts (G.node_value gates.now) frame.now.windows.items all.now firsts) }
 {
     let mut firsts = NodeList::new(alloc);
-    for window in &frame.windows {
-        firsts.push(node_or_false(gates, all, window.start))?;
+    for number in 0..frame.windows.len() {
+        let start = start_at(&frame.windows, number);
+        firsts.push(node_or_false(gates, all, start))?;
     }
     Ok(firsts)
 }
@@ -100,12 +117,15 @@ fn value_at_loop<G: Gates>(
     requires all { AllIn (G.belongs gates.old) all.now }
     ensures keeps { Keeps G.belongs G.node_value gates.old gates.new }
     ensures belongs { IfOk result (λ n. G.belongs gates.new n) }
+    ensures value { IfOk result (λ n. (x : ℕ → Bool) (loop : ℕ) (s : Window) → slice_get frame.now.windows.items loop ≡ Some s → IsOnly (G.node_value gates.old x) choices.now loop
+        → G.node_value gates.new x n ≡ row_value (G.node_value gates.old x) all.now s.start) }
 {
     let firsts = beginnings(alloc, gates, frame, all)?;
     if choices.len() != firsts.len() {
         return Err(AllocError);
     }
-    chosen(gates, choices, &firsts)
+    let node = chosen(gates, choices, &firsts)?;
+    Ok(node)
 }
 
 /// Whether the formula holds at position 0 of the lasso whose loop is chosen.
@@ -121,6 +141,8 @@ fn root_of<G: Gates>(
     requires { AllIn (G.belongs gates.old) choices.now }
     ensures keeps { Keeps G.belongs G.node_value gates.old gates.new }
     ensures belongs { IfOk result (λ n. G.belongs gates.new n) }
+    ensures says { IfOk result (λ n. AreChoices (G.node_value gates.old) bounds.now.states table.now.loops choices.now
+        → SaysRoot (G.node_value gates.new) bounds.now table.now scopes.now formula.now n) }
 {
     let frame = frame_of(alloc, bounds.states, depth_of(formula))?;
     let setting = Setting {
@@ -136,7 +158,8 @@ fn root_of<G: Gates>(
     let mut store = empty_store(alloc, gates);
     push_formula(alloc, gates, &mut store, &setting, formula)?;
     let all = pop_row(alloc, gates, &mut store);
-    value_at_loop(alloc, gates, choices, &frame, &all)
+    let node = value_at_loop(alloc, gates, choices, &frame, &all)?;
+    Ok(node)
 }
 
 /// Adds the roots of the formulas, in order.
@@ -156,9 +179,13 @@ fn add_roots<G: Gates>(
     ensures belongs { AllIn (G.belongs gates.new) roots.new }
     ensures count { OnOk result (length roots.new ≡ length roots.old + length target.now.formulas) }
     ensures kept { OnOk result ((k : ℕ) (n : CircuitNode) → slice_get roots.old k ≡ Some n → slice_get roots.new k ≡ Some n) }
+    ensures says { OnOk result (AreChoices (G.node_value gates.old) bounds.now.states table.now.loops choices.now
+        → (k : ℕ) (f : FormulaTree) (n : CircuitNode) → slice_get target.now.formulas k ≡ Some f → slice_get roots.new (length roots.old + k) ≡ Some n
+        → SaysRoot (G.node_value gates.new) bounds.now table.now target.now.scopes f n) }
 {
     let formulas = target.formulas.as_slice();
     for place in 0..formulas.len() {
+        let formula = &formulas[place];
         let root = root_of(
             alloc,
             gates,
@@ -166,7 +193,7 @@ fn add_roots<G: Gates>(
             bounds,
             table,
             &target.scopes,
-            &formulas[place],
+            formula,
         )?;
         roots.push(root)?;
     }
@@ -184,14 +211,14 @@ pub fn encode<G: Gates>(
     ensures belongs { IfOk result (λ e. G.belongs gates.new e.sure) }
     ensures roots { IfOk result (λ e. AllIn (G.belongs gates.new) e.roots) }
     ensures count { IfOk result (λ e. length e.roots ≡ length target.now.formulas + 1) }
-    ensures table { IfOk result (λ e. (table : VariableTable) × IsEncoded bounds.now target.now.scopes table (G.node_value gates.new) e.sure e.roots) }
+    ensures table { IfOk result (λ e. (table : VariableTable) × IsEncoded bounds.now target.now.scopes target.now.formulas table (G.node_value gates.new) e.sure e.roots) }
 {
     let table = layout(alloc, bounds)?;
     let choices = loop_choices(alloc, gates, bounds.states, table.loops)?;
-    let sure = only_one(gates, &choices)?;
     let first = keeps_numbers(alloc, gates, bounds, &table, &target.scopes)?;
     let mut roots = NodeList::new(alloc);
     roots.push(first)?;
     add_roots(alloc, gates, &choices, target, bounds, &table, &mut roots)?;
+    let sure = only_one(gates, &choices)?;
     Ok(Encoded { sure, roots })
 }

@@ -1,7 +1,12 @@
 use Rattle.gate_trait.specs.Built.{AllIn}
+use Rattle.lasso_encoder.proofs.RootLaws.{FirstsTo}
 use Rattle.lasso_encoder.proofs.roots.beginnings.Given as goal
 
-abbrev pub invariant-loop-window : goal.invariant-loop-window
-invariant-loop-window g l =
+abbrev pub invariant-loop-number : goal.invariant-loop-number
+invariant-loop-number g l =
     let belongs = g.G.Gates.belongs in
-    AllIn (belongs l.gates) l.firsts
+    let value = g.G.Gates.node_value in
+    record {
+      belong : AllIn (belongs l.gates) l.firsts;
+      firsts : FirstsTo (value l.gates) l.frame.windows.items l.all l.firsts l.number;
+    }

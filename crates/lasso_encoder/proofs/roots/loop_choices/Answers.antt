@@ -1,7 +1,8 @@
 use Rattle.std.proofs.Common.{◌≡◌, ◌∙◌, ◌+◌, ◌<◌, ℕ, Bool, length, ap, arith}
 use Rattle.gate_trait.specs.Kept.{keeps_trans, all_more}
 use Rattle.temporal_rows.specs.Rows.{row_value}
-use Rattle.lasso_encoder.proofs.LoopLaws.{long_more, values_push, row_kept, only_loop}
+use Rattle.lasso_sets.specs.RowLaws.{long_more, values_push, row_kept}
+use Rattle.lasso_encoder.proofs.LoopLaws.{only_loop}
 use Rattle.lasso_encoder.proofs.roots.loop_choices.Goals as goal
 
 pub loop-state-preserved : goal.loop-state-preserved

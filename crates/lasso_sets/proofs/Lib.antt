@@ -1,0 +1,3 @@
+pub mod MarkLaws
+pub mod ScopeLaws
+pub mod RelationLaws

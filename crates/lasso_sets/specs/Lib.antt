@@ -1,0 +1,9 @@
+pub mod Loops
+pub mod Table
+pub mod Numbers
+pub mod Shown
+pub mod Relations
+pub mod RowLaws
+pub mod PlaceLaws
+pub mod RightLaws
+pub mod KeptLaws

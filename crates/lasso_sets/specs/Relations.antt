@@ -1,0 +1,26 @@
+-- The sets of relations at states and at places.
+use Rattle.std.specs.Prelude.{◌≡◌, ◌<◌, ℕ, Bool, List, Some, slice_get}
+use Rattle.gate_trait.specs.declared.node.Node.{Node}
+use Rattle.bool_matrix.specs.Matrices.{MatrixEntries}
+use Rattle.expr_encoder.specs.Sets.{MeansSet}
+use Rattle.bounds_builder.specs.declared.places.Cells.{Cells}
+use Rattle.bounds_builder.specs.declared.table.Bound.{Bound}
+use Rattle.lasso_sets.specs.declared.setting.Setting.{Setting}
+use Rattle.lasso_sets.specs.Table.{InTable}
+use Rattle.lasso_sets.specs.Shown.{Reading}
+
+-- how formulas are read in a setting
+abbrev pub reading_of : Setting → ℕ → Reading
+reading_of s depth = record { bounds = s.bounds.now; table = s.layout.now; scopes = s.scopes.now; frame = s.frame.now; depth = depth }
+
+-- the set of this number has the tuples of the relation at the state
+abbrev pub AddsState : ((ℕ → Bool) → Node → Bool) → List MatrixEntries → Bound → Cells → ℕ → ℕ → Type 0
+AddsState value matrices bound cells state k = (m : MatrixEntries) × (slice_get matrices k ≡ Some m) × ((x : ℕ → Bool) → MeansSet (value x) m (InTable x bound cells state))
+
+-- at each of so many states stands such a set
+abbrev pub AtStates : ((ℕ → Bool) → Node → Bool) → List MatrixEntries → Bound → Cells → ℕ → List ℕ → Type 0
+AtStates value matrices bound cells states numbers = (state : ℕ) → state < states → (k : ℕ) × (slice_get numbers state ≡ Some k) × AddsState value matrices bound cells state k
+
+-- at each place that shows a state stands such a set
+abbrev pub AtShown : ((ℕ → Bool) → Node → Bool) → List MatrixEntries → Bound → Cells → ℕ → List ℕ → List ℕ → Type 0
+AtShown value matrices bound cells states shown numbers = (i state : ℕ) → slice_get shown i ≡ Some state → state < states → (k : ℕ) × (slice_get numbers i ≡ Some k) × AddsState value matrices bound cells state k

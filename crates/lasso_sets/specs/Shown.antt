@@ -1,0 +1,76 @@
+-- What rows of nodes and of sets say of the lassos that an assignment shows.
+use Rattle.std.specs.Prelude.{◌≡◌, ◌↔◌, ◌⊎◌, ◌<◌, ◌≤◌, ◌+◌, ◌-◌, ℕ, Bool, List, [], length, slice_get, Some, IsTrue, Vec}
+use Rattle.std.specs.declared.alloc.Global.{Global}
+use Rattle.gate_trait.specs.declared.node.Node.{Node}
+use Rattle.core_tree.specs.Trees.{Term, Claim}
+use Rattle.core_tree.specs.Past.{BodyDepths}
+use Rattle.core_meaning.specs.declared.scopes.Scopes.{Scopes}
+use Rattle.core_meaning.specs.Sequence.{LassoValue}
+use Rattle.core_meaning.specs.World.{InRelation}
+use Rattle.core_meaning.specs.Kept.{world_of}
+use Rattle.core_meaning.specs.Operators.{Tuples}
+use Rattle.core_meaning.specs.Meaning.{no_names, InTerm, Holds}
+use Rattle.core_meaning.specs.Called.{no_bodies}
+use Rattle.bool_matrix.specs.Matrices.{MatrixEntries}
+use Rattle.expr_encoder.specs.Sets.{MeansSet}
+use Rattle.temporal_rows.specs.Rows.{row_value}
+use Rattle.bounds_builder.specs.declared.places.Cells.{Cells}
+use Rattle.bounds_builder.specs.declared.places.Layout.{Layout}
+use Rattle.bounds_builder.specs.declared.table.Bound.{Bound}
+use Rattle.bounds_builder.specs.declared.table.Bounds.{Bounds}
+use Rattle.lasso_frame.specs.declared.frame.Stretch.{Stretch}
+use Rattle.lasso_frame.specs.declared.frame.Frame.{Frame}
+use Rattle.lasso_frame.specs.Frames.{IsFrame}
+use Rattle.lasso_stack.specs.Sets.{StandsAt}
+use Rattle.lasso_sets.specs.Table.{InState, InTable}
+
+-- in what formulas are read: the table, the scopes, the places, and how deep past operators nest
+pub record Reading : Type 0 where
+  pub bounds : Bounds
+  pub table : Layout
+  pub scopes : Scopes
+  pub frame : Frame
+  pub depth : ℕ
+
+-- nothing is called
+abbrev pub none_nested : BodyDepths
+none_nested body d = 0
+
+-- the places show windows of all loops, each with one round more than past operators nest
+pub record IsReading (r : Reading) : Type 0 where
+  pub frame : IsFrame r.bounds.states (r.depth + 1) r.frame
+  pub few : r.depth ≤ 8
+
+-- the assignment shows a lasso, whatever its loop: as many states as the bounds say, and in each relation at
+-- each state just the tuples whose variables are true
+pub record Shows (bounds : Bounds) (table : Layout) (x : ℕ → Bool) (lasso : LassoValue) : Type 0 where
+  pub states : length lasso.states ≡ bounds.states
+  pub loop : lasso.loop_start < bounds.states
+  pub relations : (r k : ℕ) (bound : Bound) (cells : Cells) → slice_get bounds.relations r ≡ Some bound → slice_get table.relations.items r ≡ Some cells → k < bounds.states → (t : List ℕ) → InState lasso r k t ↔ InTable x bound cells k t
+
+-- a window has this place
+abbrev pub HasPlace : Frame → ℕ → Stretch → ℕ → Type 0
+HasPlace frame loop s k = (slice_get frame.windows.items loop ≡ Some s) × (k < s.end - s.start)
+
+-- a row is true at the places of each window where a formula holds in the lassos whose loop begins there
+pub record IsRight (r : Reading) (value : (ℕ → Bool) → Node → Bool) (f : Claim) (row : List Node) : Type 0 where
+  pub inside : (loop k : ℕ) (s : Stretch) → HasPlace r.frame loop s k → s.start + k < length row
+  pub holds : (loop k : ℕ) (s : Stretch) → HasPlace r.frame loop s k → (x : ℕ → Bool) (lasso : LassoValue) → Shows r.bounds r.table x lasso → lasso.loop_start ≡ loop → IsTrue (row_value (value x) row (s.start + k)) ↔ Holds (world_of r.scopes lasso) no_bodies f no_names k
+
+-- at each place of each window stands a set, which has the tuples that are given for the position
+abbrev pub HaveTuples : Reading → ((ℕ → Bool) → Node → Bool) → List MatrixEntries → (LassoValue → ℕ → Tuples) → List ℕ → Type 0
+HaveTuples r value matrices has numbers =
+    (loop k : ℕ) (s : Stretch) → HasPlace r.frame loop s k → (m : MatrixEntries) × StandsAt matrices numbers (s.start + k) m
+    × ((x : ℕ → Bool) (lasso : LassoValue) → Shows r.bounds r.table x lasso → lasso.loop_start ≡ loop → MeansSet (value x) m (has lasso k))
+
+-- the tuples of an expression
+pub record AreRight (r : Reading) (value : (ℕ → Bool) → Node → Bool) (matrices : List MatrixEntries) (e : Term) (numbers : List ℕ) : Type 0 where
+  pub sets : HaveTuples r value matrices (λ lasso k. InTerm (world_of r.scopes lasso) no_bodies e no_names k) numbers
+
+-- the tuples of a relation
+pub record AreOf (r : Reading) (value : (ℕ → Bool) → Node → Bool) (matrices : List MatrixEntries) (relation : ℕ) (numbers : List ℕ) : Type 0 where
+  pub sets : HaveTuples r value matrices (λ lasso k. InRelation (world_of r.scopes lasso) relation k) numbers
+
+-- each relation's value that is kept, by its number, is the relation's, or nothing is kept of it
+abbrev pub AreKept : Reading → ((ℕ → Bool) → Node → Bool) → List MatrixEntries → List (Vec ℕ Global) → Type 0
+AreKept r value matrices kept = (n : ℕ) (numbers : Vec ℕ Global) → n < length r.bounds.relations → slice_get kept n ≡ Some numbers → (numbers.items ≡ []) ⊎ AreOf r value matrices n numbers.items

@@ -1,0 +1,101 @@
+-- Relations, and what is looked into, go on to the row of the root.
+use Rattle.std.proofs.Common.{◌≡◌, ◌⊎◌, ◌<◌, ◌+◌, ℕ, Bool, true, false, List, [], ◌∷◌, ◌++◌, map, length, Option, Some, None, slice_get, refl, sym, ap, ◌∙◌, subst, arith, inl, inr, Vec, Global}
+use Rattle.std.proofs.lemmas.List.{length-map}
+use Rattle.std.specs.Borrow.{Bor}
+use Rattle.gate_trait.specs.declared.node.Node.{Node}
+use Rattle.core_tree.specs.declared.tree.Expr.{Expr}
+use Rattle.core_tree.specs.declared.tree.Formula.{Formula}
+use Rattle.core_tree.specs.Trees.{Term, Claim, sig, field, every, no_claims, term_of, claim_of}
+use Rattle.core_meaning.specs.declared.scopes.SigScope.{SigScope}
+use Rattle.bool_matrix.specs.Matrices.{MatrixEntries}
+use Rattle.lasso_stack.specs.declared.store.Store.{Store}
+use Rattle.lasso_stack.specs.Rows.{IsPushed, IsConstant}
+use Rattle.lasso_steps.specs.declared.plan.Task.{Task}
+use Rattle.lasso_steps.specs.declared.plan.Task.TheVariants.{Sets, Holds}
+use Rattle.lasso_steps.specs.declared.plan.Plan.{Plan}
+use Rattle.lasso_sets.specs.Shown.{Reading, IsReading, AreRight, AreOf}
+use Rattle.lasso_steps.specs.Forms.{IsPlainTerm}
+use Rattle.lasso_steps.specs.Leads.{Leads, RightRows, RightValues, IsOnTheWay}
+use Rattle.lasso_sets.specs.Shown.{AreKept}
+use Rattle.lasso_steps.specs.Opened.{HoldsLeaf, IsOpenedWith, IsPutRow, opened_to}
+use Rattle.lasso_steps.specs.Plans.{todo, IsPut, IsOpened}
+use Rattle.lasso_sets.specs.RightLaws.{nothing_right}
+
+-- what is kept of a relation
+kept_of : (r : Reading) (value : (ℕ → Bool) → Node → Bool) (matrices : List MatrixEntries) (kept : List (Vec ℕ Global)) (number : ℕ) (v : List ℕ) → AreKept r value matrices kept → number < length r.bounds.relations → HoldsLeaf kept number v → AreOf r value matrices number v
+kept_of r value matrices kept number v have lt (n, at, is, some) = elim (have number n lt at) [
+  | inl none ↦ absurd (let e : length v ≡ 0 = ap (λ (s : List ℕ). length s) (is ∙ none) in omega (arith, e, some))
+  | inr of ↦ subst (λ (s : List ℕ). AreOf r value matrices number s) (sym is) of
+]
+
+pub sig_right : (r : Reading) (value : (ℕ → Bool) → Node → Bool) (matrices : List MatrixEntries) (s : ℕ) (v : List ℕ) → AreOf r value matrices s v → AreRight r value matrices (sig s) v
+sig_right r value matrices s v of = record { sets = of.sets }
+
+pub field_right : (r : Reading) (value : (ℕ → Bool) → Node → Bool) (matrices : List MatrixEntries) (f n : ℕ) (v : List ℕ) → n ≡ length r.scopes.numbers + f → AreOf r value matrices n v → AreRight r value matrices (field f) v
+field_right r value matrices f n v is of =
+    let same : n ≡ length (map (λ (s : SigScope). s.top) r.scopes.numbers) + f = is ∙ ap (λ (k : ℕ). k + f) (sym (length-map r.scopes.numbers (λ (s : SigScope). s.top))) in
+    let other = subst (λ (k : ℕ). AreOf r value matrices k v) same of in
+    record { sets = other.sets }
+
+-- a relation's sets are put on the stack
+pub relation_on : (r : Reading) (root : Claim) (value : (ℕ → Bool) → Node → Bool) (store : Store) (old new : Plan) (v : Vec ℕ Global) (number : ℕ) (e : Bor Expr) (scope : ℕ) → ((u : List ℕ) → AreOf r value store.matrices.items number u → AreRight r value store.matrices.items (term_of e.now) u) → number < length r.bounds.relations → IsPut old new v → HoldsLeaf old.kept.items number v.items
+    → IsOnTheWay r root old.kept.items value store old.values.items (Sets e scope ∷ todo old) → IsOnTheWay r root new.kept.items value store new.values.items (todo new)
+relation_on r root value store old new v number e scope right lt put holds way = record {
+  fs = way.fs;
+  es = term_of e.now ∷ way.es;
+  rows_right = way.rows_right;
+  values_right = (old.values.items, v, put.values, right v.items (kept_of r value store.matrices.items old.kept.items number v.items way.kept_right lt holds), way.values_right);
+  kept_right = subst (λ (ks : List (Vec ℕ Global)). AreKept r value store.matrices.items ks) (sym put.kept) way.kept_right;
+  leads = subst (λ (ts : List Task). Leads r.depth root ts way.fs (term_of e.now ∷ way.es)) (sym put.todo_is) way.leads.1;
+}
+
+-- an expression is looked into
+pub opened_on : (r : Reading) (root : Claim) (value : (ℕ → Bool) → Node → Bool) (before after : Store) (old new : Plan) (task : Task) → after ≡ before → IsOpened task old new
+    → IsOnTheWay r root old.kept.items value before old.values.items (task ∷ todo old) → IsOnTheWay r root new.kept.items value after new.values.items (todo new)
+opened_on r root value before after old new task same opened way = subst (λ (s : Store). IsOnTheWay r root new.kept.items value s new.values.items (todo new)) (sym same) (record {
+  fs = way.fs;
+  es = way.es;
+  rows_right = way.rows_right;
+  values_right = subst (λ (vs : List (Vec ℕ Global)). RightValues r value before.matrices.items vs way.es) (sym opened.values) way.values_right;
+  kept_right = subst (λ (ks : List (Vec ℕ Global)). AreKept r value before.matrices.items ks) (sym opened.kept) way.kept_right;
+  leads = opened.leads r.depth root way.fs way.es way.leads;
+})
+
+-- a formula is looked into
+pub none_on : (r : Reading) (root : Claim) (value : (ℕ → Bool) → Node → Bool) (store : Store) (old new : Plan) (task : Task) (row : Option Bool) → row ≡ None → IsOpenedWith row task old new
+    → IsOnTheWay r root old.kept.items value store old.values.items (task ∷ todo old) → IsOnTheWay r root new.kept.items value store new.values.items (todo new)
+none_on r root value store old new task row is opened way = record {
+  fs = way.fs;
+  es = way.es;
+  rows_right = way.rows_right;
+  values_right = subst (λ (vs : List (Vec ℕ Global)). RightValues r value store.matrices.items vs way.es) (sym opened.values) way.values_right;
+  kept_right = subst (λ (ks : List (Vec ℕ Global)). AreKept r value store.matrices.items ks) (sym opened.kept) way.kept_right;
+  leads = subst (λ (o : Option Bool). opened_to o r.depth root (todo new) way.fs way.es) is (opened.leads r.depth root way.fs way.es way.leads);
+}
+
+constant_on : (r : Reading) → IsReading r → (root : Claim) (value : (ℕ → Bool) → Node → Bool) (before after : Store) (old new : Plan) (b : Bool) (row : List Node) → IsPushed before after row → IsConstant value (length r.frame.shown.items) b row → new.values.items ≡ old.values.items → new.kept.items ≡ old.kept.items
+    → (fs : List Claim) (es : List Term) → RightRows r value before.rows.items fs → RightValues r value before.matrices.items old.values.items es → AreKept r value before.matrices.items old.kept.items → opened_to (Some b) r.depth root (todo new) fs es → IsOnTheWay r root new.kept.items value after new.values.items (todo new)
+constant_on r ok root value before after old new true row pushed const values kept fs es rows right have leads = record {
+  fs = every no_claims ∷ fs;
+  es = es;
+  rows_right = (before.rows.items, row, pushed.rows, nothing_right r value row ok const, rows);
+  values_right = subst (λ (ms : List MatrixEntries). RightValues r value ms new.values.items es) (sym pushed.matrices) (subst (λ (vs : List (Vec ℕ Global)). RightValues r value before.matrices.items vs es) (sym values) right);
+  kept_right = subst (λ (ms : List MatrixEntries). AreKept r value ms new.kept.items) (sym pushed.matrices) (subst (λ (ks : List (Vec ℕ Global)). AreKept r value before.matrices.items ks) (sym kept) have);
+  leads = leads;
+}
+constant_on r ok root value before after old new false row pushed const values kept fs es rows right have leads = absurd leads
+
+pub some_on : (r : Reading) → IsReading r → (root : Claim) (value : (ℕ → Bool) → Node → Bool) (before after : Store) (old new : Plan) (task : Task) (said : Option Bool) (b : Bool) (row : List Node) → said ≡ Some b → IsOpenedWith said task old new → IsPushed before after row → IsConstant value (length r.frame.shown.items) b row
+    → IsOnTheWay r root old.kept.items value before old.values.items (task ∷ todo old) → IsOnTheWay r root new.kept.items value after new.values.items (todo new)
+some_on r ok root value before after old new task said b row is opened pushed const way =
+    constant_on r ok root value before after old new b row pushed const opened.values opened.kept way.fs way.es way.rows_right way.values_right way.kept_right
+    (subst (λ (o : Option Bool). opened_to o r.depth root (todo new) way.fs way.es) is (opened.leads r.depth root way.fs way.es way.leads))
+
+-- whatever row the answer names
+pub row_on : (r : Reading) → IsReading r → (root : Claim) (value : (ℕ → Bool) → Node → Bool) (before after : Store) (old new : Plan) (task : Task) (said : Option Bool) → IsOpenedWith said task old new → (said ≡ None → after ≡ before) → ((b : Bool) → said ≡ Some b → IsPutRow before after value (length r.frame.shown.items) b)
+    → IsOnTheWay r root old.kept.items value before old.values.items (task ∷ todo old) → IsOnTheWay r root new.kept.items value after new.values.items (todo new)
+row_on r ok root value before after old new task None opened none some way =
+    subst (λ (s : Store). IsOnTheWay r root new.kept.items value s new.values.items (todo new)) (sym (none refl)) (none_on r root value before old new task None refl opened way)
+row_on r ok root value before after old new task (Some b) opened none some way =
+    let (row, pushed, const) = some b refl in
+    some_on r ok root value before after old new task (Some b) b row refl opened pushed const way

@@ -1,0 +1,8 @@
+pub mod PlanLaws
+pub mod StackLaws
+pub mod WayLaws
+pub mod OpenLaws
+pub mod LeafLaws
+pub mod StepLaws
+pub mod EndLaws
+pub mod PlainLaws

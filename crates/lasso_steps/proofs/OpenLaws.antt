@@ -1,0 +1,218 @@
+-- What stands in place of an expression or a formula leads to the same.
+use Rattle.std.proofs.Common.{◌≡◌, ◌≢◌, ◌⊎◌, ◌≤◌, ◌<◌, ◌+◌, ◌-◌, ◌^◌, ℕ, zero, suc, max, Bool, true, false, IsTrue, List, [], ◌∷◌, ◌++◌, map, length, take, get_or, Option, Some, None, slice_get, refl, sym, ap, ◌∙◌, subst, arith, inl, inr, Vec, Box, Global}
+use Rattle.std.specs.Borrow.{Bor}
+use Rattle.std.proofs.lemmas.Bool.{cases_lt, cond_below, cond_above}
+use Rattle.std.proofs.Math.Nat.{le-max_left, le-max_right}
+use Rattle.core_tree.specs.declared.operators.Multiplicity.{Multiplicity}
+use Rattle.core_tree.specs.declared.operators.Multiplicity.TheVariants.{Set}
+use Rattle.core_tree.specs.declared.operators.Quantity.{Quantity}
+use Rattle.core_tree.specs.declared.operators.RelationOp.{RelationOp}
+use Rattle.core_tree.specs.declared.operators.UnaryRelation.{UnaryRelation}
+use Rattle.core_tree.specs.declared.operators.UnaryRelation.TheVariants.{Transpose as TransposeOf, Closure as ClosureOf}
+use Rattle.core_tree.specs.declared.operators.TemporalUnary.{TemporalUnary}
+use Rattle.core_tree.specs.declared.operators.TemporalUnary.TheVariants.{After as AfterOf, Before as BeforeOf}
+use Rattle.core_tree.specs.declared.operators.TemporalBinary.{TemporalBinary}
+use Rattle.core_tree.specs.declared.operators.TemporalBinary.TheVariants.{Until as UntilOf, Since as SinceOf}
+use Rattle.core_tree.specs.declared.tree.Formula.{Formula}
+use Rattle.core_tree.specs.declared.tree.Expr.{Expr}
+use Rattle.core_tree.specs.Trees.{Term, Claim, Claims, combine, product, unary, prime, inside, equal, test, negation, every, temporal, temporal_pair, no_claims, more_claims, claim_list, term_of, claim_of}
+use Rattle.core_tree.specs.Past.{no_depths, one_more, past_in, past_of, past_of_each}
+use Rattle.set_circuits.specs.declared.operators.SetOperator.{SetOperator}
+use Rattle.set_circuits.specs.declared.operators.SetOperator.TheVariants.{Combine, Product, Transpose, Closure}
+use Rattle.set_circuits.specs.declared.questions.Question.TheVariants.{Inside}
+use Rattle.lasso_stack.specs.declared.numbers.Operator.TheVariants.{OfSets}
+use Rattle.lasso_stack.specs.declared.numbers.TestOperator.TheVariants.{OfSets as AskSets}
+use Rattle.lasso_stack.specs.declared.windows.TimeOperator.TheVariants.{Before, Since, Until}
+use Rattle.lasso_steps.specs.declared.plan.ValueStep.TheVariants.{Two, One, Next}
+use Rattle.lasso_steps.specs.declared.plan.RowStep.{RowStep}
+use Rattle.lasso_steps.specs.declared.plan.RowStep.TheVariants.{Asked, Equal, Tested, Negate, Both, After, Along}
+use Rattle.lasso_steps.specs.declared.plan.Task.{Task}
+use Rattle.lasso_steps.specs.declared.plan.Task.TheVariants.{Sets, Holds, Values, Rows}
+use Rattle.lasso_steps.specs.declared.plan.Plan.{Plan}
+use Rattle.lasso_sets.specs.Shown.{none_nested}
+use Rattle.lasso_steps.specs.Forms.{IsPlain, IsPlainTerm, ArePlain}
+use Rattle.lasso_steps.specs.Opened.{turned_by, IsOpenedWith}
+use Rattle.lasso_steps.specs.Leads.{Leads, IsRead, IsReadTerm}
+use Rattle.lasso_steps.specs.Plans.{todo, ArePlanned, IsOpened}
+use Rattle.lasso_steps.specs.Ways.{before_all, AreRead, AreListed}
+
+max_left : (a b h : ℕ) → max a b ≤ h → a ≤ h
+max_left a b h le = (let m = le-max_left a b in omega (arith, m, le))
+
+max_right : (a b h : ℕ) → max a b ≤ h → b ≤ h
+max_right a b h le = (let m = le-max_right a b in omega (arith, m, le))
+
+one_less : (n h : ℕ) → one_more n ≤ h → n ≤ h
+one_less n h le = elim (cases_lt n (2 ^ 32 - 1)) [
+  | inl below ↦ (let m : n + 1 ≤ h = subst (λ (k : ℕ). k ≤ h) (sym (cond_below n (2 ^ 32 - 1) (n + 1) n below)) le in omega (arith, m))
+  | inr above ↦ subst (λ (k : ℕ). k ≤ h) (sym (cond_above n (2 ^ 32 - 1) (n + 1) n _ above refl)) le
+]
+
+-- tasks that are put before others stand in place of a task that they lead on
+pub opened_by : (task : Task) (tasks : List Task) (old new : Plan) → ArePlanned old new tasks → ((depth : ℕ) (root : Claim) (fs : List Claim) (es : List Term) → Leads depth root (task ∷ todo old) fs es → Leads depth root (tasks ++ todo old) fs es) → IsOpened task old new
+opened_by task tasks old new planned leads = record {
+  leads = λ depth root fs es h. subst (λ (ts : List Task). Leads depth root ts fs es) (sym planned.todo_is) (leads depth root fs es h);
+  values = planned.values;
+  kept = planned.kept;
+}
+
+-- ---- expressions
+
+product_plain : (m n : Multiplicity) (a b : Term) (depth : ℕ) → IsReadTerm depth (product a m n b) → (product a m n b ≡ product a Set Set b) × IsReadTerm depth a × IsReadTerm depth b
+product_plain Set Set a b depth (plain, le) = (refl, (plain.2, max_left _ _ depth le), (plain.3, max_right _ _ depth le))
+product_plain Set n a b depth (plain, le) = absurd plain.1
+product_plain m n a b depth (plain, le) = absurd plain.0
+
+pub combine_opened : {a b : Bor Expr} {old new : Plan} (op : RelationOp) (e : Bor Expr) (scope : ℕ) → term_of e.now ≡ combine op (term_of a.now) (term_of b.now) → ArePlanned old new (Sets a scope ∷ Sets b scope ∷ Values (Two (OfSets (Combine op))) ∷ []) → IsOpened (Sets e scope) old new
+combine_opened {a} {b} {old} {new} op e scope is planned = opened_by (Sets e scope) _ old new planned (λ depth root fs es (read, leads).
+    let (plain, le) = subst (λ (t : Term). IsReadTerm depth t) is read in
+    let rest = subst (λ (t : Term). Leads depth root (todo old) fs (t ∷ es)) is leads in
+    ((plain.0, max_left _ _ depth le), ((plain.1, max_right _ _ depth le), rest)))
+
+pub product_opened : {a b : Bor Expr} {old new : Plan} (m n : Multiplicity) (e : Bor Expr) (scope : ℕ) → term_of e.now ≡ product (term_of a.now) m n (term_of b.now) → ArePlanned old new (Sets a scope ∷ Sets b scope ∷ Values (Two (OfSets Product)) ∷ []) → IsOpened (Sets e scope) old new
+product_opened {a} {b} {old} {new} m n e scope is planned = opened_by (Sets e scope) _ old new planned (λ depth root fs es (read, leads).
+    let (same, one, two) = product_plain m n (term_of a.now) (term_of b.now) depth (subst (λ (t : Term). IsReadTerm depth t) is read) in
+    let rest = subst (λ (t : Term). Leads depth root (todo old) fs (t ∷ es)) (is ∙ same) leads in
+    (one, (two, rest)))
+
+turned_leads : (op : UnaryRelation) (a : Term) (depth : ℕ) (root : Claim) (more : List Task) (fs : List Claim) (es : List Term) → IsReadTerm depth (unary op a) → Leads depth root more fs (unary op a ∷ es) → IsReadTerm depth a × Leads depth root (Values (One (OfSets (turned_by op))) ∷ more) fs (a ∷ es)
+turned_leads TransposeOf a depth root more fs es (plain, le) leads = ((plain.1, le), leads)
+turned_leads ClosureOf a depth root more fs es (plain, le) leads = ((plain.1, le), leads)
+turned_leads op a depth root more fs es (plain, le) leads = absurd plain.0
+
+pub turned_opened : {a : Bor Expr} {old new : Plan} (op : UnaryRelation) (by : SetOperator) (e : Bor Expr) (scope : ℕ) → by ≡ turned_by op → term_of e.now ≡ unary op (term_of a.now) → ArePlanned old new (Sets a scope ∷ Values (One (OfSets by)) ∷ []) → IsOpened (Sets e scope) old new
+turned_opened {a} {old} {new} op by e scope same is planned = opened_by (Sets e scope) _ old new planned (λ depth root fs es (read, leads).
+    let (one, rest) = turned_leads op (term_of a.now) depth root (todo old) fs es (subst (λ (t : Term). IsReadTerm depth t) is read) (subst (λ (t : Term). Leads depth root (todo old) fs (t ∷ es)) is leads) in
+    (one, subst (λ (o : SetOperator). Leads depth root (Values (One (OfSets o)) ∷ todo old) fs (term_of a.now ∷ es)) (sym same) rest))
+
+pub next_opened : {a : Bor Expr} {old new : Plan} (e : Bor Expr) (scope : ℕ) → term_of e.now ≡ prime (term_of a.now) → ArePlanned old new (Sets a scope ∷ Values Next ∷ []) → IsOpened (Sets e scope) old new
+next_opened {a} {old} {new} e scope is planned = opened_by (Sets e scope) _ old new planned (λ depth root fs es (read, leads).
+    let (plain, le) = subst (λ (t : Term). IsReadTerm depth t) is read in
+    let rest = subst (λ (t : Term). Leads depth root (todo old) fs (t ∷ es)) is leads in
+    ((plain, le), (le, rest)))
+
+-- what is no plain expression leads to nothing
+pub none_opened : (e : Bor Expr) (scope : ℕ) (old new : Plan) → ¬ IsPlainTerm (term_of e.now) → new.values.items ≡ old.values.items → new.kept.items ≡ old.kept.items → IsOpened (Sets e scope) old new
+none_opened e scope old new none values kept = record {
+  leads = λ depth root fs es h. absurd (none h.0.0);
+  values = values;
+  kept = kept;
+}
+
+-- ---- formulas
+
+-- tasks that lead to the same, with no row before them
+with_none : (task : Task) (tasks : List Task) (old new : Plan) → ArePlanned old new tasks → ((depth : ℕ) (root : Claim) (fs : List Claim) (es : List Term) → Leads depth root (task ∷ todo old) fs es → Leads depth root (tasks ++ todo old) fs es) → IsOpenedWith None task old new
+with_none task tasks old new planned leads = record {
+  leads = λ depth root fs es h. subst (λ (ts : List Task). Leads depth root ts fs es) (sym planned.todo_is) (leads depth root fs es h);
+  values = planned.values;
+  kept = planned.kept;
+}
+
+-- what is no plain formula leads to nothing
+pub unread : (row : Option Bool) (f : Bor Formula) (scope : ℕ) (old new : Plan) → ¬ IsPlain (claim_of f.now) → new.values.items ≡ old.values.items → new.kept.items ≡ old.kept.items → IsOpenedWith row (Holds f scope) old new
+unread row f scope old new none values kept = record {
+  leads = λ depth root fs es h. absurd (none h.0.0);
+  values = values;
+  kept = kept;
+}
+
+pub negation_opened : {a : Bor Formula} {old new : Plan} (f : Bor Formula) (scope : ℕ) → claim_of f.now ≡ negation (claim_of a.now) → ArePlanned old new (Holds a scope ∷ Rows Negate ∷ []) → IsOpenedWith None (Holds f scope) old new
+negation_opened {a} {old} {new} f scope is planned = with_none (Holds f scope) _ old new planned (λ depth root fs es (read, leads).
+    let (plain, le) = subst (λ (t : Claim). IsRead depth t) is read in
+    let rest = subst (λ (t : Claim). Leads depth root (todo old) (t ∷ fs) es) is leads in
+    ((plain, le), rest))
+
+pub after_opened : {a : Bor Formula} {old new : Plan} (f : Bor Formula) (scope : ℕ) → claim_of f.now ≡ temporal AfterOf (claim_of a.now) → ArePlanned old new (Holds a scope ∷ Rows After ∷ []) → IsOpenedWith None (Holds f scope) old new
+after_opened {a} {old} {new} f scope is planned = with_none (Holds f scope) _ old new planned (λ depth root fs es (read, leads).
+    let (plain, le) = subst (λ (t : Claim). IsRead depth t) is read in
+    let rest = subst (λ (t : Claim). Leads depth root (todo old) (t ∷ fs) es) is leads in
+    ((plain.1, le), (le, rest)))
+
+pub until_opened : {a b : Bor Formula} {old new : Plan} (f : Bor Formula) (scope : ℕ) → claim_of f.now ≡ temporal_pair UntilOf (claim_of a.now) (claim_of b.now) → ArePlanned old new (Holds a scope ∷ Holds b scope ∷ Rows (Along Until) ∷ []) → IsOpenedWith None (Holds f scope) old new
+until_opened {a} {b} {old} {new} f scope is planned = with_none (Holds f scope) _ old new planned (λ depth root fs es (read, leads).
+    let (plain, le) = subst (λ (t : Claim). IsRead depth t) is read in
+    let rest = subst (λ (t : Claim). Leads depth root (todo old) (t ∷ fs) es) is leads in
+    (let one = max_left _ _ depth le in let two = max_right _ _ depth le in ((plain.1, one), ((plain.2, two), (one, two, rest)))))
+
+pub since_opened : {a b : Bor Formula} {old new : Plan} (f : Bor Formula) (scope : ℕ) → claim_of f.now ≡ temporal_pair SinceOf (claim_of a.now) (claim_of b.now) → ArePlanned old new (Holds a scope ∷ Holds b scope ∷ Rows (Along Since) ∷ []) → IsOpenedWith None (Holds f scope) old new
+since_opened {a} {b} {old} {new} f scope is planned = with_none (Holds f scope) _ old new planned (λ depth root fs es (read, leads).
+    let (plain, le) = subst (λ (t : Claim). IsRead depth t) is read in
+    let rest = subst (λ (t : Claim). Leads depth root (todo old) (t ∷ fs) es) is leads in
+    (let less = one_less _ depth le in ((plain.1, max_left _ _ depth less), ((plain.2, max_right _ _ depth less), rest))))
+
+pub inside_opened : {a b : Bor Expr} {old new : Plan} (f : Bor Formula) (scope : ℕ) → claim_of f.now ≡ inside (term_of a.now) (term_of b.now) → ArePlanned old new (Sets a scope ∷ Sets b scope ∷ Rows (Asked (AskSets Inside)) ∷ []) → IsOpenedWith None (Holds f scope) old new
+inside_opened {a} {b} {old} {new} f scope is planned = with_none (Holds f scope) _ old new planned (λ depth root fs es (read, leads).
+    let (plain, le) = subst (λ (t : Claim). IsRead depth t) is read in
+    let rest = subst (λ (t : Claim). Leads depth root (todo old) (t ∷ fs) es) is leads in
+    ((plain.0, max_left _ _ depth le), ((plain.1, max_right _ _ depth le), rest)))
+
+pub equal_opened : {a b : Bor Expr} {old new : Plan} (f : Bor Formula) (scope : ℕ) → claim_of f.now ≡ equal (term_of a.now) (term_of b.now) → ArePlanned old new (Sets a scope ∷ Sets b scope ∷ Rows Equal ∷ []) → IsOpenedWith None (Holds f scope) old new
+equal_opened {a} {b} {old} {new} f scope is planned = with_none (Holds f scope) _ old new planned (λ depth root fs es (read, leads).
+    let (plain, le) = subst (λ (t : Claim). IsRead depth t) is read in
+    let rest = subst (λ (t : Claim). Leads depth root (todo old) (t ∷ fs) es) is leads in
+    ((plain.0, max_left _ _ depth le), ((plain.1, max_right _ _ depth le), rest)))
+
+pub test_opened : {a : Bor Expr} {old new : Plan} (q : Quantity) (f : Bor Formula) (scope : ℕ) → claim_of f.now ≡ test q (term_of a.now) → ArePlanned old new (Sets a scope ∷ Rows (Tested q) ∷ []) → IsOpenedWith None (Holds f scope) old new
+test_opened {a} {old} {new} q f scope is planned = with_none (Holds f scope) _ old new planned (λ depth root fs es (read, leads).
+    let (plain, le) = subst (λ (t : Claim). IsRead depth t) is read in
+    let rest = subst (λ (t : Claim). Leads depth root (todo old) (t ∷ fs) es) is leads in
+    ((plain, le), rest))
+
+-- the formula on the position before, with the row of no formula under it
+pub before_opened : {a : Bor Formula} {old new : Plan} (f : Bor Formula) (scope : ℕ) → claim_of f.now ≡ temporal BeforeOf (claim_of a.now) → ArePlanned old new (Holds a scope ∷ Rows (Along Before) ∷ []) → IsOpenedWith (Some true) (Holds f scope) old new
+before_opened {a} {old} {new} f scope is planned = record {
+  leads = λ depth root fs es (read, leads).
+      let (plain, le) = subst (λ (t : Claim). IsRead depth t) is read in
+      let less = one_less _ depth le in
+      subst (λ (ts : List Task). Leads depth root ts (every no_claims ∷ fs) es) (sym planned.todo_is) ((plain.1, less), subst (λ (t : Claim). Leads depth root (todo old) (t ∷ fs) es) is leads);
+  values = planned.values;
+  kept = planned.kept;
+}
+
+-- ---- lists of formulas
+
+pub taken_more : {X Y : Type 0} (f : X → Y) (xs : List X) (k : ℕ) (x : X) → slice_get xs k ≡ Some x → map f (take (suc k) xs) ≡ map f (take k xs) ++ f x ∷ []
+taken_more f [] k x at = cc
+taken_more f (y ∷ xs) zero x at = (let e : y ≡ x = cc in ap (λ z. f z ∷ []) e)
+taken_more f (y ∷ xs) (suc k) x at = ap (λ zs. f y ∷ zs) (taken_more f xs k x at)
+
+pub listed_none : (plan : Plan) → AreListed [] plan plan
+listed_none plan = record { leads = λ depth root fs es gs read leads. leads; values = refl; kept = refl }
+
+before_more : (fs : List Claim) (f : Claim) (gs : Claims) → before_all (fs ++ f ∷ []) gs ≡ before_all fs (more_claims f gs)
+before_more [] f gs = refl
+before_more (e ∷ fs) f gs = ap (more_claims e) (before_more fs f gs)
+
+read_more : (depth : ℕ) (fs : List Claim) (f : Claim) → AreRead depth (fs ++ f ∷ []) → AreRead depth fs × IsRead depth f
+read_more depth [] f read = (tt, read.0)
+read_more depth (e ∷ fs) f read = (let r = read_more depth fs f read.1 in ((read.0, r.0), r.1))
+
+pub listed_more : {a : Bor Formula} (claims more : List Claim) (scope : ℕ) (old now new : Plan) → more ≡ claims ++ claim_of a.now ∷ [] → AreListed claims old now → ArePlanned now new (Holds a scope ∷ Rows Both ∷ []) → AreListed more old new
+listed_more {a} claims more scope old now new is listed planned = subst (λ (cs : List Claim). AreListed cs old new) (sym is) (record {
+  leads = λ depth root fs es gs read leads.
+      let (before, here) = read_more depth claims (claim_of a.now) read in
+      let rest = listed.leads depth root fs es (more_claims (claim_of a.now) gs) before (subst (λ (cs : Claims). Leads depth root (todo old) (every cs ∷ fs) es) (before_more claims (claim_of a.now) gs) leads) in
+      subst (λ (ts : List Task). Leads depth root ts (every gs ∷ fs) es) (sym planned.todo_is) (here, rest);
+  values = planned.values ∙ listed.values;
+  kept = planned.kept ∙ listed.kept;
+})
+
+each_read : (depth : ℕ) (fs : List Claim) → ArePlain (claim_list fs) → past_of_each none_nested (claim_list fs) no_depths ≤ depth → AreRead depth fs
+each_read depth [] plain le = tt
+each_read depth (f ∷ fs) plain le = ((plain.0, max_left _ _ depth le), each_read depth fs plain.1 (max_right _ _ depth le))
+
+all_before : (fs : List Claim) → before_all fs no_claims ≡ claim_list fs
+all_before [] = refl
+all_before (f ∷ fs) = ap (more_claims f) (all_before fs)
+
+-- with the row of no formula on top, the tasks of a list lead to the row of all
+pub every_opened : (f : Bor Formula) (scope : ℕ) (claims : List Claim) (old new : Plan) → claim_of f.now ≡ every (claim_list claims) → AreListed claims old new → IsOpenedWith (Some true) (Holds f scope) old new
+every_opened f scope claims old new is listed = record {
+  leads = λ depth root fs es (read, leads).
+      let (plain, le) = subst (λ (t : Claim). IsRead depth t) is read in
+      listed.leads depth root fs es no_claims (each_read depth claims plain le)
+      (subst (λ (t : Claim). Leads depth root (todo old) (t ∷ fs) es) (is ∙ ap every (sym (all_before claims))) leads);
+  values = listed.values;
+  kept = listed.kept;
+}

@@ -1,0 +1,35 @@
+use Rattle.std.proofs.Common.{◌≡◌, ◌∙◌, ◌++◌, ◌∷◌, [], ℕ, List, refl, sym, ap, subst, Vec, Global}
+use Rattle.gate_trait.specs.Kept.{keeps_trans}
+use Rattle.core_tree.specs.Trees.{claim_of}
+use Rattle.lasso_sets.specs.Relations.{reading_of}
+use Rattle.lasso_sets.specs.Shown.{AreKept}
+use Rattle.lasso_steps.proofs.EndLaws.{begins}
+use Rattle.lasso_steps.proofs.running.push_formula.Goals as goal
+
+pub loop-turn-init : goal.loop-turn-init
+loop-turn-init g c =
+    let value = g.G.Gates.node_value in
+    let plan = c.new_plan-plan.ensures in
+    record {
+      keeps = c.kept_of.ensures.keeps;
+      stored = c.in_ok-kept.ensures.stored;
+      way = λ depth ok read none.
+          let r = reading_of c.args.setting.now depth in
+          let have = subst (λ (ks : List (Vec ℕ Global)). AreKept r (value c.kept_of.new.gates) c.kept_of.new.store.matrices.items ks) (sym plan.kept) (c.in_ok-kept.ensures.kept depth ok) in
+          begins r c.args.formula 0 (value c.kept_of.new.gates) c.kept_of.new.store c.new_plan-plan.result c.first.new.plan (c.in_ok-kept.ensures.rows ∙ none) plan.values plan.tasks c.in_ok-first.ensures read have;
+    }
+
+pub loop-turn-preserved : goal.loop-turn-preserved
+loop-turn-preserved g c =
+    let value = g.G.Gates.node_value in
+    let belongs = g.G.Gates.belongs in
+    let before = c.loop-turn.invariant in
+    record {
+      keeps = keeps_trans belongs value c.args.gates.now c.loop-turn.gates c.advance.new.gates before.keeps c.advance.ensures.keeps;
+      stored = c.in_ok-more.ensures.stored;
+      way = λ depth ok read none. c.in_ok-more.ensures.goes c.if-not-more.false depth (claim_of c.args.formula.now) ok (before.way depth ok read none);
+    }
+
+pub returns-then-not-more-clause-right : goal.returns-then-not-more-clause-right
+returns-then-not-more-clause-right g c = λ depth ok read none.
+    c.in_ok-more.ensures.ends c.if-not-more.true depth (claim_of c.args.formula.now) (c.loop-turn.invariant.way depth ok read none)

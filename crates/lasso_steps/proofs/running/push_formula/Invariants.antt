@@ -1,0 +1,20 @@
+use Rattle.std.proofs.Common.{◌≡◌, ℕ, [], ◌∷◌}
+use Rattle.gate_trait.specs.Built.{Keeps}
+use Rattle.core_tree.specs.Trees.{claim_of}
+use Rattle.lasso_stack.specs.Stored.{AreStored}
+use Rattle.lasso_sets.specs.Relations.{reading_of}
+use Rattle.lasso_sets.specs.Shown.{IsReading}
+use Rattle.lasso_steps.specs.Leads.{IsRead}
+use Rattle.lasso_steps.specs.Plans.{todo}
+use Rattle.lasso_steps.specs.Ways.{OnTheWay}
+use Rattle.lasso_steps.proofs.running.push_formula.Given as goal
+
+abbrev pub invariant-loop-turn : goal.invariant-loop-turn
+invariant-loop-turn g l =
+    let belongs = g.G.Gates.belongs in
+    let value = g.G.Gates.node_value in
+    record {
+      keeps : Keeps belongs value l.fn.gates l.gates;
+      stored : AreStored (belongs l.gates) l.store;
+      way : (depth : ℕ) → IsReading (reading_of l.setting depth) → IsRead depth (claim_of l.formula) → l.fn.store.rows.items ≡ [] → OnTheWay l.setting depth (claim_of l.formula) (value l.gates) l.store l.plan (todo l.plan);
+    }

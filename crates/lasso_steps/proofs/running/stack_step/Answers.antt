@@ -1,0 +1,45 @@
+use Rattle.std.proofs.Common.{◌≡◌, sym, subst}
+use Rattle.gate_trait.specs.Kept.{keeps_refl}
+use Rattle.lasso_steps.specs.declared.plan.RowStep.{RowStep}
+use Rattle.lasso_sets.specs.Relations.{reading_of}
+use Rattle.lasso_steps.specs.Ways.{RowsGoOn}
+use Rattle.lasso_steps.proofs.WayLaws.{negate_on, both_on, after_on, along_on}
+use Rattle.lasso_steps.proofs.running.stack_step.Goals as goal
+
+pub returns-in_ok-negate_top-in-Negate-clause-goes : goal.returns-in_ok-negate_top-in-Negate-clause-goes
+returns-in_ok-negate_top-in-Negate-clause-goes g c =
+    let value = g.G.Gates.node_value in
+    let belongs = g.G.Gates.belongs in
+    let gates = c.args.gates.now in
+    subst (λ (s : RowStep). RowsGoOn c.args.setting.now s (value gates) (value gates) c.args.store.now c.negate_top.new.store) (sym c.in-Negate.is) (λ depth root kept values tasks ok own way.
+    negate_on belongs value (reading_of c.args.setting.now depth) ok root kept gates gates (keeps_refl belongs value gates) c.args.store.now c.negate_top.new.store c.requires c.in_ok-negate_top-in-Negate.ensures.beside.matrices values tasks
+    c.in_ok-negate_top-in-Negate.ensures.rows way.fs way.es way.rows_right way.values_right way.kept_right way.leads)
+
+pub returns-in_ok-both_top-in-Both-clause-goes : goal.returns-in_ok-both_top-in-Both-clause-goes
+returns-in_ok-both_top-in-Both-clause-goes g c =
+    let value = g.G.Gates.node_value in
+    let belongs = g.G.Gates.belongs in
+    let gates = c.args.gates.now in
+    let later = c.both_top.new.gates in
+    subst (λ (s : RowStep). RowsGoOn c.args.setting.now s (value gates) (value later) c.args.store.now c.both_top.new.store) (sym c.in-Both.is) (λ depth root kept values tasks ok own way.
+    both_on belongs value (reading_of c.args.setting.now depth) ok root kept gates later c.both_top.ensures.keeps c.args.store.now c.both_top.new.store c.requires c.in_ok-both_top-in-Both.ensures.beside.matrices values tasks
+    c.in_ok-both_top-in-Both.ensures.rows way.fs way.es way.rows_right way.values_right way.kept_right way.leads)
+
+pub returns-in_ok-after_top-in-After-clause-goes : goal.returns-in_ok-after_top-in-After-clause-goes
+returns-in_ok-after_top-in-After-clause-goes g c =
+    let value = g.G.Gates.node_value in
+    let belongs = g.G.Gates.belongs in
+    let gates = c.args.gates.now in
+    subst (λ (s : RowStep). RowsGoOn c.args.setting.now s (value gates) (value gates) c.args.store.now c.after_top.new.store) (sym c.in-After.is) (λ depth root kept values tasks ok own way.
+    after_on belongs value (reading_of c.args.setting.now depth) ok root kept gates gates (keeps_refl belongs value gates) c.args.store.now c.after_top.new.store c.requires c.in_ok-after_top-in-After.ensures.beside.matrices values tasks
+    c.in_ok-after_top-in-After.ensures.rows way.fs way.es way.rows_right way.values_right way.kept_right way.leads)
+
+pub returns-in_ok-moving_top-in-Along-clause-goes : goal.returns-in_ok-moving_top-in-Along-clause-goes
+returns-in_ok-moving_top-in-Along-clause-goes g c =
+    let value = g.G.Gates.node_value in
+    let belongs = g.G.Gates.belongs in
+    let gates = c.args.gates.now in
+    let later = c.moving_top.new.gates in
+    subst (λ (s : RowStep). RowsGoOn c.args.setting.now s (value gates) (value later) c.args.store.now c.moving_top.new.store) (sym c.in-Along.is) (λ depth root kept values tasks ok own way.
+    along_on belongs value (reading_of c.args.setting.now depth) ok root kept gates later c.moving_top.ensures.keeps c.args.store.now c.moving_top.new.store c.requires c.in_ok-moving_top-in-Along.ensures.beside.matrices values tasks c.in-Along.op
+    (c.in_ok-moving_top-in-Along.ensures.rows _ _ ok.frame) way.fs way.es way.rows_right way.values_right way.kept_right way.leads)

@@ -1,0 +1,24 @@
+use Rattle.std.proofs.Common.{◌≡◌, sym, subst}
+use Rattle.lasso_steps.specs.declared.plan.Task.{Task}
+use Rattle.lasso_steps.specs.Ways.{GoesOn}
+use Rattle.lasso_steps.proofs.running.step.Goals as goal
+
+pub returns-in_ok-open_sets-in-Sets-clause-goes : goal.returns-in_ok-open_sets-in-Sets-clause-goes
+returns-in_ok-open_sets-in-Sets-clause-goes g c =
+    let value = g.G.Gates.node_value in
+    subst (λ (t : Task). GoesOn c.args.setting.now t (value c.args.gates.now) (value c.args.gates.now) c.args.store.now c.open_sets.new.store c.args.plan.now c.open_sets.new.plan) (sym c.in-Sets.is) c.in_ok-open_sets-in-Sets.ensures.goes
+
+pub returns-in_ok-open_formula-in-Holds-clause-goes : goal.returns-in_ok-open_formula-in-Holds-clause-goes
+returns-in_ok-open_formula-in-Holds-clause-goes g c =
+    let value = g.G.Gates.node_value in
+    subst (λ (t : Task). GoesOn c.args.setting.now t (value c.args.gates.now) (value c.args.gates.now) c.args.store.now c.open_formula.new.store c.args.plan.now c.open_formula.new.plan) (sym c.in-Holds.is) c.in_ok-open_formula-in-Holds.ensures.goes
+
+pub returns-in_ok-value_step-in-Values-clause-goes : goal.returns-in_ok-value_step-in-Values-clause-goes
+returns-in_ok-value_step-in-Values-clause-goes g c =
+    let value = g.G.Gates.node_value in
+    subst (λ (t : Task). GoesOn c.args.setting.now t (value c.args.gates.now) (value c.value_step.new.gates) c.args.store.now c.value_step.new.store c.args.plan.now c.value_step.new.plan) (sym c.in-Values.is) c.in_ok-value_step-in-Values.ensures.goes
+
+pub returns-in_ok-row_step-in-Rows-clause-goes : goal.returns-in_ok-row_step-in-Rows-clause-goes
+returns-in_ok-row_step-in-Rows-clause-goes g c =
+    let value = g.G.Gates.node_value in
+    subst (λ (t : Task). GoesOn c.args.setting.now t (value c.args.gates.now) (value c.row_step.new.gates) c.args.store.now c.row_step.new.store c.args.plan.now c.row_step.new.plan) (sym c.in-Rows.is) c.in_ok-row_step-in-Rows.ensures.goes

@@ -1,0 +1,55 @@
+-- The forms of expressions and formulas whose circuits are exact.
+use Rattle.core_tree.specs.declared.operators.Multiplicity.{Multiplicity}
+use Rattle.core_tree.specs.declared.operators.Multiplicity.TheVariants.{Set}
+use Rattle.core_tree.specs.declared.operators.TemporalUnary.{TemporalUnary}
+use Rattle.core_tree.specs.declared.operators.TemporalUnary.TheVariants.{After, Before}
+use Rattle.core_tree.specs.declared.operators.TemporalBinary.{TemporalBinary}
+use Rattle.core_tree.specs.declared.operators.TemporalBinary.TheVariants.{Until, Since}
+use Rattle.core_tree.specs.declared.operators.UnaryRelation.{UnaryRelation}
+use Rattle.core_tree.specs.declared.operators.UnaryRelation.TheVariants.{Transpose, Closure}
+use Rattle.core_tree.specs.Trees.{Term, Claim, Claims, sig, field, combine, product, unary, prime, inside, equal, test, negation, every, temporal, temporal_pair, no_claims, more_claims}
+
+abbrev pub IsTurning : UnaryRelation → Type 0
+IsTurning Transpose = Unit {0}
+IsTurning Closure = Unit {0}
+IsTurning op = ⊥
+
+abbrev pub IsNeighbour : TemporalUnary → Type 0
+IsNeighbour After = Unit {0}
+IsNeighbour Before = Unit {0}
+IsNeighbour op = ⊥
+
+abbrev pub IsAlongTime : TemporalBinary → Type 0
+IsAlongTime Until = Unit {0}
+IsAlongTime Since = Unit {0}
+IsAlongTime op = ⊥
+
+abbrev pub IsPlainArrow : Multiplicity → Type 0
+IsPlainArrow Set = Unit {0}
+IsPlainArrow m = ⊥
+
+-- expressions of sigs and fields
+abbrev pub IsPlainTerm : Term → Type 0
+IsPlainTerm (sig s) = Unit {0}
+IsPlainTerm (field f) = Unit {0}
+IsPlainTerm (combine op a b) = IsPlainTerm a × IsPlainTerm b
+IsPlainTerm (product a m n b) = IsPlainArrow m × IsPlainArrow n × IsPlainTerm a × IsPlainTerm b
+IsPlainTerm (unary op a) = IsTurning op × IsPlainTerm a
+IsPlainTerm (prime a) = IsPlainTerm a
+IsPlainTerm e = ⊥
+
+-- formulas on these, without variables
+abbrev mutual
+  pub IsPlain : Claim → Type 0
+  IsPlain (inside a b) = IsPlainTerm a × IsPlainTerm b
+  IsPlain (equal a b) = IsPlainTerm a × IsPlainTerm b
+  IsPlain (test q a) = IsPlainTerm a
+  IsPlain (negation f) = IsPlain f
+  IsPlain (every fs) = ArePlain fs
+  IsPlain (temporal op f) = IsNeighbour op × IsPlain f
+  IsPlain (temporal_pair op f g) = IsAlongTime op × IsPlain f × IsPlain g
+  IsPlain f = ⊥
+
+  pub ArePlain : Claims → Type 0
+  ArePlain no_claims = Unit {0}
+  ArePlain (more_claims f fs) = IsPlain f × ArePlain fs
