@@ -1,13 +1,16 @@
 -- What a model is made ready with, and what an analysis may answer.
-use Rattle.std.specs.Prelude.{◌≡◌, ◌≤◌, ℕ, List, [], ◌∷◌, ◌++◌, length, map, ⊤, Option, Some, slice_get}
+use Rattle.std.specs.Prelude.{◌≡◌, ◌≤◌, ℕ, List, [], ◌∷◌, ◌++◌, length, map, All, ⊤, Option, Some, slice_get}
+use Rattle.bounds_builder.specs.Candidates.{IsCandidate}
 use Rattle.bounds_builder.specs.Shortest.{HasFewestStates}
+use Rattle.bounds_builder.specs.Table.{IsTable}
 use Rattle.core_meaning.specs.Satisfied.{Satisfies}
 use Rattle.core_meaning.specs.Sequence.{LassoValue}
 use Rattle.core_tree.specs.Trees.{claim_of}
 use Rattle.core_tree.specs.declared.model.Command.{Command}
 use Rattle.model_test.specs.Kept.{IsModelButTypes}
-use Rattle.target_forms.specs.Targets.{fact_claims}
+use Rattle.target_forms.specs.Targets.{fact_claims, IsTargetOf}
 use Rattle.target_forms.specs.declared.target.Part.{Part}
+use Rattle.target_search.specs.Clauses.{IsCovered}
 use Rattle.trace_form.specs.Made.{AreRelationsOf, universe_texts}
 use Rattle.analyser.specs.declared.ready.Prepared.{Prepared}
 use Rattle.lrat_form.specs.Step.{State, start, Refutes}
@@ -18,12 +21,16 @@ use Rattle.analyser.specs.declared.fault.AnalyseFault.{AnalyseFault}
 use Rattle.analyser.specs.declared.fault.AnalyseFault.TheVariants.{Refused, Read, Memory}
 
 -- a model made ready for its command of this number: the model keeps what resolved models keep, the parts
--- are its facts and then that command, and the labels are those of its relations and of its universe
+-- are its facts and then that command, the target is that of the command, the scopes say something of each sig, the bounds have a
+-- table, and the labels are those of its relations and of its universe
 pub record IsReady (number : ℕ) (prepared : Prepared) : Type 0 where
   pub kept : IsModelButTypes prepared.model
   pub command : Command
   pub chosen : slice_get prepared.model.commands number ≡ Some command
   pub parts_are : map (λ (p : Part). claim_of p.formula) prepared.parts ≡ fact_claims prepared.model.facts ++ claim_of command.formula ∷ []
+  pub target_is : IsTargetOf prepared.model prepared.scopes (claim_of command.formula) prepared.target prepared.first_fact
+  pub counted : length prepared.scopes.numbers ≡ length prepared.model.sigs
+  pub table : IsTable prepared.bounds
   pub relations_are : AreRelationsOf prepared.model prepared.labels
   pub atoms_are : prepared.labels.atoms ≡ universe_texts prepared.model prepared.scopes
 
@@ -34,12 +41,17 @@ pub record IsTraceOf (prepared : Prepared) (lasso : LassoValue) : Type 0 where
   pub parts_are : prepared.parts ≡ facts ++ command ∷ []
   pub satisfies : Satisfies prepared.model prepared.scopes lasso (claim_of command.formula)
 
+-- no lasso within the bounds of a model that was made ready, of as many states as they have, satisfies the model and its command, where
+-- all formulas that are searched have plain forms
+abbrev pub NoneSatisfies : Prepared → Type 0
+NoneSatisfies prepared = All IsCovered prepared.target.formulas → (lasso : LassoValue) → IsCandidate prepared.bounds lasso → IsTraceOf prepared lasso → ⊥
+
 -- A trace satisfies the model and the command, and has the fewest states that show its sequence. Where there is no lasso, the
--- lines refute the clauses; and only a budget that is spent leaves it open: there are just as many lemmas, none of them empty,
+-- lines refute the clauses, and none of the plain forms is passed over; and only a budget that is spent leaves it open: there are just as many lemmas, none of them empty,
 -- and each passes.
 abbrev pub IsFoundIn : Prepared → Option ℕ → Answer → Type 0
 IsFoundIn prepared budget (Trace labels lasso) = (labels ≡ prepared.labels) × IsTraceOf prepared lasso × (length lasso.states ≤ prepared.bounds.states) × HasFewestStates lasso
-IsFoundIn prepared budget (Absent table states cnf lines) = (states ≡ prepared.bounds.states) × Refutes cnf.clauses lines
+IsFoundIn prepared budget (Absent table states cnf lines) = (states ≡ prepared.bounds.states) × Refutes cnf.clauses lines × ((number : ℕ) → IsReady number prepared → NoneSatisfies prepared)
 IsFoundIn prepared budget (Unknown table cnf lines) = (budget ≡ Some (length lines)) × ((end : State) × AreLemmas (start cnf.clauses) lines end)
 
 -- the same of a model that was made ready for its command of this number

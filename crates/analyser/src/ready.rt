@@ -1,6 +1,7 @@
 // A model made ready for a search.
 
-ghost use Rattle.std.specs.Prelude.{◌≡◌, IfOk, IfErr};
+ghost use Rattle.std.specs.Prelude.{◌≡◌, IfOk, IfErr, length};
+ghost use Rattle.bounds_builder.specs.Table.{IsTable};
 ghost use Rattle.analyser.specs.Found.{IsLoadedFault, IsReady};
 ghost use Rattle.model_test.specs.Kept.{IsModelButTypes};
 ghost use Rattle.trace_form.specs.Made.{AreRelationsOf, universe_texts};
@@ -98,7 +99,8 @@ fn bounds_of(
     scopes: &Scopes,
     keyword: Place,
 ) -> Result<Bounds, AnalyseFault>
-    ensures { IfErr result IsLoadedFault }
+    ensures table { IfOk result IsTable }
+    ensures fault { IfErr result IsLoadedFault }
 {
     match bounds(alloc, model, scopes, keyword) {
         Ok(bounds) => Ok(bounds),
@@ -111,9 +113,12 @@ fn bounds_of(
 fn labels_of(alloc: Global, model: &Model, scopes: &Scopes) -> Result<Labels, AllocError>
     ensures relations { IfOk result (λ labels. AreRelationsOf model.now labels) }
     ensures atoms { IfOk result (λ labels. labels.atoms ≡ universe_texts model.now scopes.now) }
+    ensures counted { IfOk result (λ labels. length scopes.now.numbers ≡ length model.now.sigs) }
 {
     let relations = model.sigs.len().saturating_add(model.fields.len());
-    if relations > u32::MAX as usize || scopes.numbers.len() != model.sigs.len() {
+    let known = scopes.numbers.len();
+    let sigs = model.sigs.len();
+    if relations > u32::MAX as usize || known != sigs {
         return Err(AllocError);
     }
     if scopes.bits < 1 || scopes.bits > 12 {

@@ -1,6 +1,7 @@
 // The search for a lasso.
 
 ghost use Rattle.std.specs.Prelude.{◌≡◌, IfOk, length};
+ghost use Rattle.target_search.specs.Clauses.{RulesOut};
 ghost use Rattle.target_search.specs.Found.{IsFound, IsFoundWithin};
 
 use crate::found::Found;
@@ -10,11 +11,15 @@ use bounds_builder::{Bounds, decode, shortest};
 use cdcl_solver::solve_with;
 use chooser_box::Chooser;
 use core_meaning::{Lasso, Target};
-use lrat_form::{Outcome, Proof};
+use lrat_form::{Outcome, Proof, refutation_is_sound};
 use std::alloc::{AllocError, Global};
+use table_laws::candidates_are_told;
 
 /// Searches for a lasso of the target within the bounds, of just as many states as these have. The only error is want of
 /// memory.
+///
+/// Where the lines refute the clauses, no lasso within the bounds of so many states meets the target, if all its formulas have
+/// only the plain forms.
 pub fn search_lasso<C: Chooser>(
     alloc: Global,
     target: &Target,
@@ -22,7 +27,8 @@ pub fn search_lasso<C: Chooser>(
     chooser: &mut C,
     budget: Option<u64>,
 ) -> Result<Found, AllocError>
-    ensures { IfOk result (IsFound bounds.now.states budget) }
+    ensures found { IfOk result (IsFound bounds.now.states budget) }
+    ensures none { IfOk result (RulesOut target.now bounds.now) }
 {
     let states = bounds.states;
     let cnf = clauses_of(alloc, target, bounds)?;
@@ -31,7 +37,11 @@ pub fn search_lasso<C: Chooser>(
             let lasso = lasso_of(alloc, bounds, &assignment)?;
             Ok(Found::Lasso(lasso))
         }
-        Outcome::Refutation(lines) => Ok(Found::Refuted(Proof { states, cnf, lines })),
+        Outcome::Refutation(lines) => {
+            refutation_is_sound();
+            candidates_are_told();
+            Ok(Found::Refuted(Proof { states, cnf, lines }))
+        }
         Outcome::Spent(lines) => Ok(Found::Spent(Proof { states, cnf, lines })),
     }
 }
@@ -45,7 +55,8 @@ pub fn search_target<C: Chooser>(
     chooser: &mut C,
     budget: Option<u64>,
 ) -> Result<Found, AllocError>
-    ensures { IfOk result (IsFoundWithin bounds.now.states budget) }
+    ensures found { IfOk result (IsFoundWithin bounds.now.states budget) }
+    ensures none { IfOk result (RulesOut target.now bounds.now) }
 {
     match search_lasso(alloc, target, bounds, chooser, budget)? {
         Found::Lasso(lasso) => Ok(Found::Lasso(shortest(alloc, &lasso)?)),

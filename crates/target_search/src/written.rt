@@ -1,5 +1,8 @@
 // The clauses of a target.
 
+ghost use Rattle.std.specs.Prelude.{IfOk};
+ghost use Rattle.target_search.specs.Clauses.{SayTarget};
+
 use bounds_builder::{Bounds, layout};
 use circuit_store::CircuitStore;
 use clause_writer::{are_numbered, write_clauses};
@@ -23,13 +26,17 @@ pub fn table_store(alloc: Global, variables: u64) -> Result<CircuitStore, AllocE
 /// one unit that says that the lasso keeps the numbers of the scopes, and one for each formula of the target.
 ///
 /// The variables of the table come first, under their own numbers. The only error is want of memory.
-pub fn clauses_of(alloc: Global, target: &Target, bounds: &Bounds) -> Result<Cnf, AllocError> {
+pub fn clauses_of(alloc: Global, target: &Target, bounds: &Bounds) -> Result<Cnf, AllocError>
+    ensures { IfOk result (λ cnf. SayTarget target.now bounds.now cnf.clauses) }
+{
     let table = layout(alloc, bounds)?;
     let mut store = table_store(alloc, table.variables)?;
     let encoded = encode(alloc, target, bounds, &mut store)?;
-    if !are_numbered(&store) {
+    let numbered = are_numbered(&store);
+    if !numbered {
         // The encoder asks for no input but those of the table, so this is never met.
         return Err(AllocError);
     }
-    write_clauses(alloc, &store, encoded.sure, &encoded.roots)
+    let cnf = write_clauses(alloc, &store, encoded.sure, &encoded.roots)?;
+    Ok(cnf)
 }

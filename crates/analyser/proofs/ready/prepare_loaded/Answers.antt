@@ -6,6 +6,9 @@ returns-clause-ready c = record {
   command = c.get-chosen.result.now;
   chosen = c.get-chosen.ensures;
   parts_are = c.in_ok-parts.ensures;
+  target_is = c.in_ok-TARGET.ensures.target;
+  counted = c.in_ok-labels.ensures.counted;
+  table = c.in_ok-bounds.ensures.table;
   relations_are = c.in_ok-labels.ensures.relations;
   atoms_are = c.in_ok-labels.ensures.atoms;
 }

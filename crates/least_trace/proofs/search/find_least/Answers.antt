@@ -8,12 +8,12 @@ loop-fewer-init g c = refl
 
 pub returns-in-Lasso : goal.returns-in-Lasso
 returns-in-Lasso g c =
-    let count : length c.in-Lasso.lasso.states ≡ c.loop-fewer.fewer + 1 = subst (IsFound (c.loop-fewer.fewer + 1) c.args.budget) c.in-Lasso.is c.in_ok-lasso.ensures in
+    let count : length c.in-Lasso.lasso.states ≡ c.loop-fewer.fewer + 1 = subst (IsFound (c.loop-fewer.fewer + 1) c.args.budget) c.in-Lasso.is c.in_ok-lasso.ensures.found in
     (omega (arith, c.loop-fewer-test.true), subst (λ (n : ℕ). IsBelow n c.loop-fewer.below) (sym count) c.loop-fewer.invariant)
 
 pub loop-fewer-preserved : goal.loop-fewer-preserved
 loop-fewer-preserved g c =
-    let refuted = subst (IsFound (c.loop-fewer.fewer + 1) c.args.budget) c.in-Refuted.is c.in_ok-lasso.ensures in
+    let refuted = subst (IsFound (c.loop-fewer.fewer + 1) c.args.budget) c.in-Refuted.is c.in_ok-lasso.ensures.found in
     let count = refuted.0 in
     (omega (arith, count), omega (arith, count), (refl, refuted.1))
 

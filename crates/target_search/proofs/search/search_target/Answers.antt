@@ -1,6 +1,10 @@
 use Rattle.std.proofs.Common.{subst}
+use Rattle.target_search.specs.Clauses.{RulesOut}
 use Rattle.target_search.specs.Found.{IsFound}
 use Rattle.target_search.proofs.search.search_target.Goals as goal
 
-pub returns-in-Spent : goal.returns-in-Spent
-returns-in-Spent g c = subst (IsFound c.args.bounds.now.states c.args.budget) c.in-Spent.is c.in_ok-lasso.ensures
+pub returns-in-Spent-clause-found : goal.returns-in-Spent-clause-found
+returns-in-Spent-clause-found g c = subst (IsFound c.args.bounds.now.states c.args.budget) c.in-Spent.is c.in_ok-lasso.ensures.found
+
+pub returns-in-Refuted-clause-none : goal.returns-in-Refuted-clause-none
+returns-in-Refuted-clause-none g c = subst (RulesOut c.args.target.now c.args.bounds.now) c.in-Refuted.is c.in_ok-lasso.ensures.none

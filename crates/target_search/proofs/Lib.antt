@@ -1,0 +1,3 @@
+mod ClausesLaw
+mod NoneLaw
+mod SayLaw
