@@ -23,7 +23,7 @@ returns-clause-table g c =
     let loops = choices_kept belongs value before rooted keeps row c.in_ok-choices.ensures.belongs c.args.bounds.now.states c.in_ok-table.table.loops c.in_ok-choices.ensures.choices in (
       c.in_ok-table.table,
       record {
-        laid = c.in_ok-table.ensures;
+        laid = c.in_ok-table.ensures.exact;
         lassos = λ x. (
           (λ t. let k = (said x).0 t in decoded c.args.bounds.now c.in_ok-table.table x k.0 ((loops.only x k.0).0 k.1)),
           (λ l. (said x).1 (l.0.loop_start, (loops.only x l.0.loop_start).1 l.1.loop)),
