@@ -1,16 +1,13 @@
 -- What a name may stand for where it stands, and what it then means.
 use Rattle.std.specs.Prelude.{◌≡◌, ◌⊎◌, ℕ, ◌+◌, ◌<◌, ◌==◌, Bool, true, false, List, [], ◌∷◌, ◌++◌, length, Option, Some, None, Contains, slice_get}
 use Rattle.als_tree.specs.declared.expr.QualName.{QualName}
-use Rattle.als_tree.specs.declared.instance.SigRef.{SigRef}
 use Rattle.sig_types.specs.Types.{Lines, join_of}
 use Rattle.sig_types.specs.declared.columns.Columns.{Columns}
 use Rattle.root_readings.specs.declared.meaning.Meaning.{Meaning}
-use Rattle.root_readings.specs.declared.meaning.What.{What}
 use Rattle.root_readings.specs.declared.meaning.What.TheVariants as what
 use Rattle.root_readings.specs.Meanings.{waiting, columns_of_result}
 use Rattle.name_tables.specs.declared.table.Decl.{Decl}
 use Rattle.name_tables.specs.declared.table.Decl.TheVariants as decl
-use Rattle.name_tables.specs.declared.table.Declared.{Declared}
 use Rattle.name_tables.specs.declared.table.FieldEntry.{FieldEntry}
 use Rattle.name_tables.specs.declared.table.BodyEntry.{BodyEntry}
 use Rattle.name_tables.specs.declared.table.Scope.{Scope}

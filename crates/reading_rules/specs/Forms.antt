@@ -1,5 +1,5 @@
 -- How the operators of a text are read.
-use Rattle.std.specs.Prelude.{Bool, ◌||◌, Option, Some, None}
+use Rattle.std.specs.Prelude.{◌||◌, Option, Some, None}
 use Rattle.std.specs.Option.{is_some}
 use Rattle.als_tree.specs.declared.operator.Infix.{Infix}
 use Rattle.als_tree.specs.declared.operator.Infix.TheVariants as infixed
@@ -7,7 +7,6 @@ use Rattle.als_tree.specs.declared.operator.Prefix.{Prefix}
 use Rattle.als_tree.specs.declared.operator.Prefix.TheVariants as prefix
 use Rattle.als_tree.specs.declared.operator.Comparator.{Comparator}
 use Rattle.als_tree.specs.declared.operator.Comparator.TheVariants as comparator
-use Rattle.als_tree.specs.declared.operator.Comparison.{Comparison}
 use Rattle.als_tree.specs.declared.operator.Quantifier.{Quantifier}
 use Rattle.als_tree.specs.declared.operator.Quantifier.TheVariants as quantifier
 use Rattle.als_tree.specs.declared.operator.Multiplicity.{Multiplicity as Word}

@@ -1,5 +1,5 @@
 -- Roots as they are prepared: the tree of a root's parts, and in it what each candidate of each name means.
-use Rattle.std.specs.Prelude.{◌≡◌, ℕ, Bool, true, false, List, [], ◌∷◌, ◌++◌, map, fold, Option, Some, None, codes}
+use Rattle.std.specs.Prelude.{◌≡◌, ℕ, Bool, true, false, List, [], ◌∷◌, ◌++◌, map, Option, Some, None, codes}
 use Rattle.alloy_base.specs.declared.place.Place.{Place}
 use Rattle.als_tree.specs.declared.operator.Infix.{Infix}
 use Rattle.als_tree.specs.declared.operator.Prefix.{Prefix}

@@ -1,5 +1,5 @@
 -- The rules that a prepared root may break.
-use Rattle.std.specs.Prelude.{◌≡◌, ◌⊎◌, ℕ, ◌<◌, ◌≤◌, List, [], Option, Some}
+use Rattle.std.specs.Prelude.{◌≡◌, ◌⊎◌, ◌<◌, ◌≤◌, [], Some}
 use Rattle.alloy_base.specs.declared.place.Rule.{Rule}
 use Rattle.alloy_base.specs.declared.place.Rule.TheVariants as rule
 use Rattle.root_readings.specs.declared.meaning.Meaning.{Meaning}

@@ -1,5 +1,5 @@
 -- Where formulas and expressions stand in each other, and which names are in scope there.
-use Rattle.std.specs.Prelude.{◌≡◌, ◌⊎◌, ℕ, ◌<◌, Bool, List, [], ◌∷◌, ◌++◌, Option, Some, None, Contains, slice_get, codes}
+use Rattle.std.specs.Prelude.{◌≡◌, ◌⊎◌, ℕ, ◌<◌, Bool, List, [], ◌∷◌, ◌++◌, Option, Some, None, Contains, codes}
 use Rattle.alloy_base.specs.declared.place.Place.{Place}
 use Rattle.als_tree.specs.declared.operator.Infix.{Infix}
 use Rattle.als_tree.specs.declared.operator.Prefix.{Prefix}

@@ -1,5 +1,5 @@
 -- The types of constants and of declarations: which rows they have.
-use Rattle.std.specs.Prelude.{◌≡◌, ◌↔◌, ℕ, suc, List, [], ◌∷◌, Some, Contains, slice_get}
+use Rattle.std.specs.Prelude.{◌≡◌, ◌↔◌, ℕ, suc, [], ◌∷◌, Some, Contains, slice_get}
 use Rattle.als_tree.specs.declared.operator.Constant.{Constant}
 use Rattle.als_tree.specs.declared.operator.Constant.TheVariants as constant
 use Rattle.sig_types.specs.Types.{Row}

@@ -13,13 +13,9 @@ use Rattle.core_tree.specs.declared.model.ScopeSubject.{ScopeSubject}
 use Rattle.core_tree.specs.declared.model.ScopeSubject.TheVariants as subject
 use Rattle.core_tree.specs.declared.operators.Multiplicity.{Multiplicity}
 use Rattle.core_tree.specs.declared.operators.Multiplicity.TheVariants as multiplicity
+use Rattle.scope_definitions.specs.declared.known.Known.{Known}
 use Rattle.core_meaning.specs.declared.scopes.SigScope.{SigScope}
 use Rattle.core_meaning.specs.declared.scopes.Scopes.{Scopes}
-
--- what is known of a sig: its number, where it has one, and whether that is exact
-pub record Known : Type 0 where
-  pub number : Option ℕ
-  pub exact : Bool
 
 abbrev pub unknown : Known
 unknown = record { number = None; exact = false }
@@ -27,7 +23,7 @@ unknown = record { number = None; exact = false }
 abbrev pub known_as : ℕ → Bool → Known
 known_as n exact = record { number = Some n; exact = exact }
 
-abbrev by_number : Option ℕ → Known → Known → Known
+abbrev pub by_number : Option ℕ → Known → Known → Known
 by_number None a b = b
 by_number (Some n) a b = a
 
@@ -39,7 +35,7 @@ or_else a b = by_number a.number a b
 abbrev pub at_most : Known → Known
 at_most k = record { number = k.number; exact = false }
 
-abbrev both_numbers : Option ℕ → Option ℕ → Bool → Known
+abbrev pub both_numbers : Option ℕ → Option ℕ → Bool → Known
 both_numbers (Some m) (Some n) exact = known_as (m + n) exact
 both_numbers _ _ exact = unknown
 
@@ -47,11 +43,11 @@ both_numbers _ _ exact = unknown
 abbrev pub together : Known → Known → Known
 together a b = both_numbers a.number b.number (a.exact && b.exact)
 
-abbrev is_one : Multiplicity → Bool
+abbrev pub is_one : Multiplicity → Bool
 is_one multiplicity.One = true
 is_one _ = false
 
-abbrev is_lone : Multiplicity → Bool
+abbrev pub is_lone : Multiplicity → Bool
 is_lone multiplicity.Lone = true
 is_lone _ = false
 
@@ -121,7 +117,7 @@ abbrev pub sum_of : Table → List ℕ → Known
 sum_of table [] = known_as 0 true
 sum_of table (c ∷ cs) = together (table c) (sum_of table cs)
 
-abbrev number_where : Bool → Option ℕ → ℕ
+abbrev pub number_where : Bool → Option ℕ → ℕ
 number_where true (Some n) = n
 number_where _ _ = 0
 
@@ -130,13 +126,16 @@ abbrev pub exact_sum : Table → List ℕ → ℕ
 exact_sum table [] = 0
 exact_sum table (c ∷ cs) = number_where (table c).exact (table c).number + exact_sum table cs
 
--- The sig's own number: a static `one sig` has exactly 1, a listed sig has its number, and
--- a static `lone sig` at most 1; `String` has exactly as many as there are literals.
-abbrev pub own_number : List Sig → List ScopeEntry → ℕ → Sig → Known
-own_number sigs entries s d =
-    if is_string d then known_as (length (children sigs s)) true else
+-- A sig's own number, with that for which it is listed and the number of sigs that extend it: a static `one sig` has exactly
+-- 1, a listed sig has its number, and a static `lone sig` at most 1; `String` has exactly as many as there are literals.
+abbrev pub own_of : Sig → Known → ℕ → Known
+own_of d listed count =
+    if is_string d then known_as count true else
     if is_static_one d then known_as 1 true else
-    or_else (listed_for entries s) (if is_static_lone d then known_as 1 false else unknown)
+    or_else listed (if is_static_lone d then known_as 1 false else unknown)
+
+abbrev pub own_number : List Sig → List ScopeEntry → ℕ → Sig → Known
+own_number sigs entries s d = own_of d (listed_for entries s) (length (children sigs s))
 
 -- an abstract sig without a number has the sum of its children's, where all of these have one
 abbrev pub of_children : Sig → Table → List ℕ → Known
@@ -150,10 +149,18 @@ AreSums sigs entries sums =
 
 -- Another top-level sig has the overall number, raised to the sum of its children's exact numbers;
 -- another child has its parent's, which isn't exact.
+abbrev pub placed : (overall exact : ℕ) → Known → SigKind → Known
+placed overall exact parent Top = known_as (max overall exact) false
+placed overall exact parent (Extends p) = at_most parent
+placed overall exact parent (Subset ps) = unknown
+
+abbrev parent_of : SigKind → ℕ
+parent_of Top = 0
+parent_of (Extends p) = p
+parent_of (Subset ps) = 0
+
 abbrev pub by_place : List Sig → List ScopeEntry → Table → Table → ℕ → SigKind → Known
-by_place sigs entries sums numbers s Top = known_as (max (overall_in entries) (exact_sum sums (children sigs s))) false
-by_place sigs entries sums numbers s (Extends p) = at_most (numbers p)
-by_place sigs entries sums numbers s (Subset ps) = unknown
+by_place sigs entries sums numbers s k = placed (overall_in entries) (exact_sum sums (children sigs s)) (numbers (parent_of k)) k
 
 abbrev pub AreNumbers : List Sig → List ScopeEntry → Table → Table → Type 0
 AreNumbers sigs entries sums numbers =

@@ -7,8 +7,14 @@ ghost use Rattle.scope_definitions.specs.Numbers.{is_int, is_steps, is_overall, 
 
 use core_tree::{ScopeEntry, ScopeSubject};
 
+mod known;
 #[cfg(test)]
 mod tests;
+
+pub use known::{
+    Known, at_most, is_static_lone, is_static_one, is_string, or_else, own_of, placed, scope_of,
+    sure, together,
+};
 
 /// Whether the entry is for the bitwidth.
 fn is_for_bits(entry: &ScopeEntry) -> bool

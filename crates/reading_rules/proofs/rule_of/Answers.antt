@@ -1,4 +1,4 @@
-use Rattle.std.proofs.Common.{◌≡◌, subst}
+use Rattle.std.proofs.Common.{subst}
 use Rattle.root_readings.specs.Readings.{count_choices, Decides, IsWithin}
 use Rattle.reading_rules.proofs.rule_of.Goals as goal
 
