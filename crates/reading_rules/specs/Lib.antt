@@ -1,0 +1,9 @@
+pub mod Calls
+pub mod Candidates
+pub mod Commands
+pub mod Forms
+pub mod Prepared
+pub mod Roots
+pub mod Standing
+pub mod Tables
+pub mod Types
