@@ -34,9 +34,9 @@ Advances s old new before after plan next =
     (depth : ℕ) (root : Claim) → IsReading (reading_of s depth) → OnTheWay s depth root old before plan (todo plan) → OnTheWay s depth root new after next (todo next)
 
 -- where nothing is left to do, the row of the root is alone on the stack
-abbrev pub Ends : Setting → ((ℕ → Bool) → Node → Bool) → Store → Store → Plan → Type 0
-Ends s value before after plan =
-    (depth : ℕ) (root : Claim) → OnTheWay s depth root value before plan (todo plan) → HasTop [] after.rows.items (IsRight (reading_of s depth) value root)
+abbrev pub Ends : Setting → ((ℕ → Bool) → Node → Bool) → ((ℕ → Bool) → Node → Bool) → Store → Store → Plan → Type 0
+Ends s old new before after plan =
+    (depth : ℕ) (root : Claim) → OnTheWay s depth root old before plan (todo plan) → HasTop [] after.rows.items (IsRight (reading_of s depth) new root)
 
 -- a step on rows that looks at no value
 abbrev pub IsOfRows : RowStep → Type 0

@@ -470,7 +470,7 @@ fn advance<'a, G: Gates>(
     ensures keeps { Keeps G.belongs G.node_value gates.old gates.new }
     ensures stored { OnOk result (AreStored (G.belongs gates.new) store.new) }
     ensures goes { IfOk result (λ more. IsTrue more → Advances setting.now (G.node_value gates.old) (G.node_value gates.new) store.old store.new plan.old plan.new) }
-    ensures ends { IfOk result (λ more. more ≡ false → Ends setting.now (G.node_value gates.new) store.old store.new plan.old) }
+    ensures ends { IfOk result (λ more. more ≡ false → Ends setting.now (G.node_value gates.old) (G.node_value gates.new) store.old store.new plan.old) }
 {
     match plan.tasks.pop() {
         None => Ok(false),
