@@ -6,7 +6,7 @@ use Rattle.alloy_base.specs.Texts as texts
 use Rattle.alloy_base.specs.Texts.{Texts}
 use Rattle.alloy_base.specs.declared.place.Refusal.{Refusal}
 use Rattle.alloy_base.specs.declared.place.Rule.{Rule}
-use Rattle.analyser.specs.Found.{IsReady}
+use Rattle.analyser.specs.Found.{IsReady, NoneSatisfies}
 use Rattle.analyser.specs.declared.ready.Prepared.{Prepared}
 use Rattle.alloy_base.specs.declared.limits.TheConstants.{FILE_BYTES}
 use Rattle.certificate_search.specs.Certificate.{ShowsTrace, ShowsOne, ShowsAbove, ShowsNone, ShowsCore, ShowsSpent}
@@ -113,11 +113,12 @@ abbrev pub ShownTrace : Mode → ℕ → Part → List ℕ → Type 0
 ShownTrace Least number part text = OfModel number (λ prepared. ShowsOne prepared part text ⊎ ShowsAbove prepared part text)
 ShownTrace _ number part text = OfModel number (λ prepared. ShowsTrace prepared part text)
 
--- what is written where there is no trace: the part that is asked for, of clauses and lines that refute them; in a search for
--- facts that rule out every trace with these facts
+-- what is written where there is no trace: the part that is asked for, of clauses and lines that refute them, where no lasso within
+-- the bounds satisfies the model and the command, if the target has plain forms alone; in a search for facts that rule out every trace
+-- with these facts
 abbrev pub ShownNone : Mode → ℕ → Part → List ℕ → Type 0
 ShownNone Core number part text = OfModel number (λ prepared. ShowsCore prepared part text)
-ShownNone Exec number part text = OfModel number (λ prepared. ShowsNone prepared.bounds.states part text)
+ShownNone Exec number part text = OfModel number (λ prepared. ShowsNone prepared.bounds.states part text × NoneSatisfies prepared)
 ShownNone _ number part text = (states : ℕ) × ShowsNone states part text
 
 -- what is said of the text of a trace in a mode: what a model and its command mean on it, or the tuples that some expression has

@@ -21,7 +21,7 @@ returns-in_ok-copy-in-Absent c =
       refutes = found.1;
       text_is = cc (c.in_ok-copy-in-Absent.ensures, c.deref.ensures.value, c.in_ok-text-in-Absent.ensures);
     } in
-    (prepared, c.requires.1, subst (λ n. ShowsNone n c.args.settings.now.part c.in_ok-copy-in-Absent.field-0) found.0 shown)
+    (prepared, c.requires.1, (subst (λ n. ShowsNone n c.args.settings.now.part c.in_ok-copy-in-Absent.field-0) found.0 shown, found.2 c.args.settings.now.command c.requires.1))
 
 pub returns-in_ok-copy-in-Unknown : goal.returns-in_ok-copy-in-Unknown
 returns-in_ok-copy-in-Unknown c =
