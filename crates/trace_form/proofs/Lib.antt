@@ -6,3 +6,6 @@ pub mod Steps
 pub mod Ends
 pub mod Found
 pub mod Nowhere
+pub mod Ways
+pub mod Arranging
+pub mod Ended

@@ -1,6 +1,7 @@
 -- The place of the first of a list that passes a test.
 use Rattle.std.proofs.Common.{◌≡◌, ◌⊎◌, ℕ, ◌+◌, ◌<◌, ◌≤◌, Bool, true, false, List, [], ◌∷◌, length, get_or, refl, inl, inr, sym, ap, ◌∙◌, arith}
 use Rattle.std.specs.List.{position_or_len}
+use Rattle.std.proofs.lemmas.Bool.{cases_lt}
 use Rattle.std.proofs.lemmas.List.{get_or_default}
 use Rattle.std.proofs.lemmas.List.Sums.{position_or_len_is}
 
@@ -10,11 +11,13 @@ nowhere p xs n d h none = sym (position_or_len_is p xs (length xs) d (omega arit
 
 -- one more fails
 pub further_fails : {X : Type 0} (p : X → Bool) (xs : List X) (n : ℕ) (x : X) → n < length xs → x ≡ get_or xs n x → p x ≡ false → ((k : ℕ) (d : X) → k < n → p (get_or xs k d) ≡ false) → (k : ℕ) (d : X) → k < n + 1 → p (get_or xs k d) ≡ false
-further_fails p xs n x lt is fails before k d below = cases (omega arith)
+further_fails p xs n x lt is fails before k d below = by_place (cases_lt k n)
   where
-    cases : (k < n) ⊎ (k ≡ n) → p (get_or xs k d) ≡ false
-    cases (inl less) = before k d less
-    cases (inr same) = ap (λ i. p (get_or xs i d)) same ∙ ap p (get_or_default xs n d x lt ∙ sym is) ∙ fails
+    by_place : (k < n) ⊎ (n ≤ k) → p (get_or xs k d) ≡ false
+    by_place (inl less) = before k d less
+    by_place (inr more) =
+        let same : k ≡ n = omega arith in
+        ap (λ i. p (get_or xs i d)) same ∙ ap p (get_or_default xs n d x lt ∙ sym is) ∙ fails
 
 -- the first that passes
 pub found_there : {X : Type 0} (p : X → Bool) (xs : List X) (n : ℕ) (x : X) → n < length xs → x ≡ get_or xs n x → p x ≡ true → ((k : ℕ) (d : X) → k < n → p (get_or xs k d) ≡ false) → n ≡ position_or_len p xs

@@ -1,6 +1,6 @@
 // The lines of a text that are left.
 
-ghost use Rattle.std.specs.Prelude.{◌≡◌, ◌∷◌, [], ◌+◌, ◌<◌, length, IfSome, IfNone, IsTrue, ◌↔◌};
+ghost use Rattle.std.specs.Prelude.{◌≡◌, ◌∷◌, [], ◌+◌, ◌<◌, ◌^◌, length, IfSome, IfNone, IsTrue, ◌↔◌};
 ghost use Rattle.line_words.specs.Words.{parts};
 ghost use Rattle.trace_form.specs.Reading.{is_over};
 
@@ -35,8 +35,10 @@ impl<'a> Left<'a> {
 
     /// How many lines were taken.
     pub fn lines(&self) -> u64
-        ensures { result ≡ self.now.lines }
+        ensures value { result ≡ self.now.lines }
+        ensures bound { result < 2 ^ 63 }
     {
+        let _ = self.bytes;
         self.lines
     }
 

@@ -11,13 +11,12 @@ use crate::label::{Labels, RelationLabel, Shown, TraceFault};
 use crate::left::Left;
 use crate::print::print_trace;
 use crate::row::{no_tuple, one_atom, read_line};
-use crate::words::{header, is_state_line};
+use crate::words::{header, is_end, is_state_line};
 use core_meaning::{Lasso, State, make_lasso};
 use std::alloc::{AllocError, Global};
 use tuple_sets::TupleSet;
 
 /// Reads the set of a relation that has a line. There is `None` where the next line isn't one of it.
-#[tactic(auto, using(crate::proofs::Lines::on_next, crate::proofs::Lines::on_last))]
 fn read_shown(
     alloc: Global,
     index: &AtomIndex,
@@ -134,7 +133,6 @@ fn arranged(alloc: Global, sets: &[TupleSet], orders: &[usize]) -> Result<State,
 }
 
 /// Takes the first line of a state, and answers whether it is the next one.
-#[tactic(auto, using(crate::proofs::Lines::on_next, crate::proofs::Lines::on_last))]
 fn take_state_line(left: &mut Left, number: u32) -> bool
     ensures { way_from left.new (where_true result) ≡ state_line_way number (parts left.old.bytes) left.old.lines }
 {
@@ -194,14 +192,13 @@ fn read_states(
 }
 
 /// Takes the last line, and answers whether it is the next one and nothing stands behind it.
-#[tactic(auto, using(crate::proofs::Lines::on_next, crate::proofs::Lines::on_last))]
 fn take_end(left: &mut Left) -> bool
     ensures { way_from left.new (where_true result) ≡ end_way (parts left.old.bytes) left.old.lines }
 {
     let Some((line, rest)) = left.next() else {
         return false
     };
-    if line != b"end".as_slice() {
+    if !is_end(line) {
         return false;
     }
     left.go_to(rest);
@@ -209,7 +206,6 @@ fn take_end(left: &mut Left) -> bool
 }
 
 /// Takes the first line, and answers its number of states and loop index.
-#[tactic(auto, using(crate::proofs::Lines::on_next, crate::proofs::Lines::on_last))]
 fn take_header(left: &mut Left) -> Option<(u32, u32)>
     ensures header { way_from left.new (option_map (λ found. (found.0, found.1)) result) ≡ on_line header_of (parts left.old.bytes) left.old.lines }
     ensures less { IfSome result (λ found. found.1 < found.0) }

@@ -1,6 +1,6 @@
 // Reading the tuples of a line.
 
-ghost use Rattle.std.specs.Prelude.{◌≡◌, ◌≤◌, ◌<◌, [], ◌∷◌, ◌++◌, length, All, IfOk, IfSome, OnOk, Some, None, true, option_map, if◌then◌else◌};
+ghost use Rattle.std.specs.Prelude.{◌≡◌, ◌≤◌, ◌<◌, [], ◌∷◌, ◌++◌, length, All, IfOk, IfSome, OnOk, OnErr, Some, None, true, option_map, if◌then◌else◌};
 ghost use Rattle.tuple_sets.specs.Index.{IsNumber};
 ghost use Rattle.trace_form.specs.Reading.{next_atom, further_atom, next_tuple, comes_after, separator, one_more, tuples_of, set_of, line_set, hidden_set};
 
@@ -12,7 +12,6 @@ use std::cmp::Ordering;
 use tuple_sets::{Tuple, TupleSet};
 
 /// The atom with which a text begins, and what follows it.
-#[tactic(auto, using(crate::proofs::Found::number_small))]
 fn read_atom<'a>(index: &AtomIndex, text: &'a [u8]) -> Option<(u32, &'a [u8])>
     ensures atom { option_map (λ found. (found.0, found.1.now)) result ≡ next_atom index.now text.now }
     ensures bound { IfSome result (λ found. found.0 < 16384) }
@@ -89,7 +88,8 @@ fn put_last(set: &mut TupleSet, tuple: Tuple) -> Result<(), AllocError>
     requires columns { length tuple ≡ set.old.arity }
     requires numbers { All IsNumber tuple }
     requires last { comes_after set.old.tuples tuple ≡ true }
-    ensures { OnOk result (set.new ≡ record { arity = set.old.arity; tuples = set.old.tuples ++ tuple ∷ [] }) }
+    ensures ok { OnOk result (set.new ≡ record { arity = set.old.arity; tuples = set.old.tuples ++ tuple ∷ [] }) }
+    ensures err { OnErr result (set.new ≡ set.old) }
 {
     let _before = set.len();
     set.insert(tuple)?;

@@ -1,7 +1,8 @@
 // The parts of a line of a trace.
 
-ghost use Rattle.std.specs.Prelude.{◌≡◌, ◌<◌, ◌≤◌, length, IfSome, option_map, option_copied, Some};
+ghost use Rattle.std.specs.Prelude.{◌≡◌, ◌<◌, ◌≤◌, length, codes, IfSome, option_map, option_copied, Some};
 ghost use Rattle.std.specs.List.{position_or_len};
+ghost use Rattle.std.specs.Str.{bytes_eq};
 ghost use Rattle.trace_form.specs.Reading.{is_quote, is_stop, is_blank, behind, atom_length, is_state_line, header_numbers, header_of};
 
 use itoa::Buffer;
@@ -120,6 +121,13 @@ pub fn header(line: &[u8]) -> Option<(u32, u32)>
 {
     let rest = after(line, b"trace states ".as_slice())?;
     header_numbers(rest)
+}
+
+/// Whether a line is the last of a trace.
+pub fn is_end(line: &[u8]) -> bool
+    ensures { result ≡ bytes_eq line.now (codes "end") }
+{
+    line == b"end".as_slice()
 }
 
 /// Whether a line is the first of the state of this number.
