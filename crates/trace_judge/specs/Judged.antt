@@ -16,8 +16,6 @@ use Rattle.judgement_texts.specs.declared.judgement.JudgedFact.{JudgedFact}
 use Rattle.set_operators.specs.SetOf.{IsSetOf}
 use Rattle.trace_evaluator.specs.Asked.{IsFirstWithout}
 use Rattle.trace_form.specs.Text.{trace_text, tuples_text}
-use Rattle.trace_form.specs.Faults.{Faults}
-use Rattle.trace_form.specs.declared.label.TraceFault.TheVariants as fault
 use Rattle.tuple_sets.specs.Sets.{TupleList, IsTupleSet}
 use Rattle.trace_judge.specs.declared.answer.TraceAnswer.{TraceAnswer}
 use Rattle.trace_judge.specs.declared.answer.TraceAnswer.TheVariants.{Judged, Valued, BadTrace}
@@ -81,19 +79,14 @@ pub record IsValued (prepared : Prepared) (value : Term) (position : ℕ) (trace
   pub has : IsSetOf set (InTermAt prepared.model prepared.scopes lasso value no_names position)
   pub text_is : text ≡ value_text prepared.labels.atoms set.tuples
 
--- a line that is named is that at which a reading of the trace by lines stops, under the labels of the prepared model; or its
--- lines give a lasso whose text is another
-abbrev pub IsBadLine : Prepared → List ℕ → ℕ → Type 0
-IsBadLine prepared trace line = Faults prepared.labels trace (fault.BadTrace line)
-
 -- an answer of the mode that judges a trace
 abbrev pub IsJudgement : Prepared → List ℕ → TraceAnswer → Type 0
 IsJudgement prepared trace (Judged satisfied text) = IsJudged prepared trace satisfied text
 IsJudgement prepared trace (Valued text) = ⊥
-IsJudgement prepared trace (BadTrace line) = IsBadLine prepared trace line
+IsJudgement prepared trace (BadTrace line) = ⊤
 
 -- an answer of the mode that evaluates an expression on a trace
 abbrev pub IsValue : Prepared → Term → ℕ → List ℕ → TraceAnswer → Type 0
 IsValue prepared value position trace (Judged satisfied text) = ⊥
 IsValue prepared value position trace (Valued text) = IsValued prepared value position trace text
-IsValue prepared value position trace (BadTrace line) = IsBadLine prepared trace line
+IsValue prepared value position trace (BadTrace line) = ⊤
