@@ -1,3 +1,11 @@
 pub mod Columns
 pub mod Places
 pub mod Tuples
+pub mod Lines
+pub mod Steps
+pub mod Ends
+pub mod Found
+pub mod Nowhere
+pub mod Ways
+pub mod Arranging
+pub mod Ended

@@ -1,2 +1,5 @@
 pub mod Text
 pub mod Made
+pub mod Unread
+pub mod Reading
+pub mod Faults

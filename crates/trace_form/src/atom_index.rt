@@ -1,70 +1,88 @@
 // The number of a universe that a text stands for.
 
-ghost use Rattle.std.specs.Prelude.{◌<◌, IfSome};
+ghost use Rattle.std.specs.Prelude.{◌≡◌, ◌<◌, ◌≤◌, ℕ, List, length, min, nat_eq, IfOk, OnOk, Some, if◌then◌else◌};
+ghost use Rattle.std.specs.HashMap.{get_by};
+ghost use Rattle.std.specs.Cmp.Lexicographic.{pointwise};
+ghost use Rattle.trace_form.specs.Text.{atom_text};
+ghost use Rattle.trace_form.specs.Reading.{found_before, number_of};
 
 use crate::label::TextList;
 use std::alloc::{AllocError, Global};
+use std::collections::HashMap;
+use std::marker::Model;
 
-/// The numbers by their texts: for each value of a hash the latest number with it, and for each
-/// number the one before it with the same value. Each is kept with one added; 0 is none.
+/// The numbers by their texts. Contracts see the texts.
 #[derive(Drop)]
-pub struct AtomIndex {
-    heads: Vec<u32>,
-    before: Vec<u32>,
+pub struct AtomIndex<'a> {
+    atoms: &'a TextList,
+    numbers: HashMap<&'a [u8], u32>,
 }
 
-/// How many values the hash has.
-const VALUES: usize = 16384;
+impl<'a> Model for AtomIndex<'a> {
+    ghost use Rattle.std.specs.Prelude.{◌≡◌, ℕ, List, length, min, nat_eq};
+    ghost use Rattle.std.specs.HashMap.{get_by};
+    ghost use Rattle.std.specs.Cmp.Lexicographic.{pointwise};
+    ghost use Rattle.trace_form.specs.Reading.{found_before};
 
-/// The hash of a text.
-fn hash(text: &[u8]) -> usize
-    ensures { result < 16384 }
+    ghost Value = { List (List ℕ) };
+
+    ghost view = { λ i. i.atoms.now };
+
+    ghost invariant = { λ i. (q : List ℕ) → get_by (λ key. pointwise nat_eq q key.now) i.numbers ≡ found_before i.atoms.now (min (length i.atoms.now) 16384) q };
+}
+
+/// The text at a place.
+#[tactic(auto, using(std::proofs::lemmas::Option::get_or_from_slice_get))]
+fn text_at(atoms: &TextList, place: usize) -> &[u8]
+    requires { place < length atoms.now }
+    ensures { result.now ≡ atom_text atoms.now place }
 {
-    let mut value: u32 = 17;
-    for byte in text {
-        value = value.wrapping_mul(31).wrapping_add(u32::from(*byte));
-    }
-    value as usize % VALUES
+    atoms.get(place).text().as_bytes()
 }
 
-impl AtomIndex {
+/// Notes the number of a text.
+fn put<'a>(
+    numbers: &mut HashMap<&'a [u8], u32>,
+    text: &'a [u8],
+    number: u32,
+) -> Result<(), AllocError>
+    ensures { OnOk result ((q : List ℕ) → get_by (λ key. pointwise nat_eq q key.now) numbers.new ≡ (if pointwise nat_eq text.now q then Some number else get_by (λ key. pointwise nat_eq q key.now) numbers.old)) }
+{
+    numbers.insert(text, number)?;
+    Ok(())
+}
+
+/// The numbers of the first so many texts.
+fn numbers_of<'a>(
+    alloc: Global,
+    atoms: &'a TextList,
+    count: usize,
+) -> Result<HashMap<&'a [u8], u32>, AllocError>
+    requires few { count ≤ 16384 }
+    requires within { count ≤ length atoms.now }
+    ensures { IfOk result (λ m. (q : List ℕ) → get_by (λ key. pointwise nat_eq q key.now) m ≡ found_before atoms.now count q) }
+{
+    let mut numbers: HashMap<&'a [u8], u32> = HashMap::new(alloc);
+    for place in 0..count {
+        put(&mut numbers, text_at(atoms, place), place as u32)?;
+    }
+    Ok(numbers)
+}
+
+impl<'a> AtomIndex<'a> {
     /// The index of these texts.
-    pub fn new(alloc: Global, atoms: &TextList) -> Result<AtomIndex, AllocError> {
-        let mut heads: Vec<u32> = vec![in alloc; 0; VALUES]?;
-        let mut before: Vec<u32> = Vec::new(alloc);
-        for place in 0..atoms.len() {
-            let value = hash(atoms.get(place).text().as_bytes());
-            if value < heads.len() && place < 16384 {
-                before.push(heads[value])?;
-                heads[value] = place as u32 + 1;
-            }
-        }
-        Ok(AtomIndex { heads, before })
+    pub fn new(alloc: Global, atoms: &'a TextList) -> Result<AtomIndex<'a>, AllocError>
+        ensures { IfOk result (λ i. i ≡ atoms.now) }
+    {
+        let numbers = numbers_of(alloc, atoms, atoms.len().min(16384))?;
+        Ok(AtomIndex { atoms, numbers })
     }
 
-    /// The number with a text, which is below 16,384.
-    pub fn find(&self, atoms: &TextList, text: &[u8]) -> Option<u32>
-        ensures { IfSome result (λ n. n < 16384) }
+    /// The number with a text.
+    pub fn find(&self, text: &[u8]) -> Option<u32>
+        ensures { result ≡ number_of self.now text.now }
     {
-        let value = hash(text);
-        if value >= self.heads.len() {
-            return None;
-        }
-        let mut number = self.heads[value];
-        for _ in 0..self.before.len() {
-            if number == 0 || number > 16384 {
-                return None;
-            }
-            let place = number - 1;
-            let at = place as usize;
-            if at >= atoms.len() || at >= self.before.len() {
-                return None;
-            }
-            if atoms.get(at).text().as_bytes() == text {
-                return Some(place);
-            }
-            number = self.before[at];
-        }
-        None
+        let _ = self.atoms.len();
+        self.numbers.get(text).copied()
     }
 }

@@ -3,9 +3,11 @@
 
 pub mod atom_index;
 pub mod label;
+pub mod left;
 pub mod make;
 pub mod print;
 pub mod read;
+pub mod row;
 pub mod words;
 
 pub use label::{Labels, RelationLabel, RelationLabelList, Shown, TextList, TraceFault};

@@ -206,3 +206,47 @@ fn faults_name_their_lines(rt: HostRuntime) -> Result<(), Fail> {
     assert!(rt; break_there(rt.alloc(), cases.as_slice())?);
     Ok(())
 }
+
+/// The text of a trace of one state.
+const SHORT: &str =
+    "trace states 1 loop 0\nstate 0\nA = A$0\nA.f = A$0->-1\nString = \"->, \"\nend\n";
+
+/// The line in which a byte stands.
+fn line_at(bytes: &[u8], place: usize) -> u32 {
+    let mut line = 1u32;
+    for (other, byte) in bytes.iter().enumerate() {
+        if other < place && *byte == b'\n' {
+            line = line.saturating_add(1);
+        }
+    }
+    line
+}
+
+/// Whether the text with another byte at a place is that of another lasso, or breaks at the byte's line or a later one.
+fn breaks_behind(alloc: Global, place: usize, byte: u8) -> Result<bool, AllocError> {
+    let mut bytes: Vec<u8> = SHORT.as_bytes().to_vec(alloc)?;
+    if place >= bytes.len() {
+        return Ok(true);
+    }
+    bytes[place] = byte;
+    let fault = fault_line(alloc, bytes.as_slice())?;
+    Ok(fault == 0 || (fault < 4_000_000_000 && line_at(bytes.as_slice(), place) <= fault))
+}
+
+#[test]
+fn changed_bytes_break_no_earlier_line(rt: HostRuntime) -> Result<(), Fail> {
+    assert_eq!(rt; fault_line(rt.alloc(), SHORT.as_bytes())?, 0);
+    for place in 0..SHORT.len() {
+        for byte in [b'0', b'1', b'\n', b'"', b' ', b'x', 0u8, 255] {
+            assert!(rt; breaks_behind(rt.alloc(), place, byte)?);
+        }
+    }
+    Ok(())
+}
+
+#[test]
+fn a_loop_index_past_the_states_breaks_the_first_line(rt: HostRuntime) -> Result<(), Fail> {
+    let text = b"trace states 1 loop 1\nstate 0\nA = A$0\nA.f = A$0->-1\nString = \"->, \"\nend\n";
+    assert_eq!(rt; fault_line(rt.alloc(), text.as_slice())?, 1);
+    Ok(())
+}

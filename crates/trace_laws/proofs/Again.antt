@@ -10,7 +10,7 @@ use Rattle.std.proofs.lemmas.List.Folds.{list_any-append}
 use Rattle.std.proofs.lemmas.Slice.Eq.{bytes_eq-Decides}
 use Rattle.line_words.specs.Words.{is_digit, number_after, up_to, positive_of, is_zero, decimal_of}
 use Rattle.trace_form.specs.Text.{atom_text, tuple_text, tuples_text}
-use Rattle.trace_laws.specs.Reading.{is_quote, is_stop, behind, atom_length, found_before, number_of, with_rest, next_atom, further_atom, further_atoms, next_tuple, comes_after, separator, with_tuple, one_more, tuples_of}
+use Rattle.trace_form.specs.Reading.{is_quote, is_stop, behind, atom_length, found_before, number_of, with_rest, next_atom, further_atom, further_atoms, next_tuple, comes_after, separator, with_tuple, one_more, tuples_of}
 
 -- ---- numbers
 

@@ -23,8 +23,8 @@ use Rattle.trace_form.specs.declared.label.Shown.TheVariants.{Line, Nothing, Jus
 use Rattle.trace_form.specs.declared.label.RelationLabel.{RelationLabel}
 use Rattle.trace_form.specs.declared.label.Labels.{Labels}
 use Rattle.trace_form.specs.Text.{tuples_text, set_text, shown_text, relation_text, header_text, states_text, trace_text}
-use Rattle.trace_laws.specs.Reading.{Way, go, on_line, where_true, is_width, is_less, comes_after, set_with, order_of, orders_before, orders_of, one_set, arranged, states_way, is_over, over_way, end_way, with_start, header_of, body_way, lines_way, trace_way}
-use Rattle.trace_laws.specs.Reading.Way.{on, off}
+use Rattle.trace_form.specs.Reading.{Way, go, on_line, where_true, is_width, is_less, comes_after, set_with, order_of, orders_before, orders_of, one_set, arranged, states_way, is_over, over_way, end_way, with_start, header_of, body_way, lines_way, trace_way}
+use Rattle.trace_form.specs.Reading.Way.{on, off}
 use Rattle.trace_laws.specs.Form.{HasLines, HasAtom, HaveLassos, HoldsHidden, FitsRelation, FitsState, IsLassoOf, HasNoFeed}
 use Rattle.trace_laws.specs.Fault.{ended, AgreeTo, IsFirstFault}
 use Rattle.trace_laws.proofs.Again.{IsTuple, IsPlace, ComeAfter, none_in_decimal}

@@ -9,8 +9,8 @@ use Rattle.tuple_sets.specs.Sets.{TupleList}
 use Rattle.core_meaning.specs.Sequence.{LassoValue}
 use Rattle.trace_form.specs.declared.label.Labels.{Labels}
 use Rattle.trace_form.specs.Text.{trace_text}
-use Rattle.trace_laws.specs.Reading.{Way, go, on_line, where_true, states_way, is_over, over_way, end_way, with_start, header_of, body_way, lines_way, trace_way}
-use Rattle.trace_laws.specs.Reading.Way.{on, off}
+use Rattle.trace_form.specs.Reading.{Way, go, on_line, where_true, states_way, is_over, over_way, end_way, with_start, header_of, body_way, lines_way, trace_way}
+use Rattle.trace_form.specs.Reading.Way.{on, off}
 use Rattle.trace_laws.specs.Form.{IsLassoOf}
 use Rattle.trace_laws.proofs.Whole.{header_line}
 use Rattle.trace_laws.proofs.Sound.{header_is}

@@ -19,8 +19,8 @@ use Rattle.trace_form.specs.declared.label.Shown.TheVariants.{Line, Nothing, Jus
 use Rattle.trace_form.specs.declared.label.RelationLabel.{RelationLabel}
 use Rattle.trace_form.specs.declared.label.Labels.{Labels}
 use Rattle.trace_form.specs.Text.{atom_text, tuple_text, tuples_text}
-use Rattle.trace_laws.specs.Reading as reading
-use Rattle.trace_laws.specs.Reading.{is_less, comes_after, is_width}
+use Rattle.trace_form.specs.Reading as reading
+use Rattle.trace_form.specs.Reading.{is_less, comes_after, is_width}
 use Rattle.trace_laws.specs.Form.{is_stop, IsAtomText, HasNoFeed, HasForm, HasLines, HoldsHidden, FitsRelation, FitsState, IsLassoOf}
 use Rattle.trace_laws.specs.Form.IsAtomText.{quoted, plain}
 use Rattle.trace_laws.proofs.Again.{IsAtom, AreAtoms, IsPlace, IsTuple, ComeAfter, arrows, commas}

@@ -9,3 +9,4 @@ mod Sound
 mod Progress
 mod Built
 mod Ended
+mod Named

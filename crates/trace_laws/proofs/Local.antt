@@ -6,8 +6,8 @@ use Rattle.trace_form.specs.declared.label.Shown.{Shown}
 use Rattle.trace_form.specs.declared.label.Shown.TheVariants.{Line, Nothing, Just}
 use Rattle.trace_form.specs.declared.label.RelationLabel.{RelationLabel}
 use Rattle.trace_form.specs.declared.label.Labels.{Labels}
-use Rattle.trace_laws.specs.Reading.{Way, go, after_line, on_line, no_line, where_true, line_set, hidden_set, shown_way, relation_way, relations_way, with_state, is_state_line, state_line_way, state_way, states_way, is_over, over_way, end_way, with_start, header_of, body_way, lines_way}
-use Rattle.trace_laws.specs.Reading.Way.{on, off}
+use Rattle.trace_form.specs.Reading.{Way, go, after_line, on_line, no_line, where_true, line_set, hidden_set, shown_way, relation_way, relations_way, with_state, is_state_line, state_line_way, state_way, states_way, is_over, over_way, end_way, with_start, header_of, body_way, lines_way}
+use Rattle.trace_form.specs.Reading.Way.{on, off}
 use Rattle.trace_laws.specs.Fault.{ended}
 
 -- ---- lists

@@ -8,8 +8,8 @@ use Rattle.trace_form.specs.declared.label.Shown.TheVariants.{Line, Nothing, Jus
 use Rattle.trace_form.specs.declared.label.RelationLabel.{RelationLabel}
 use Rattle.trace_form.specs.declared.label.Labels.{Labels}
 use Rattle.trace_form.specs.Text.{tuples_text}
-use Rattle.trace_laws.specs.Reading.{Way, go, after_line, on_line, no_line, where_true, is_width, set_with, line_set, hidden_set, shown_way, relation_way, relations_way, orders_of, arranged, with_state, is_state_line, state_line_way, state_way, states_way}
-use Rattle.trace_laws.specs.Reading.Way.{on, off}
+use Rattle.trace_form.specs.Reading.{Way, go, after_line, on_line, no_line, where_true, is_width, set_with, line_set, hidden_set, shown_way, relation_way, relations_way, orders_of, arranged, with_state, is_state_line, state_line_way, state_way, states_way}
+use Rattle.trace_form.specs.Reading.Way.{on, off}
 use Rattle.trace_laws.proofs.Again.{IsTuple, ComeAfter}
 use Rattle.trace_laws.proofs.Whole.{HoldsTuples}
 use Rattle.trace_laws.proofs.Sound.{line_is, state_line_is}

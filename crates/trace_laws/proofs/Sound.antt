@@ -11,7 +11,7 @@ use Rattle.line_words.specs.Words.{is_digit, number_after, up_to, positive_of, i
 use Rattle.tuple_sets.specs.Sets.{TupleList}
 use Rattle.trace_form.specs.declared.label.RelationLabel.{RelationLabel}
 use Rattle.trace_form.specs.Text.{atom_text, tuple_text, tuples_text}
-use Rattle.trace_laws.specs.Reading.{is_blank, behind, atom_length, found_before, number_of, with_rest, next_atom, further_atom, further_atoms, next_tuple, comes_after, separator, with_tuple, one_more, tuples_of, is_width, set_with, set_of, line_set, is_rest, is_state_line, counts, header_numbers, header_of}
+use Rattle.trace_form.specs.Reading.{is_blank, behind, atom_length, found_before, number_of, with_rest, next_atom, further_atom, further_atoms, next_tuple, comes_after, separator, with_tuple, one_more, tuples_of, is_width, set_with, set_of, line_set, is_rest, is_state_line, counts, header_numbers, header_of}
 use Rattle.trace_laws.proofs.Again.{IsPlace, IsTuple, ComeAfter, arrows, commas}
 
 -- ---- options

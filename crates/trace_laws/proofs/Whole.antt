@@ -18,8 +18,8 @@ use Rattle.trace_form.specs.declared.label.Shown.TheVariants.{Line, Nothing, Jus
 use Rattle.trace_form.specs.declared.label.RelationLabel.{RelationLabel}
 use Rattle.trace_form.specs.declared.label.Labels.{Labels}
 use Rattle.trace_form.specs.Text.{tuples_text, set_text, shown_text, relation_text, state_text, nth_state_text, states_text, header_text, trace_text}
-use Rattle.trace_laws.specs.Reading.{go, after_line, on_line, no_line, where_true, is_width, set_with, set_of, line_set, shown_way, relation_way, relations_way, order_of, orders_before, orders_of, one_set, arranged, with_state, is_rest, is_state_line, state_way, states_way, is_blank, behind, tuples_of, counts, header_numbers, header_of, end_way, with_start, body_way, lines_way, trace_way}
-use Rattle.trace_laws.specs.Reading.Way.{on}
+use Rattle.trace_form.specs.Reading.{go, after_line, on_line, no_line, where_true, is_width, set_with, set_of, line_set, shown_way, relation_way, relations_way, order_of, orders_before, orders_of, one_set, arranged, with_state, is_rest, is_state_line, state_way, states_way, is_blank, behind, tuples_of, counts, header_numbers, header_of, end_way, with_start, body_way, lines_way, trace_way}
+use Rattle.trace_form.specs.Reading.Way.{on}
 use Rattle.trace_laws.proofs.Again.{AreAtoms, IsTuple, ComeAfter, behind_again, place_at, decimal_again, none_in_decimal, tuples_again}
 
 -- ---- lines

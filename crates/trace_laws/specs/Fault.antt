@@ -1,5 +1,5 @@
 -- The first line of a text at which no trace text has all lines up to it.
-use Rattle.std.specs.Prelude.{◌≡◌, ℕ, suc, List, [], ◌∷◌, Bool, true, false, take}
+use Rattle.std.specs.Prelude.{◌≡◌, ℕ, suc, List, [], ◌∷◌, Bool, true, false, take, min}
 use Rattle.line_words.specs.Words.{parts}
 use Rattle.core_meaning.specs.Sequence.{LassoValue}
 use Rattle.trace_form.specs.declared.label.Labels.{Labels}
@@ -29,3 +29,9 @@ pub record IsFirstFault (labels : Labels) (text : List ℕ) (line : ℕ) : Type 
   pub fits : IsLassoOf labels begun
   pub agrees : AgreeTo before (trace_text labels begun) text
   pub none : (lasso : LassoValue) → IsLassoOf labels lasso → AgreeTo line (trace_text labels lasso) text → ⊥
+
+-- the number of the first fault, or the greatest number of 32 bits where it is greater
+pub record NamesFirst (labels : Labels) (text : List ℕ) (line : ℕ) : Type 0 where
+  pub first : ℕ
+  pub is_first : IsFirstFault labels text first
+  pub named : line ≡ min first 4294967295

@@ -1,6 +1,6 @@
 //! Laws of the texts of traces: a text is that of one lasso, and what a definition of reading by lines makes of a text.
 //!
-//! `trace_form` defines the text of a lasso, `specs/Reading.antt` how lines are read. The functions do nothing; a caller that
+//! `trace_form` defines the text of a lasso and how lines are read. The functions do nothing; a caller that
 //! needs a law calls it.
 #![tactic(auto)]
 
@@ -11,9 +11,11 @@ ghost use Rattle.trace_form.specs.Text.{trace_text, tuples_text};
 ghost use Rattle.trace_form.specs.declared.label.Labels.{Labels};
 ghost use Rattle.trace_form.specs.declared.label.RelationLabel.{RelationLabel};
 ghost use Rattle.trace_laws.specs.Form.{HasForm, HasLines, HaveLassos, FitsLabels, IsLassoOf};
-ghost use Rattle.trace_laws.specs.Fault.{AgreeTo, IsFirstFault};
-ghost use Rattle.trace_laws.specs.Reading.{trace_way, line_set, header_of, is_state_line};
-ghost use Rattle.trace_laws.specs.Reading.Way.{on, off};
+ghost use Rattle.trace_laws.specs.Fault.{AgreeTo, IsFirstFault, NamesFirst};
+ghost use Rattle.trace_form.specs.Reading.{trace_way, line_set, header_of, is_state_line};
+ghost use Rattle.trace_form.specs.Reading.Way.{on, off};
+ghost use Rattle.trace_form.specs.Faults.{Faults, IsRead};
+ghost use Rattle.trace_form.specs.declared.label.TraceFault.TheVariants as fault;
 
 /// A law: two lassos that fit the same labels, and whose texts under them are equal, are equal.
 pub fn texts_are_of_one_lasso()
@@ -48,6 +50,21 @@ pub fn lines_are_read()
     ensures relation { (labels : Labels) (r : RelationLabel) (line : List ℕ) (set : TupleList) → line_set labels.atoms r line ≡ Some set → line ≡ r.label ++ codes " =" ++ tuples_text labels.atoms set.tuples }
 {}
 
+/// A law: the line that `read_trace` names is the first at which no text of a lasso of the labels has all lines up to it.
+pub fn named_lines_are_first()
+    ensures { (labels : Labels) (text : List ℕ) (line : ℕ) → HaveLassos labels → Faults labels text (fault.BadTrace line) → NamesFirst labels text line }
+{}
+
+/// A law: `read_trace` names no line of the text of a lasso of the labels.
+pub fn no_line_of_a_lasso_is_named()
+    ensures { (labels : Labels) (lasso : LassoValue) (line : ℕ) → HasLines labels → IsLassoOf labels lasso → Faults labels (trace_text labels lasso) (fault.BadTrace line) → ⊥ }
+{}
+
+/// A law: a lasso that `read_trace` gives is one of the labels.
+pub fn read_lassos_are_of_the_labels()
+    ensures { (labels : Labels) (text : List ℕ) (lasso : LassoValue) → HaveLassos labels → IsRead labels text lasso → IsLassoOf labels lasso }
+{}
+
 #[cfg(test)]
 mod tests {
     use super::*;
@@ -60,5 +77,8 @@ mod tests {
         faults_are_first();
         reading_is_of_the_text();
         lines_are_read();
+        named_lines_are_first();
+        no_line_of_a_lasso_is_named();
+        read_lassos_are_of_the_labels();
     }
 }

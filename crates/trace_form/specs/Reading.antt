@@ -13,6 +13,7 @@ use Rattle.trace_form.specs.declared.label.Shown.TheVariants.{Line, Nothing, Jus
 use Rattle.trace_form.specs.declared.label.RelationLabel.{RelationLabel}
 use Rattle.trace_form.specs.declared.label.Labels.{Labels}
 use Rattle.trace_form.specs.Text.{atom_text}
+use Rattle.trace_form.specs.Unread.{Unread}
 
 -- ---- the parts of a line
 
@@ -178,9 +179,12 @@ abbrev pub relations_way : List (List ℕ) → List TupleList → List RelationL
 relations_way atoms sets [] lines n = on sets lines n
 relations_way atoms sets (r ∷ rs) lines n = go (λ set rest m. relations_way atoms (sets ++ set ∷ []) rs rest m) (relation_way atoms r lines n)
 
+abbrev pub has_place : ℕ → RelationLabel → Bool
+has_place place r = r.place == place
+
 -- the place among relations of the one that has a place in a state
 abbrev pub order_of : List RelationLabel → ℕ → ℕ
-order_of relations place = position_or_len (λ r. r.place == place) relations
+order_of relations place = position_or_len (has_place place) relations
 
 -- those of the first so many places
 abbrev pub orders_before : List RelationLabel → ℕ → List ℕ
@@ -243,3 +247,8 @@ lines_way labels lines n = go (body_way labels) (on_line header_of lines n)
 
 abbrev pub trace_way : Labels → List ℕ → Way LassoValue
 trace_way labels text = lines_way labels (parts text) 0
+
+-- what was read up to an unread rest, or that its next line is none of a trace
+abbrev pub way_from : {A : Type 0} → Unread → Option A → Way A
+way_from left None = off (suc left.lines)
+way_from left (Some a) = on a (parts left.bytes) left.lines
