@@ -1,6 +1,6 @@
 -- What is ruled out of a model that was made ready.
-use Rattle.std.proofs.Common.{◌≡◌, ◌∙◌, ℕ, List, [], ◌∷◌, ◌++◌, map, length, All, sym, ap, subst, arith, length-append, length-map}
-use Rattle.std.proofs.lemmas.List.{map-append}
+use Rattle.std.proofs.Common.{◌≡◌, ◌∙◌, ℕ, List, [], ◌∷◌, ◌++◌, map, length, All, sym, ap, subst, arith, length-append}
+use Rattle.std.proofs.lemmas.List.{length-map, map-append}
 use Rattle.core_tree.specs.declared.model.Fact.{Fact}
 use Rattle.core_tree.specs.Trees.{Claim, claim_of}
 use Rattle.core_meaning.specs.declared.scopes.SigScope.{SigScope}
