@@ -33,7 +33,7 @@ module _ (number : ℕ) (prepared : Prepared) (ready : IsReady number prepared) 
 
   -- what the scopes give is a world for the model
   of_model : length (world_of prepared.scopes lasso).top ≡ length prepared.model.sigs
-  of_model = length-map (λ (s : SigScope). s.top) prepared.scopes.numbers ∙ ready.counted
+  of_model = length-map prepared.scopes.numbers (λ (s : SigScope). s.top) ∙ ready.counted
 
   -- a lasso that satisfies the model and the command meets the target
   meets : Meets prepared.target lasso
