@@ -46,9 +46,10 @@ pub record IsTraceOf (prepared : Prepared) (lasso : LassoValue) : Type 0 where
 abbrev pub NoneSatisfies : Prepared → Type 0
 NoneSatisfies prepared = All IsCovered prepared.target.formulas → (lasso : LassoValue) → IsCandidate prepared.bounds lasso → IsTraceOf prepared lasso → ⊥
 
--- A trace satisfies the model and the command, and has the fewest states that show its sequence. Where there is no lasso, the
--- lines refute the clauses, and none of the plain forms is passed over; and only a budget that is spent leaves it open: there are just as many lemmas, none of them empty,
--- and each passes.
+-- A trace satisfies the model and the command, and has the fewest states that show its sequence. Where there is no lasso, the lines
+-- refute the clauses, and where all formulas that are searched have plain forms no lasso within the bounds, of as many states, satisfies
+-- the model and the command. Only a budget that is spent leaves it open: there are just as many lemmas, none of them empty, and each
+-- passes.
 abbrev pub IsFoundIn : Prepared → Option ℕ → Answer → Type 0
 IsFoundIn prepared budget (Trace labels lasso) = (labels ≡ prepared.labels) × IsTraceOf prepared lasso × (length lasso.states ≤ prepared.bounds.states) × HasFewestStates lasso
 IsFoundIn prepared budget (Absent table states cnf lines) = (states ≡ prepared.bounds.states) × Refutes cnf.clauses lines × ((number : ℕ) → IsReady number prepared → NoneSatisfies prepared)

@@ -37,8 +37,8 @@ abbrev pub MeetsCovered : Target → LassoValue → Type 0
 MeetsCovered target lasso = KeepsNumbers target.scopes lasso × All (λ f. IsCovered f → HoldsFirst target.scopes lasso f) target.formulas
 
 -- The clauses over a table of variables: an assignment that satisfies them stands for a lasso that keeps the numbers of the scopes
--- and at whose first position each covered formula holds; and where all formulas are covered, each lasso that meets the target and for
--- which some values of the table stand is that of such an assignment.
+-- and at whose first position each covered formula holds; and where all formulas are covered and some lasso for which values of the
+-- table stand meets the target, some assignment satisfies them.
 pub record SayTarget (target : Target) (bounds : Bounds) (clauses : List (List ℤ)) : Type 0 where
   pub table : Layout
   pub laid : IsTable bounds → IsLayout bounds table
