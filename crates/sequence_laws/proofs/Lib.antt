@@ -1,0 +1,3 @@
+mod Happening
+mod Meanings
+mod Satisfying
