@@ -7,12 +7,14 @@ use Rattle.alloy_base.specs.Place.{number_of}
 use Rattle.core_tree.specs.declared.model.Model.{Model}
 use Rattle.core_meaning.specs.declared.scopes.Scopes.{Scopes}
 use Rattle.core_meaning.specs.Kept.{universe_size}
+use Rattle.scope_rules.specs.Numbers.{AreSigScopes}
 use Rattle.scope_rules.specs.declared.fault.ScopeFault.{ScopeFault}
 use Rattle.scope_rules.specs.declared.fault.ScopeFault.TheVariants.{Refused, Memory}
 
--- one entry for each sig, and numbers within the limits
+-- one entry for each sig, as its declaration asks, and numbers within the limits
 pub record AreScopes (model : Model) (s : Scopes) : Type 0 where
   pub numbers : length s.numbers ≡ length model.sigs
+  pub sigs : AreSigScopes model.sigs s.numbers
   pub bits : (1 ≤ s.bits) × (s.bits ≤ 12)
   pub states : (1 ≤ s.states) × (s.states ≤ 32)
   pub atoms : universe_size s ≤ 16384

@@ -5,6 +5,7 @@
 mod entries;
 mod fault;
 mod gather;
+mod keeps;
 mod limits;
 mod numbers;
 mod order;

@@ -1,18 +1,20 @@
 //! The scopes of a command, or the first of the rules on scopes that it breaks.
 
-ghost use Rattle.std.specs.Prelude.{◌≡◌, ◌<◌, ◌≤◌, ◌+◌, ◌^◌, length, Err, IfOk, IfErr};
+ghost use Rattle.std.specs.Prelude.{◌≡◌, ◌<◌, ◌≤◌, ◌+◌, ◌^◌, length, slice_get, All, Err, IfOk, IfErr, IfSome};
 ghost use Rattle.core_meaning.specs.Kept.{atom_count};
 ghost use Rattle.scope_rules.specs.Limits.{AreScopes, IsScopeRule, IsScopeFault, no_command};
+ghost use Rattle.scope_rules.specs.Numbers.{AreSigScopes, IsListed};
 ghost use Rattle.scope_rules.specs.declared.fault.ScopeFault.TheVariants.{Refused};
 
 use crate::entries::{Numbered, Scope, conflict, exact_subset, exact_var, scope_of};
 use crate::fault::ScopeFault;
 use crate::gather::{over_limit, refused, wide_literal};
+use crate::keeps::{are_listed, are_sig_scopes};
 use crate::numbers::{fits, numbers};
 use alloy_base::limits::{ATOMS, BITWIDTH, STEPS};
 use alloy_base::{Place, Rule};
 use core_meaning::{Scopes, SigScopeList};
-use core_tree::{Command, Field, Model, Origin, Sig};
+use core_tree::{Command, Field, Model, Origin, ScopeEntryList, Sig, SigList};
 use std::alloc::{AllocError, Global};
 use tree_measures::Measure;
 
@@ -41,6 +43,7 @@ const ROOT: Place = Place {
 /// written out (S49).
 pub fn scopes(alloc: Global, model: &Model, command: u32) -> Result<Scopes, ScopeFault>
     ensures ok { IfOk result (λ s. AreScopes model.now s) }
+    ensures listed { IfSome (slice_get model.now.commands command) (λ c. IfOk result (λ s. All (IsListed s.numbers) c.scope)) }
     ensures absent { length model.now.commands ≤ command → result ≡ Err (Refused no_command) }
     ensures fault { command < length model.now.commands → IfErr result (λ e. IsScopeFault e) }
 {
@@ -51,16 +54,41 @@ pub fn scopes(alloc: Global, model: &Model, command: u32) -> Result<Scopes, Scop
     scopes_of(alloc, model, chosen)
 }
 
+/// The numbers of the sigs, where they are what their declarations ask and the command lists. The rules
+/// on scopes give no others; they are tested once more on the numbers themselves, and where this did not
+/// hold the answer would be want of memory.
+fn kept_numbers(
+    alloc: Global,
+    sigs: &SigList,
+    scope: &Scope,
+    entries: &ScopeEntryList,
+) -> Result<SigScopeList, AllocError>
+    requires { length scope.now.sigs.items ≡ length sigs.now }
+    ensures length { IfOk result (λ l. length l ≡ length sigs.now) }
+    ensures sigs { IfOk result (λ l. AreSigScopes sigs.now l) }
+    ensures listed { IfOk result (λ l. All (IsListed l) entries.now) }
+{
+    let list = numbers(alloc, sigs.as_slice(), scope)?;
+    if !are_sig_scopes(sigs, &list) {
+        return Err(AllocError);
+    }
+    if !are_listed(list.as_slice(), entries) {
+        return Err(AllocError);
+    }
+    Ok(list)
+}
+
 /// The scopes of a command of the model.
 fn scopes_of(alloc: Global, model: &Model, command: &Command) -> Result<Scopes, ScopeFault>
     ensures ok { IfOk result (λ s. AreScopes model.now s) }
+    ensures listed { IfOk result (λ s. All (IsListed s.numbers) command.now.scope) }
     ensures fault { IfErr result (λ e. IsScopeFault e) }
 {
     let sigs = model.sigs.as_slice();
     let scope = listed(alloc, sigs, command)?;
     let bits = bits_of(&scope)?;
     let steps = steps_of(&scope)?;
-    let numbers = numbers(alloc, sigs, &scope)?;
+    let numbers = kept_numbers(alloc, &model.sigs, &scope, &command.scope)?;
     check_atoms(&numbers, bits, command.keyword)?;
     check_trees(alloc, model, command, bits)?;
     Ok(Scopes {

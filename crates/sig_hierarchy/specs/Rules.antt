@@ -92,11 +92,16 @@ pub data AreKindsFrom (texts : List Text) (scopes : List Scope) : ℕ → ℕ �
 abbrev pub AreKinds : List Text → List Instance → List Scope → Sigs → Type 0
 AreKinds texts instances scopes sigs = AreKindsFrom texts scopes 0 0 instances sigs
 
--- two members meet where one is the other or an ancestor of it
+-- t is above s: what s extends, what that extends, and so on
+pub data IsAbove (sigs : Sigs) : ℕ → ℕ → Type 0 where
+  parent : {s t : ℕ} → slice_get sigs s ≡ Some (kind.Extends t) → IsAbove sigs s t
+  further : {s t u : ℕ} → slice_get sigs s ≡ Some (kind.Extends t) → IsAbove sigs t u → IsAbove sigs s u
+
+-- two members meet where one is the other or above it; they are no subset sigs
 abbrev pub Meet : Sigs → Member → Member → Type 0
 Meet sigs member.Int n = n ≡ member.Int
 Meet sigs (member.Sig a) member.Int = ⊥
-Meet sigs (member.Sig a) (member.Sig b) = (a ≡ b) ⊎ IsAncestor sigs a b ⊎ IsAncestor sigs b a
+Meet sigs (member.Sig a) (member.Sig b) = (a ≡ b) ⊎ IsAbove sigs a b ⊎ IsAbove sigs b a
 
 -- two sigs overlap where members of their types meet
 abbrev pub DoOverlap : Sigs → ℕ → ℕ → Type 0

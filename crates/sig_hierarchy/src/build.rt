@@ -3,10 +3,12 @@
 ghost use Rattle.std.specs.Prelude.{length, IfErr};
 ghost use Rattle.sig_hierarchy.specs.Refused.{IsFault};
 
+use crate::cycles::{walked_line, walked_members};
 use crate::faults::{Noted, refused};
 use crate::fields::{Types, note_twice};
-use crate::order::{note_cycle, order_of};
+use crate::order::{Order, note_cycle, order_of};
 use crate::parents::{Above, Parent, all_above, note_all_extends};
+use crate::search::is_set;
 use crate::sigs::{Hierarchy, HierarchyFault, Kind};
 use als_items::Items;
 use als_tree::Loaded;
@@ -152,12 +154,42 @@ fn make_one(alloc: Global, all: &[Above], sig: u32, made: &mut Made) -> Result<(
     Ok(())
 }
 
+/// The line and the members of a sig that is its own ancestor, or has such an ancestor.
+fn walk_one(alloc: Global, all: &[Above], sig: u32, made: &mut Made) -> Result<(), AllocError> {
+    put_members(made, sig as usize, walked_members(alloc, all, sig)?);
+    match all.get(sig as usize) {
+        Some(above) if !above.is_subset => {
+            put_line(made, sig as usize, walked_line(alloc, all, sig)?);
+            Ok(())
+        }
+        _ => Ok(()),
+    }
+}
+
+/// The lines and members of the sigs that aren't done: those that are their own ancestors, or have
+/// such an ancestor.
+fn walk_others(
+    alloc: Global,
+    all: &[Above],
+    done: &[bool],
+    made: &mut Made,
+) -> Result<(), AllocError> {
+    for place in 0..all.len() {
+        match u32::try_from(place) {
+            Ok(sig) if !is_set(done, place) => walk_one(alloc, all, sig, made)?,
+            _ => {}
+        }
+    }
+    Ok(())
+}
+
 /// The lines and members of all sigs, and of `String` after them.
-fn types_of(alloc: Global, all: &[Above], order: &[u32]) -> Result<Types, AllocError> {
+pub fn types_of(alloc: Global, all: &[Above], order: &Order) -> Result<Types, AllocError> {
     let mut made = first_made(alloc, all)?;
-    for sig in order {
+    for sig in order.sigs.as_slice() {
         make_one(alloc, all, *sig, &mut made)?;
     }
+    walk_others(alloc, all, order.done.as_slice(), &mut made)?;
     if let Ok(string) = u32::try_from(all.len()) {
         made.lines.push(own_line(alloc, string)?)?;
         made.members.push(one_member(alloc, string)?)?;
@@ -210,7 +242,7 @@ fn found(
     note_all_extends(all.as_slice(), &mut least);
     let mut order = order_of(alloc, all.as_slice())?;
     note_cycle(alloc, all.as_slice(), &order, &mut least)?;
-    let types = types_of(alloc, all.as_slice(), order.sigs.as_slice())?;
+    let types = types_of(alloc, all.as_slice(), &order)?;
     note_twice(alloc, loaded, names, &types, &mut least)?;
     if let Some(noted) = least {
         return Ok(Err(noted));
@@ -220,7 +252,7 @@ fn found(
     if let Ok(string) = u32::try_from(all.len()) {
         order.sigs.push(string)?;
     }
-    let crate::order::Order { done: _, sigs } = order;
+    let Order { done: _, sigs } = order;
     Ok(Ok(Hierarchy {
         kinds,
         lines,

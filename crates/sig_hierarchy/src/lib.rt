@@ -2,10 +2,12 @@
 #![tactic(auto)]
 
 mod build;
+mod cycles;
 mod faults;
 mod fields;
 mod order;
 mod parents;
+mod search;
 mod sigs;
 
 pub use build::hierarchy;

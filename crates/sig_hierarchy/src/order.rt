@@ -3,29 +3,9 @@
 
 use crate::faults::{Broken, Noted, note};
 use crate::parents::{Above, Parent};
+use crate::search::{add_parents, is_set, search_from, set, unset_marks};
 use sig_types::Member;
 use std::alloc::{AllocError, Global};
-
-fn is_set(marks: &[bool], place: usize) -> bool {
-    match marks.get(place) {
-        None => false,
-        Some(mark) => *mark,
-    }
-}
-
-fn set(marks: &mut Vec<bool>, place: usize) {
-    if place < marks.len() {
-        marks[place] = true;
-    }
-}
-
-fn unset_marks(alloc: Global, count: usize) -> Result<Vec<bool>, AllocError> {
-    let mut marks = Vec::new(alloc);
-    for _ in 0..count {
-        marks.push(false)?;
-    }
-    Ok(marks)
-}
 
 /// Whether all parents are done.
 fn are_done(parents: &[Parent], done: &[bool]) -> bool {
@@ -100,38 +80,9 @@ pub fn order_of(alloc: Global, all: &[Above]) -> Result<Order, AllocError> {
     Ok(order)
 }
 
-/// The sigs that are found so far, and those among them whose parents were looked at.
-#[derive(Drop)]
-struct Search {
-    seen: Vec<bool>,
-    found: Vec<u32>,
-}
-
-fn add_found(search: &mut Search, sig: u32) -> Result<(), AllocError> {
-    if is_set(search.seen.as_slice(), sig as usize) {
-        return Ok(());
-    }
-    search.found.push(sig)?;
-    set(&mut search.seen, sig as usize);
-    Ok(())
-}
-
-fn add_parents(search: &mut Search, parents: &[Parent]) -> Result<(), AllocError> {
-    for parent in parents {
-        if let Member::Sig(sig) = parent.member {
-            add_found(search, sig)?;
-        }
-    }
-    Ok(())
-}
-
 /// Whether a sig is the other or an ancestor of it.
 fn leads_to(alloc: Global, all: &[Above], from: u32, to: u32) -> Result<bool, AllocError> {
-    let mut search = Search {
-        seen: unset_marks(alloc, all.len())?,
-        found: Vec::new(alloc),
-    };
-    add_found(&mut search, from)?;
+    let mut search = search_from(alloc, all.len(), from)?;
     for next in 0..all.len() {
         if next >= search.found.len() {
             break;

@@ -1,0 +1,10 @@
+pub mod Results
+pub mod Equal
+pub mod Flat
+pub mod Monotone
+pub mod Added
+pub mod Typing
+pub mod Up
+pub mod FormEnds
+pub mod WalkEnds
+pub mod FieldEnds

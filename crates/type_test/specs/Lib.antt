@@ -1,0 +1,6 @@
+pub mod Typed
+pub mod Steps
+pub mod Same
+pub mod Closed
+pub mod Names
+pub mod Forms

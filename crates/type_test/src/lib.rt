@@ -1,0 +1,16 @@
+//! Whether the types of a model's fields are what their declarations say.
+#![tactic(auto)]
+
+mod fields;
+mod forms;
+mod names;
+mod operators;
+mod pairs;
+mod sets;
+mod sigs;
+mod walk;
+
+pub use fields::keeps_types;
+
+#[cfg(test)]
+mod tests;
