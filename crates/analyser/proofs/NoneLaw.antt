@@ -1,9 +1,20 @@
 -- What is ruled out of a model that was made ready.
-use Rattle.std.proofs.Common.{◌≡◌, ◌∙◌, ℕ, List, [], ◌∷◌, ◌++◌, map, length, All, sym, ap, subst, arith, length-append}
+use Rattle.std.proofs.Common.{◌≡◌, ◌∙◌, ℕ, true, List, [], ◌∷◌, ◌++◌, map, length, All, Option, Some, slice_get, refl, sym, ap, subst, arith, length-append}
+use Rattle.std.specs.Prelude.{IfSome}
+use Rattle.std.proofs.lemmas.Bool.{false≢true}
 use Rattle.std.proofs.lemmas.List.{length-map, map-append}
 use Rattle.core_tree.specs.declared.model.Fact.{Fact}
+use Rattle.core_tree.specs.declared.model.Model.{Model}
+use Rattle.core_tree.specs.declared.model.Sig.{Sig}
+use Rattle.core_tree.specs.declared.model.SigKind.{SigKind}
+use Rattle.core_tree.specs.declared.model.SigKind.TheVariants.{Top, Extends, Subset}
 use Rattle.core_tree.specs.Trees.{Claim, claim_of}
 use Rattle.core_meaning.specs.declared.scopes.SigScope.{SigScope}
+use Rattle.core_meaning.specs.declared.scopes.Scopes.{Scopes}
+use Rattle.scope_rules.specs.Limits.{AreScopes}
+use Rattle.scope_rules.specs.Numbers.{KeepsKind, IsSigScope}
+use Rattle.type_laws.specs.Typed.{AreScopesOf}
+use Rattle.candidate_laws.specs.Satisfying.{IsRight, SatisfyingAreCandidates}
 use Rattle.core_meaning.specs.Kept.{world_of}
 use Rattle.core_meaning.specs.Meaning.{no_names}
 use Rattle.core_meaning.specs.Satisfied.{HoldsAt}
@@ -12,7 +23,7 @@ use Rattle.target_forms.specs.declared.target.Part.{Part}
 use Rattle.target_forms.specs.Targets.{fact_claims, HoldsWith}
 use Rattle.target_search.specs.Clauses.{Meets, IsRuledOut}
 use Rattle.analyser.specs.declared.ready.Prepared.{Prepared}
-use Rattle.analyser.specs.Found.{IsReady, IsTraceOf, NoneSatisfies}
+use Rattle.analyser.specs.Found.{IsReady, IsTraceOf, IsUsual, NoneSatisfies}
 
 -- two lists with one more at their ends have the same at their ends
 last_same : {X : Type 0} (xs ys : List X) (x y : X) → xs ++ x ∷ [] ≡ ys ++ y ∷ [] → x ≡ y
@@ -50,5 +61,37 @@ module _ (number : ℕ) (prepared : Prepared) (ready : IsReady number prepared) 
       let target = (is.same lasso).1 parts in
       (target.numbers, target.formulas)
 
-pub none_satisfies : (number : ℕ) (prepared : Prepared) → IsReady number prepared → IsRuledOut prepared.target prepared.bounds → NoneSatisfies prepared
-none_satisfies number prepared ready ruled covered lasso candidate trace = ruled ready.table covered lasso candidate (meets number prepared ready lasso trace)
+-- what the scopes keep tells which sigs are top-level
+top_kind : (k : SigKind) (e : SigScope) → KeepsKind k e → e.top ≡ true → k ≡ Top
+top_kind Top e kept top = refl
+top_kind (Extends p) e kept top = absurd (false≢true (sym kept.0 ∙ top))
+top_kind (Subset ps) e kept top = absurd (false≢true (sym kept ∙ top))
+
+sig_scope : (model : Model) (scopes : Scopes) → AreScopes model scopes → (s : ℕ) (d : Sig) (e : SigScope) → slice_get model.sigs s ≡ Some d → slice_get scopes.numbers s ≡ Some e → KeepsKind d.kind e
+sig_scope model scopes are s d e get there = (subst (λ (o : Option SigScope). IfSome o (IsSigScope d)) there (are.sigs s d get)).kind
+
+rightly_of : (model : Model) (scopes : Scopes) → AreScopes model scopes → AreScopesOf model scopes
+rightly_of model scopes are = record {
+  count = are.numbers;
+  top = λ s d e get there is. (subst (λ (k : SigKind). KeepsKind k e) is (sig_scope model scopes are s d e get there)).0;
+  only = λ s d e get there top. top_kind d.kind e (sig_scope model scopes are s d e get there) top;
+}
+
+right_of : (prepared : Prepared) → AreScopes prepared.model prepared.scopes → IsUsual prepared.model → IsRight prepared.model prepared.scopes
+right_of prepared are usual = record {
+  kept = usual.kept;
+  plain = usual.plain;
+  named = usual.named;
+  owned = usual.owned;
+  rightly = rightly_of prepared.model prepared.scopes are;
+}
+
+pub none_satisfies : (number : ℕ) (prepared : Prepared) → IsReady number prepared → IsRuledOut prepared.target prepared.bounds → SatisfyingAreCandidates → NoneSatisfies prepared
+none_satisfies number prepared ready ruled law = record {
+  candidates = λ covered lasso candidate trace. ruled ready.table covered lasso candidate (meets number prepared ready lasso trace);
+  lassos = λ covered usual lasso over few trace. (
+    let states = ready.states in
+    let (other, same, candidate, satisfied) = law prepared.model prepared.scopes prepared.bounds lasso (claim_of trace.command.formula) (right_of prepared ready.scopes_are usual) ready.bounds_are over (omega (arith, few, states)) trace.satisfies in
+    let shown : IsTraceOf prepared other = record { facts = trace.facts; command = trace.command; parts_are = trace.parts_are; satisfies = satisfied } in
+    ruled ready.table covered other candidate (meets number prepared ready other shown));
+}

@@ -3,11 +3,16 @@ use Rattle.std.specs.Prelude.{◌≡◌, ◌≤◌, ℕ, List, [], ◌∷◌, �
 use Rattle.bounds_builder.specs.Candidates.{IsCandidate}
 use Rattle.bounds_builder.specs.Shortest.{HasFewestStates}
 use Rattle.bounds_builder.specs.Table.{IsTable}
+use Rattle.candidate_laws.specs.Satisfying.{AreBoundsOf, AreOwned, IsLassoOver}
 use Rattle.core_meaning.specs.Satisfied.{Satisfies}
 use Rattle.core_meaning.specs.Sequence.{LassoValue}
 use Rattle.core_tree.specs.Trees.{claim_of}
 use Rattle.core_tree.specs.declared.model.Command.{Command}
+use Rattle.core_tree.specs.Models.{IsModel}
+use Rattle.core_tree.specs.declared.model.Model.{Model}
 use Rattle.model_test.specs.Kept.{IsModelButTypes}
+use Rattle.scope_rules.specs.Limits.{AreScopes}
+use Rattle.type_laws.specs.Typed.{ExtendsPlain, BoundsNameOwned}
 use Rattle.target_forms.specs.Targets.{fact_claims, IsTargetOf}
 use Rattle.target_forms.specs.declared.target.Part.{Part}
 use Rattle.target_search.specs.Clauses.{IsCovered}
@@ -21,8 +26,8 @@ use Rattle.analyser.specs.declared.fault.AnalyseFault.{AnalyseFault}
 use Rattle.analyser.specs.declared.fault.AnalyseFault.TheVariants.{Refused, Read, Memory}
 
 -- a model made ready for its command of this number: the model keeps what resolved models keep, the parts
--- are its facts and then that command, the target is that of the command, the scopes say something of each sig, the bounds have a
--- table, and the labels are those of its relations and of its universe
+-- are its facts and then that command, the target is that of the command, the scopes say what they are to say of each sig, the bounds
+-- are those of the model and the scopes and have a table, and the labels are those of its relations and of its universe
 pub record IsReady (number : ℕ) (prepared : Prepared) : Type 0 where
   pub kept : IsModelButTypes prepared.model
   pub command : Command
@@ -30,7 +35,10 @@ pub record IsReady (number : ℕ) (prepared : Prepared) : Type 0 where
   pub parts_are : map (λ (p : Part). claim_of p.formula) prepared.parts ≡ fact_claims prepared.model.facts ++ claim_of command.formula ∷ []
   pub target_is : IsTargetOf prepared.model prepared.scopes (claim_of command.formula) prepared.target prepared.first_fact
   pub counted : length prepared.scopes.numbers ≡ length prepared.model.sigs
+  pub scopes_are : AreScopes prepared.model prepared.scopes
   pub table : IsTable prepared.bounds
+  pub bounds_are : AreBoundsOf prepared.model prepared.scopes prepared.bounds
+  pub states : prepared.bounds.states ≡ prepared.scopes.states
   pub relations_are : AreRelationsOf prepared.model prepared.labels
   pub atoms_are : prepared.labels.atoms ≡ universe_texts prepared.model prepared.scopes
 
@@ -41,14 +49,25 @@ pub record IsTraceOf (prepared : Prepared) (lasso : LassoValue) : Type 0 where
   pub parts_are : prepared.parts ≡ facts ++ command ∷ []
   pub satisfies : Satisfies prepared.model prepared.scopes lasso (claim_of command.formula)
 
--- no lasso within the bounds of a model that was made ready, of as many states as they have, satisfies the model and its command, where
--- all formulas that are searched have plain forms
-abbrev pub NoneSatisfies : Prepared → Type 0
-NoneSatisfies prepared = All IsCovered prepared.target.formulas → (lasso : LassoValue) → IsCandidate prepared.bounds lasso → IsTraceOf prepared lasso → ⊥
+-- What no clause says yet of a model that was made ready: that the types of its fields are those of their declarations, that no sig
+-- extends an `in` sig, and that the bounds of fields name fields of sigs alone; and each field belongs to a sig, none stands for a
+-- relation parameter.
+pub record IsUsual (model : Model) : Type 0 where
+  pub kept : IsModel model
+  pub plain : ExtendsPlain model.sigs
+  pub named : BoundsNameOwned model
+  pub owned : AreOwned model
+
+-- where all formulas that are searched have plain forms
+pub record NoneSatisfies (prepared : Prepared) : Type 0 where
+  -- no lasso within the bounds, of as many states as they have, satisfies the model and its command
+  pub candidates : All IsCovered prepared.target.formulas → (lasso : LassoValue) → IsCandidate prepared.bounds lasso → IsTraceOf prepared lasso → ⊥
+  -- and none at all of at most as many states as the scopes say
+  pub lassos : All IsCovered prepared.target.formulas → IsUsual prepared.model → (lasso : LassoValue) → IsLassoOver prepared.model prepared.scopes lasso → length lasso.states ≤ prepared.scopes.states → IsTraceOf prepared lasso → ⊥
 
 -- A trace satisfies the model and the command, and has the fewest states that show its sequence. Where there is no lasso, the lines
--- refute the clauses, and where all formulas that are searched have plain forms no lasso within the bounds, of as many states, satisfies
--- the model and the command. Only a budget that is spent leaves it open: there are just as many lemmas, none of them empty, and each
+-- refute the clauses, and where all formulas that are searched have plain forms no lasso satisfies the model and the command, as
+-- `NoneSatisfies` says. Only a budget that is spent leaves it open: there are just as many lemmas, none of them empty, and each
 -- passes.
 abbrev pub IsFoundIn : Prepared → Option ℕ → Answer → Type 0
 IsFoundIn prepared budget (Trace labels lasso) = (labels ≡ prepared.labels) × IsTraceOf prepared lasso × (length lasso.states ≤ prepared.bounds.states) × HasFewestStates lasso

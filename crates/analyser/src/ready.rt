@@ -1,9 +1,12 @@
 // A model made ready for a search.
 
-ghost use Rattle.std.specs.Prelude.{◌≡◌, IfOk, IfErr, length};
-ghost use Rattle.bounds_builder.specs.Table.{IsTable};
+ghost use Rattle.std.specs.Prelude.{◌≡◌, ◌<◌, map, IfOk, IfErr, length};
+ghost use Rattle.bounds_builder.specs.declared.table.Bound.{Bound};
+ghost use Rattle.bounds_builder.specs.Table.{IsTable, are_fixed};
+ghost use Rattle.bounds_builder.specs.Uppers.{AreUppers};
 ghost use Rattle.analyser.specs.Found.{IsLoadedFault, IsReady};
 ghost use Rattle.model_test.specs.Kept.{IsModelButTypes};
+ghost use Rattle.scope_rules.specs.Limits.{AreScopes};
 ghost use Rattle.trace_form.specs.Made.{AreRelationsOf, universe_texts};
 
 use crate::fault::{AnalyseFault, of_loading, refused_in};
@@ -82,7 +85,8 @@ fn scopes_of(
     model: &Model,
     command: u32,
 ) -> Result<Scopes, AnalyseFault>
-    ensures { IfErr result IsLoadedFault }
+    ensures scopes { IfOk result (λ s. AreScopes model.now s) }
+    ensures fault { IfErr result IsLoadedFault }
 {
     match scopes(alloc, model, command) {
         Ok(scopes) => Ok(scopes),
@@ -100,6 +104,9 @@ fn bounds_of(
     keyword: Place,
 ) -> Result<Bounds, AnalyseFault>
     ensures table { IfOk result IsTable }
+    ensures uppers { IfOk result (λ b. AreUppers model.now scopes.now b.relations) }
+    ensures fixed { IfOk result (λ b. map (λ (c : Bound). c.fixed) b.relations ≡ are_fixed model.now) }
+    ensures states { IfOk result (λ b. 0 < scopes.now.states → b.states ≡ scopes.now.states) }
     ensures fault { IfErr result IsLoadedFault }
 {
     match bounds(alloc, model, scopes, keyword) {

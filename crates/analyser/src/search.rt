@@ -10,6 +10,7 @@ use crate::ready::{Prepared, load_root, prepare_loaded};
 use crate::settings::Settings;
 use alloy_base::Libraries;
 use als_tree::Loaded;
+use candidate_laws::satisfying_lassos_are_candidates;
 use chooser_box::{Boxed, Chooser};
 use core_meaning::Lasso;
 use std::alloc::{AllocError, Global};
@@ -80,6 +81,7 @@ pub fn search_prepared(
     match search_target(alloc, target, &prepared.bounds, &mut boxed, budget)? {
         Found::Lasso(lasso) => trace_of(alloc, prepared, lasso),
         Found::Refuted(proof) => {
+            satisfying_lassos_are_candidates();
             let table = table(alloc, &prepared.labels, &prepared.bounds)?;
             Ok(Answer::Absent {
                 table,

@@ -1,3 +1,4 @@
+use Rattle.std.proofs.Common.{arith}
 use Rattle.analyser.proofs.ready.prepare_loaded.Goals as goal
 
 pub returns-clause-ready : goal.returns-clause-ready
@@ -8,7 +9,10 @@ returns-clause-ready c = record {
   parts_are = c.in_ok-parts.ensures;
   target_is = c.in_ok-target.ensures.target;
   counted = c.in_ok-labels.ensures.counted;
+  scopes_are = c.in_ok-scopes.ensures.scopes;
   table = c.in_ok-bounds.ensures.table;
+  bounds_are = record { uppers = c.in_ok-bounds.ensures.uppers; fixed = c.in_ok-bounds.ensures.fixed };
+  states = (let some = c.in_ok-scopes.ensures.scopes.states.0 in c.in_ok-bounds.ensures.states (omega (arith, some)));
   relations_are = c.in_ok-labels.ensures.relations;
   atoms_are = c.in_ok-labels.ensures.atoms;
 }

@@ -17,4 +17,4 @@ pub returns-in_ok-table-in-Refuted : goal.returns-in_ok-table-in-Refuted
 returns-in_ok-table-in-Refuted g c =
     let found = subst (target.IsFoundWithin c.args.prepared.bounds.states c.args.budget) c.in-Refuted.is c.in_ok-lasso.ensures.found in
     let ruled = subst (RulesOut c.args.prepared.target c.args.prepared.bounds) c.in-Refuted.is c.in_ok-lasso.ensures.none in
-    (found.0, found.1, λ number ready. none_satisfies number c.args.prepared ready ruled)
+    (found.0, found.1, λ number ready. none_satisfies number c.args.prepared ready ruled c.satisfying_lassos_are_candidates.ensures)
