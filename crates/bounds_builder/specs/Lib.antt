@@ -5,3 +5,7 @@ pub mod Order
 pub mod Table
 pub mod Numbers
 pub mod Candidates
+pub mod Kinds
+pub mod Levels
+pub mod Sketches
+pub mod Uppers

@@ -1,20 +1,27 @@
 // The upper bounds of the relations of a model.
 
-ghost use Rattle.std.specs.Prelude.{◌≡◌, ◌<◌, ◌≤◌, ◌+◌, ℕ, map, IfOk, length, slice_get, slice_index, Some};
+ghost use Rattle.std.specs.Prelude.{◌≡◌, ◌<◌, ◌≤◌, ◌+◌, ◌++◌, ◌∷◌, [], ◌↔◌, ℕ, All, map, IfOk, OnOk, IsTrue, length, slice_get, slice_index, Some};
+ghost use Rattle.tuple_sets.specs.Sets.{HasJust};
+ghost use Rattle.core_tree.specs.declared.model.Sig.{Sig};
+ghost use Rattle.core_tree.specs.declared.model.Field.{Field};
+ghost use Rattle.core_tree.specs.Columns.{IsFew};
 ghost use Rattle.bounds_builder.specs.declared.table.Bound.{Bound};
 ghost use Rattle.bounds_builder.specs.declared.uppers.Sketch.{Sketch};
-ghost use Rattle.bounds_builder.specs.Table.{IsTable, is_fixed, are_fixed};
+ghost use Rattle.bounds_builder.specs.Kinds.{FitSpans, HasRows, InRows, rows_kinds_of};
 ghost use Rattle.bounds_builder.specs.Order.{order_of};
+ghost use Rattle.bounds_builder.specs.Sketches.{first_in, literal_in, IsRightSketch, InSketch, HasUppers, IsBoundOf, IsSigSketch, MayField, AreSigSketches, AreFieldSketches, AreSketches};
+ghost use Rattle.bounds_builder.specs.Table.{IsTable, is_fixed, are_fixed};
+ghost use Rattle.bounds_builder.specs.Uppers.{AreUppers};
 
-use crate::kinds::{field_kinds, sig_kinds};
+use crate::kinds::{sig_kinds, type_kinds};
 use crate::numbers::{Span, Spans, spans_of};
 use crate::order::orders;
-use crate::rows::{rows_set, rows_size, span_set};
+use crate::rows::{rows_hold, rows_set, rows_size, span_set};
 use crate::table::{Bound, BoundList, Bounds, BoundsFault};
 use crate::tops::tops;
 use alloy_base::{Place, Refusal, Rule};
 use core_meaning::Scopes;
-use core_tree::{Field, Model, Sig, SigKind};
+use core_tree::{Field, Model, Row, Sig, SigKind};
 use std::alloc::{AllocError, Global};
 use tuple_sets::{Tuple, TupleSet};
 
@@ -26,9 +33,10 @@ pub const MOST_CELLS: u64 = 1_000_000;
 struct Sketch {
     /// The number of columns, from one to nine.
     arity: u32,
-    /// Of which kinds its members are; a literal's sig has its atom in place of these.
+    /// Of which kinds its members are.
     rows: Vec<Tuple>,
-    atom: Option<Span>,
+    /// The only atom that it may have, of a literal's sig.
+    atom: Option<u64>,
     fixed: bool,
 }
 
@@ -36,6 +44,7 @@ struct Sketch {
 fn columns_of(columns: u32) -> u32
     ensures least { 1 ≤ result }
     ensures most { result ≤ 9 }
+    ensures same { IsFew columns → result ≡ columns }
 {
     if columns < 1 {
         return 1;
@@ -46,34 +55,32 @@ fn columns_of(columns: u32) -> u32
     columns
 }
 
-/// The atom of a literal's sig: it has no origin, and its place behind `String` is that of its atom.
-fn literal_atom(spans: &Spans, sig: &Sig, number: u32) -> Option<Span> {
+/// Where the numbers of a sig begin; behind all atoms where there is none of this number.
+fn first_of(spans: &Spans, sig: u32) -> u32
+    ensures { result ≡ first_in spans.now sig }
+{
+    if (sig as usize) < spans.sigs.len() {
+        spans.sigs[sig as usize].first
+    } else {
+        spans.integers.first
+    }
+}
+
+/// The atom of a literal's sig, which has this number: it has no origin, and its place behind
+/// `String` is that of its atom.
+fn literal_atom(spans: &Spans, sig: &Sig, number: u32) -> Option<u64>
+    ensures { result ≡ literal_in spans.now number sig.now }
+{
     if sig.origin.is_some() {
         return None;
     }
     match &sig.kind {
-        SigKind::Extends(parent) => Some(atom_behind(spans, *parent, number)),
-        _ => None,
-    }
-}
-
-/// The atom of the sig of this number among those that follow its parent, if there are so many.
-fn atom_behind(spans: &Spans, parent: u32, number: u32) -> Span {
-    let none = Span { first: 0, count: 0 };
-    let span = match spans.sigs.get(parent as usize) {
-        Some(span) => *span,
-        None => return none,
-    };
-    if number <= parent {
-        return none;
-    }
-    let place = number - parent - 1;
-    if place >= span.count {
-        return none;
-    }
-    match span.first.checked_add(place) {
-        Some(first) => Span { first, count: 1 },
-        None => none,
+        SigKind::Top => None,
+        SigKind::Extends(parent) => {
+            let place = number.saturating_sub(*parent).saturating_sub(1);
+            Some(first_of(spans, *parent) as u64 + place as u64)
+        }
+        SigKind::Subset(_) => None,
     }
 }
 
@@ -84,30 +91,8 @@ fn stays(is_var: bool) -> bool
     !is_var
 }
 
-/// The sketches of the sigs and then of the fields.
-#[tactic(auto, using(crate::proofs::Sizes::map_more, crate::proofs::Sizes::map_end, crate::proofs::Ranks::joined_end))]
-fn sketches(alloc: Global, model: &Model, spans: &Spans) -> Result<Vec<Sketch>, AllocError>
-    ensures { IfOk result (λ v. map (λ (s : Sketch). s.fixed) v.items ≡ are_fixed model.now) }
-{
-    let sigs = model.sigs.as_slice();
-    let fields = model.fields.as_slice();
-    let ups = tops(alloc, sigs)?;
-    let mut all = Vec::new(alloc);
-    let mut number = 0u32;
-    for sig in sigs {
-        all.push(sig_sketch(alloc, sigs, sig, &ups, spans, number)?)?;
-        if number == u32::MAX {
-            return Err(AllocError);
-        }
-        number += 1;
-    }
-    for field in fields {
-        all.push(field_sketch(alloc, &ups, field)?)?;
-    }
-    Ok(all)
-}
-
 /// The sketch of a sig, which has this number.
+#[tactic(auto, using(crate::proofs::Sketching::right_sig))]
 fn sig_sketch(
     alloc: Global,
     sigs: &[Sig],
@@ -116,7 +101,9 @@ fn sig_sketch(
     spans: &Spans,
     number: u32,
 ) -> Result<Sketch, AllocError>
-    ensures { IfOk result (λ s. s.fixed ≡ is_fixed sig.now.is_var) }
+    ensures fixed { IfOk result (λ s. s.fixed ≡ is_fixed sig.now.is_var) }
+    ensures right { IfOk result IsRightSketch }
+    ensures its { IfOk result (IsSigSketch sigs.now ups.now spans.now number sig.now) }
 {
     let rows = sig_kinds(alloc, sigs, ups, number)?;
     Ok(Sketch {
@@ -127,28 +114,139 @@ fn sig_sketch(
     })
 }
 
-/// The sketch of a field.
-fn field_sketch(alloc: Global, ups: &[u32], field: &Field) -> Result<Sketch, AllocError>
-    ensures { IfOk result (λ s. s.fixed ≡ is_fixed field.now.is_var) }
+/// The rows of kinds of a field, where all have its columns; none otherwise.
+fn field_kinds(
+    alloc: Global,
+    ups: &[u32],
+    columns: u32,
+    rows: &[Row],
+) -> Result<Vec<Tuple>, AllocError>
+    ensures columns { IfOk result (λ v. All (λ r. length r ≡ columns) v.items) }
+    ensures rows { IfOk result (λ v. All (λ r. length r ≡ columns) rows.now → HasRows v.items (rows_kinds_of ups.now rows.now)) }
 {
+    if have_columns(columns, rows) {
+        let kinds = type_kinds(alloc, ups, rows)?;
+        return Ok(kinds);
+    }
+    let none = Vec::new(alloc);
+    Ok(none)
+}
+
+/// Whether all rows have so many columns.
+#[tactic(auto, using(crate::proofs::Sketching::rows_all, crate::proofs::Sketching::rows_more, crate::proofs::Sketching::rows_not))]
+fn have_columns(columns: u32, rows: &[Row]) -> bool
+    ensures { IsTrue result ↔ All (λ r. length r ≡ columns) rows.now }
+{
+    for row in rows {
+        if row.len() != columns as usize {
+            return false;
+        }
+    }
+    true
+}
+
+/// The sketch of a field.
+#[tactic(auto, using(crate::proofs::Sketching::field_is))]
+fn field_sketch(alloc: Global, ups: &[u32], field: &Field) -> Result<Sketch, AllocError>
+    ensures fixed { IfOk result (λ s. s.fixed ≡ is_fixed field.now.is_var) }
+    ensures right { IfOk result IsRightSketch }
+    ensures its { IfOk result (MayField ups.now field.now) }
+{
+    let arity = columns_of(field.columns);
+    let listed = field.rows.as_slice();
+    let rows = field_kinds(alloc, ups, arity, listed)?;
     Ok(Sketch {
-        arity: columns_of(field.columns),
-        rows: field_kinds(alloc, ups, field)?,
+        arity,
+        rows,
         atom: None,
         fixed: stays(field.is_var),
     })
 }
 
+/// The sketches of the sigs.
+#[tactic(auto, using(crate::proofs::Sizes::map_more, crate::proofs::Sizes::map_end, crate::proofs::Sketching::no_sketch, crate::proofs::Sketching::one_right, crate::proofs::Sketching::sigs_none, crate::proofs::Sketching::sigs_more, crate::proofs::Sketching::sigs_all))]
+fn sig_sketches(
+    alloc: Global,
+    sigs: &[Sig],
+    ups: &[u32],
+    spans: &Spans,
+) -> Result<Vec<Sketch>, AllocError>
+    ensures fixed { IfOk result (λ v. map (λ (s : Sketch). s.fixed) v.items ≡ map (λ (d : Sig). is_fixed d.is_var) sigs.now) }
+    ensures right { IfOk result (λ v. All IsRightSketch v.items) }
+    ensures its { IfOk result (λ v. AreSigSketches sigs.now ups.now spans.now (length sigs.now) v.items) }
+{
+    let mut all = Vec::new(alloc);
+    let mut number = 0u32;
+    for sig in sigs {
+        let sketch = sig_sketch(alloc, sigs, sig, ups, spans, number)?;
+        all.push(sketch)?;
+        if number == u32::MAX {
+            return Err(AllocError);
+        }
+        number += 1;
+    }
+    Ok(all)
+}
+
+/// Adds the sketches of the fields.
+#[tactic(auto, using(crate::proofs::Sizes::map_more, crate::proofs::Sizes::map_end, crate::proofs::Ranks::joined_end, crate::proofs::Sketching::one_right, crate::proofs::Sketching::fields_none, crate::proofs::Sketching::fields_more, crate::proofs::Sketching::fields_all, crate::proofs::Sketching::kept_more))]
+fn add_fields(
+    alloc: Global,
+    fields: &[Field],
+    ups: &[u32],
+    all: &mut Vec<Sketch>,
+) -> Result<(), AllocError>
+    requires { All IsRightSketch all.old.items }
+    ensures fixed { OnOk result (map (λ (s : Sketch). s.fixed) all.new.items ≡ map (λ (s : Sketch). s.fixed) all.old.items ++ map (λ (f : Field). is_fixed f.is_var) fields.now) }
+    ensures right { OnOk result (All IsRightSketch all.new.items) }
+    ensures its { OnOk result (AreFieldSketches ups.now fields.now (length all.old.items) (length fields.now) all.new.items) }
+    ensures kept { OnOk result ((s : ℕ) → s < length all.old.items → slice_get all.new.items s ≡ slice_get all.old.items s) }
+{
+    for field in fields {
+        let sketch = field_sketch(alloc, ups, field)?;
+        all.push(sketch)?;
+    }
+    Ok(())
+}
+
+/// The sketches of the sigs and then of the fields.
+#[tactic(auto, using(crate::proofs::Sketching::sketches_are))]
+fn sketches(
+    alloc: Global,
+    model: &Model,
+    ups: &[u32],
+    spans: &Spans,
+) -> Result<Vec<Sketch>, AllocError>
+    ensures fixed { IfOk result (λ v. map (λ (s : Sketch). s.fixed) v.items ≡ are_fixed model.now) }
+    ensures its { IfOk result (λ v. AreSketches model.now ups.now spans.now v.items) }
+{
+    let sigs = model.sigs.as_slice();
+    let fields = model.fields.as_slice();
+    let mut all = sig_sketches(alloc, sigs, ups, spans)?;
+    add_fields(alloc, fields, ups, &mut all)?;
+    Ok(all)
+}
+
 /// How many tuples the upper bound has.
-fn sketch_size(spans: &Spans, sketch: &Sketch) -> u64 {
-    match &sketch.atom {
-        Some(span) => span.count as u64,
+fn sketch_size(spans: &Spans, sketch: &Sketch) -> u64
+    requires { IsRightSketch sketch.now }
+{
+    match sketch.atom {
+        Some(atom) => {
+            if rows_hold(spans, &sketch.rows, atom) {
+                1
+            } else {
+                0
+            }
+        }
         None => rows_size(spans, &sketch.rows),
     }
 }
 
 /// How many variables the table has, or the greatest number where there are more.
-fn cells(spans: &Spans, all: &[Sketch], states: u32) -> u64 {
+fn cells(spans: &Spans, all: &[Sketch], states: u32) -> u64
+    requires { All IsRightSketch all.now }
+{
     let mut fixed = 0u64;
     let mut moving = 0u64;
     for sketch in all {
@@ -165,41 +263,91 @@ fn cells(spans: &Spans, all: &[Sketch], states: u32) -> u64 {
         .saturating_add(loops)
 }
 
+/// The set of an atom, if it is in one of some rows of one column.
+#[tactic(auto, using(crate::proofs::Sketching::atom_just, crate::proofs::Sketching::atom_off, crate::proofs::Sketching::atom_far))]
+fn atom_set(alloc: Global, spans: &Spans, rows: &[Tuple], atom: u64) -> Result<TupleSet, AllocError>
+    requires fit { FitSpans spans.now }
+    requires columns { All (λ r. length r ≡ 1) rows.now }
+    ensures { IfOk result (λ s. HasJust s 1 (λ t. InRows spans.now rows.now t × (t ≡ atom ∷ []))) }
+{
+    if atom >= 16384 {
+        let none = TupleSet::empty(alloc, 1);
+        return Ok(none);
+    }
+    if rows_hold(spans, rows, atom) {
+        let span = Span {
+            first: atom as u32,
+            count: 1,
+        };
+        let set = span_set(alloc, span)?;
+        return Ok(set);
+    }
+    let none = TupleSet::empty(alloc, 1);
+    Ok(none)
+}
+
 /// The upper bound.
-fn upper_of(alloc: Global, spans: &Spans, sketch: &Sketch) -> Result<TupleSet, AllocError> {
-    match &sketch.atom {
-        Some(span) => span_set(alloc, *span),
-        None => rows_set(alloc, columns_of(sketch.arity), spans, &sketch.rows),
+#[tactic(auto, using(crate::proofs::Sketching::by_atom, crate::proofs::Sketching::by_rows))]
+fn upper_of(alloc: Global, spans: &Spans, sketch: &Sketch) -> Result<TupleSet, AllocError>
+    requires fit { FitSpans spans.now }
+    requires right { IsRightSketch sketch.now }
+    ensures { IfOk result (λ s. HasJust s sketch.now.arity (InSketch spans.now sketch.now)) }
+{
+    match sketch.atom {
+        Some(atom) => {
+            let set = atom_set(alloc, spans, &sketch.rows, atom)?;
+            Ok(set)
+        }
+        None => {
+            let set = rows_set(alloc, sketch.arity, spans, &sketch.rows)?;
+            Ok(set)
+        }
     }
 }
 
-/// The place of a relation in the order.
-fn order_at(places: &[u64], relation: usize) -> u64
-    requires { relation < length places.now }
-    ensures { result ≡ slice_index places.now relation }
+/// The bound of the relation at a place.
+#[tactic(auto, using(crate::proofs::Sketching::right_at))]
+fn bound_at(
+    alloc: Global,
+    spans: &Spans,
+    all: &[Sketch],
+    places: &[u64],
+    relation: usize,
+) -> Result<Bound, AllocError>
+    requires within { relation < length all.now }
+    requires counted { length places.now ≡ length all.now }
+    requires fit { FitSpans spans.now }
+    requires right { All IsRightSketch all.now }
+    ensures order { IfOk result (λ b. b.order ≡ slice_index places.now relation) }
+    ensures its { IfOk result (λ b. (k : Sketch) → slice_get all.now relation ≡ Some k → IsBoundOf spans.now k b) }
 {
-    places[relation]
+    let sketch = &all[relation];
+    let upper = upper_of(alloc, spans, sketch)?;
+    Ok(Bound {
+        upper,
+        fixed: sketch.fixed,
+        order: places[relation],
+    })
 }
 
 /// The bounds of the relations, in order.
-#[tactic(auto, using(crate::proofs::Sizes::map_more, crate::proofs::Sizes::map_end, crate::proofs::Tables::take_next))]
 fn bound_list(
     alloc: Global,
     spans: &Spans,
     all: &[Sketch],
     places: &[u64],
 ) -> Result<BoundList, AllocError>
-    requires { length places.now ≡ length all.now }
+    requires counted { length places.now ≡ length all.now }
+    requires fit { FitSpans spans.now }
+    requires right { All IsRightSketch all.now }
     ensures orders { IfOk result (λ l. map (λ (b : Bound). b.order) l ≡ places.now) }
     ensures fixed { IfOk result (λ l. map (λ (b : Bound). b.fixed) l ≡ map (λ (s : Sketch). s.fixed) all.now) }
+    ensures uppers { IfOk result (λ l. HasUppers spans.now all.now l) }
 {
     let mut list = BoundList::new(alloc);
-    for (relation, sketch) in all.iter().enumerate() {
-        list.push(Bound {
-            upper: upper_of(alloc, spans, sketch)?,
-            fixed: sketch.fixed,
-            order: order_at(places, relation),
-        })?;
+    for relation in 0..all.len() {
+        let bound = bound_at(alloc, spans, all, places, relation)?;
+        list.push(bound)?;
     }
     Ok(list)
 }
@@ -226,10 +374,13 @@ fn table_of(
 ) -> Result<Bounds, AllocError>
     requires fixed { map (λ (s : Sketch). s.fixed) all.now ≡ are_fixed model.now }
     requires some { 0 < states }
+    requires fit { FitSpans spans.now }
+    requires right { All IsRightSketch all.now }
     ensures table { IfOk result IsTable }
     ensures order { IfOk result (λ b. (r : ℕ) (c : Bound) → slice_get b.relations r ≡ Some c → c.order ≡ order_of model.now r) }
     ensures fixed { IfOk result (λ b. map (λ (c : Bound). c.fixed) b.relations ≡ are_fixed model.now) }
     ensures states { IfOk result (λ b. b.states ≡ states) }
+    ensures uppers { IfOk result (λ b. HasUppers spans.now all.now b.relations) }
 {
     let count = model.sigs.len();
     let fields = model.fields.as_slice();
@@ -239,8 +390,11 @@ fn table_of(
 }
 
 /// The upper bounds that the types give, with `var` sigs counted as their nearest ancestor that
-/// isn't `var`. They are refused at `keyword` where the table would have more than 1,000,000
-/// variables, which are counted before any tuple is made.
+/// isn't `var`: of each sig, and of each field whose rows have its columns, just the tuples of the
+/// universe that the definition gives. They are refused at `keyword` where the table would have more
+/// than 1,000,000 variables, which are counted before any tuple is made. Scopes of more than 16,384
+/// numbers, which no command has, are answered as if memory were wanting.
+#[tactic(auto, using(crate::proofs::Exact::spans_fit))]
 pub fn bounds(
     alloc: Global,
     model: &Model,
@@ -251,9 +405,12 @@ pub fn bounds(
     ensures order { IfOk result (λ b. (r : ℕ) (c : Bound) → slice_get b.relations r ≡ Some c → c.order ≡ order_of model.now r) }
     ensures fixed { IfOk result (λ b. map (λ (c : Bound). c.fixed) b.relations ≡ are_fixed model.now) }
     ensures states { IfOk result (λ b. 0 < scopes.now.states → b.states ≡ scopes.now.states) }
+    ensures uppers { IfOk result (λ b. AreUppers model.now scopes.now b.relations) }
 {
     let spans = spans_of(alloc, scopes)?;
-    let all = sketches(alloc, model, &spans)?;
+    let sigs = model.sigs.as_slice();
+    let ups = tops(alloc, sigs)?;
+    let all = sketches(alloc, model, &ups, &spans)?;
     let states = states_of(scopes.states);
     if cells(&spans, &all, states) > MOST_CELLS {
         return Err(BoundsFault::Refused(Refusal {
@@ -261,5 +418,6 @@ pub fn bounds(
             place: keyword,
         }));
     }
-    Ok(table_of(alloc, model, &spans, &all, states)?)
+    let found = table_of(alloc, model, &spans, &all, states)?;
+    Ok(found)
 }

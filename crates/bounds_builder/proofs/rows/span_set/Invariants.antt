@@ -1,5 +1,6 @@
-use Rattle.std.proofs.Common.{◌≡◌}
+use Rattle.tuple_sets.specs.Sets.{HasJust}
+use Rattle.bounds_builder.proofs.Filling.{InFirst}
 use Rattle.bounds_builder.proofs.rows.span_set.Given as goal
 
 abbrev pub invariant-loop-place : goal.invariant-loop-place
-invariant-loop-place l = l.set.arity ≡ 1
+invariant-loop-place l = HasJust l.set 1 (InFirst l.span.first l.place)
