@@ -1,13 +1,14 @@
 -- The past depth of trees over lists, by the items of the lists.
-use Rattle.std.proofs.Common.{◌≡◌, ℕ, zero, suc, ◌+◌, ◌<◌, ◌≤◌, List, [], ◌∷◌, ◌++◌, map, take, length, get_or, max, refl, sym, ap, ◌∙◌, arith, Vec, Box, Global}
+use Rattle.std.proofs.Common.{◌≡◌, ℕ, zero, suc, ◌+◌, ◌<◌, ◌≤◌, List, [], ◌∷◌, ◌++◌, map, take, length, get_or, max, eqb, if◌then◌else◌, Bool, true, false, refl, sym, ap, ◌∙◌, arith, Vec, Box, Global}
 use Rattle.std.proofs.lemmas.List.{take_more, map-append}
 use Rattle.std.proofs.Math.Nat.{le-max_left, le-max_right}
+use Rattle.std.proofs.Math.Path.{fun_ext}
 use Rattle.core_tree.specs.declared.operators.Quantity.{Quantity}
 use Rattle.core_tree.specs.declared.tree.Variable.{Variable}
 use Rattle.core_tree.specs.declared.tree.Formula.{Formula, Every, ForAll, Counted, Call as CallFormula}
 use Rattle.core_tree.specs.declared.tree.Expr.{Expr, Comprehension, Sum, Call as CallExpr}
-use Rattle.core_tree.specs.Trees.{Term, Claim, Claims, Binder, sig, field, combine, product, unary, prime, inside, equal, test, negation, every, temporal, temporal_pair, no_claims, more_claims, term_of, claim_of, variable_of, variable_list, claim_list}
-use Rattle.core_tree.specs.Past.{no_depths, under_unary, under_binary, past_in, past_of, past_of_each}
+use Rattle.core_tree.specs.Trees.{Term, Variables, Claim, Claims, Binder, sig, field, name, combine, product, unary, prime, inside, equal, within, test, negation, every, for_all, temporal, temporal_pair, no_variables, more_variables, no_claims, more_claims, term_of, claim_of, variable_of, variable_list, claim_list}
+use Rattle.core_tree.specs.Past.{Depths, no_depths, with_depth, under_unary, under_binary, past_in, past_of, past_of_each}
 use Rattle.core_tree.specs.Rows.{every_is, for_all_is, counted_is, call_claim_is, comprehension_is, sum_over_is, call_term_is}
 use Rattle.lasso_sets.specs.Shown.{none_nested}
 use Rattle.lasso_steps.specs.Forms.{IsPlain, IsPlainTerm, ArePlain}
@@ -81,10 +82,22 @@ call_claim_nests body v = ap nested_of (sym (call_claim_is body v))
 
 -- ---- of the forms that are read, it is the past depth
 
+both_same : (b : Bool) (n : ℕ) → (if b then n else n) ≡ n
+both_same true n = refl
+both_same false n = refl
+
+-- an atom nests none
+no_deeper : (x : ℕ) → with_depth no_depths x 0 ≡ no_depths
+no_deeper x = fun_ext (λ y. both_same (eqb y x) 0)
+
+max_zero : (n : ℕ) → n ≡ max n 0
+max_zero n = let p = below_both n 0 n (omega arith) (omega arith) in let q = le-max_left n 0 in omega (arith, p, q)
+
 mutual
   term_depth : (e : Term) → IsPlainTerm e → past_in none_nested e no_depths ≡ nested_in e
   term_depth (sig s) plain = refl
   term_depth (field f) plain = refl
+  term_depth (name x) plain = refl
   term_depth (combine op a b) plain = ap (λ n. max n (past_in none_nested b no_depths)) (term_depth a plain.0) ∙ ap (max (nested_in a)) (term_depth b plain.1)
   term_depth (product a m n b) plain = ap (λ k. max k (past_in none_nested b no_depths)) (term_depth a plain.2) ∙ ap (max (nested_in a)) (term_depth b plain.3)
   term_depth (unary op a) plain = term_depth a plain.1
@@ -94,9 +107,13 @@ mutual
   pub claim_depth : (f : Claim) → IsPlain f → past_of none_nested f no_depths ≡ nested_of f
   claim_depth (inside a b) plain = ap (λ n. max n (past_in none_nested b no_depths)) (term_depth a plain.0) ∙ ap (max (nested_in a)) (term_depth b plain.1)
   claim_depth (equal a b) plain = ap (λ n. max n (past_in none_nested b no_depths)) (term_depth a plain.0) ∙ ap (max (nested_in a)) (term_depth b plain.1)
+  claim_depth (within a m b) plain = ap (λ n. max n (past_in none_nested b no_depths)) (term_depth a plain.0) ∙ ap (max (nested_in a)) (term_depth b plain.1)
   claim_depth (test q a) plain = term_depth a plain
   claim_depth (negation f) plain = claim_depth f plain
   claim_depth (every fs) plain = each_depth fs plain
+  claim_depth (for_all (more_variables x apart e no_variables) f) plain =
+      ap (λ n. max n (past_of none_nested f (with_depth no_depths x 0))) (term_depth e plain.0 ∙ max_zero (nested_in e)) ∙ ap (max (max (nested_in e) 0)) (ap (λ (d : Depths). past_of none_nested f d) (no_deeper x) ∙ claim_depth f plain.1)
+  claim_depth (for_all vs f) plain = absurd plain.0
   claim_depth (temporal op f) plain = ap (under_unary op) (claim_depth f plain.1)
   claim_depth (temporal_pair op f g) plain = ap (under_binary op) (ap (λ n. max n (past_of none_nested g no_depths)) (claim_depth f plain.1) ∙ ap (max (nested_of f)) (claim_depth g plain.2))
   claim_depth f plain = absurd plain

@@ -19,7 +19,7 @@ use Rattle.lasso_frame.specs.Frames.{rounds_of, window_length}
 use Rattle.lasso_frame.specs.Pushes.{push_cases}
 use Rattle.lasso_sets.specs.Loops.{AreChoices}
 use Rattle.lasso_sets.specs.Table.{Decodes}
-use Rattle.lasso_sets.specs.Shown.{Reading, IsReading, Shows, HasPlace, IsRight}
+use Rattle.lasso_sets.specs.Shown.{Reading, under, IsReading, Shows, HasPlace, IsRight}
 use Rattle.lasso_encoder.specs.Firsts.{AreFirsts, SaysRoot}
 use Rattle.lasso_sets.specs.RowLaws.{row_kept, push_last, push_before}
 use Rattle.lasso_encoder.proofs.LoopLaws.{only_same}
@@ -82,7 +82,7 @@ shows_of bounds table x lasso d = record { states = d.states; loop = d.loop.0; r
 no_stretch : Stretch
 no_stretch = record { start = 0; end = 0; back = 0 }
 
-pub root_says : {S : Type 0} (belongs : S → Node → Type 0) (value : S → (ℕ → Bool) → Node → Bool) (r : Reading) (first g h : S) → IsReading r → Keeps belongs value first g → (choices : List Node) → AllIn (belongs first) choices → AreChoices (value first) r.bounds.states r.table.loops choices → (f : Claim) (row : List Node) (n : Node) → IsRight r (value g) f row
+pub root_says : {S : Type 0} (belongs : S → Node → Type 0) (value : S → (ℕ → Bool) → Node → Bool) (r : Reading) (first g h : S) → IsReading r → Keeps belongs value first g → (choices : List Node) → AllIn (belongs first) choices → AreChoices (value first) r.bounds.states r.table.loops choices → (f : Claim) (row : List Node) (n : Node) → IsRight (under r []) (value g) f row
     → ((x : ℕ → Bool) (loop : ℕ) (s : Stretch) → slice_get r.frame.windows.items loop ≡ Some s → IsOnly (value g x) choices loop → value h x n ≡ row_value (value g x) row s.start)
     → (x : ℕ → Bool) (lasso : LassoValue) → Decodes r.bounds r.table x lasso → IsTrue (value h x n) ↔ Holds (world_of r.scopes lasso) no_bodies f no_names 0
 root_says belongs value r first g h ok keeps choices all are f row n right is x lasso d =

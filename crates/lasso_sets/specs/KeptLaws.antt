@@ -51,11 +51,35 @@ module _ {S : Type 0} (belongs : S → Node → Type 0) (value : S → (ℕ → 
             ((λ q. is.0 (sym e ∙ q)), (λ q. e ∙ is.1 q)),
       )
 
+  -- the same of sets that were there first, and are there still
+  first_tuples : (first now : List MatrixEntries) (has : LassoValue → ℕ → Tuples) (numbers : List ℕ) → AllMatrices (belongs g) now → Stay first now → HaveTuples r (value g) first has numbers → HaveTuples r (value h) first has numbers
+  first_tuples first now has numbers all stay have = λ loop k s place.
+      let (m, (number, at, stands), means) = have loop k s place in (
+        m,
+        (number, at, stands),
+        λ x lasso shows loops t.
+            let e = truth_kept belongs value g h keeps m (matrix_belongs (belongs g) now number m all (stay number m stands)) x t in
+            let is = means x lasso shows loops t in
+            ((λ q. is.0 (sym e ∙ q)), (λ q. e ∙ is.1 q)),
+      )
+
+  pub first_kept : (first now : List MatrixEntries) (kept : List (Vec ℕ Global)) → AllMatrices (belongs g) now → Stay first now → AreKept r (value g) first kept → AreKept r (value h) first kept
+  first_kept first now kept all stay are n numbers lt at = elim (are n numbers lt at) [
+    | inl none ↦ inl none
+    | inr of ↦ inr (record { sets = first_tuples first now _ numbers.items all stay of.sets })
+  ]
+
   pub kept_kept : (before after : List MatrixEntries) (kept : List (Vec ℕ Global)) → AllMatrices (belongs g) before → Stay before after → AreKept r (value g) before kept → AreKept r (value h) after kept
   kept_kept before after kept all stay are n numbers lt at = elim (are n numbers lt at) [
     | inl none ↦ inl none
     | inr of ↦ inr (record { sets = tuples_kept before after _ numbers.items all stay of.sets })
   ]
+
+-- sets that stay have the same tuples
+pub of_stays : (r : Reading) (value : (ℕ → Bool) → Node → Bool) (before after : List MatrixEntries) (number : ℕ) (numbers : List ℕ) → Stay before after → AreOf r value before number numbers → AreOf r value after number numbers
+of_stays r value before after number numbers stay of = record {
+  sets = λ loop k s place. (let (m, (n, at, stands), means) = of.sets loop k s place in (m, (n, at, stay n m stands), means));
+}
 
 -- an expression's sets beside a row that is put on the stack
 pub again_right : {S : Type 0} (belongs : S → Node → Type 0) (value : S → (ℕ → Bool) → Node → Bool) (r : Reading) (g h : S) → Keeps belongs value g h → (before after : Store) (e : Term) (numbers : List ℕ) → AreStored (belongs g) before → AreBeside before after → AreRight r (value g) before.matrices.items e numbers → AreRight r (value h) after.matrices.items e numbers

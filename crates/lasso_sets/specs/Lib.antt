@@ -7,3 +7,5 @@ pub mod RowLaws
 pub mod PlaceLaws
 pub mod RightLaws
 pub mod KeptLaws
+pub mod Lying
+pub mod LyingLaws

@@ -1,5 +1,5 @@
 -- The places of windows show positions, and formulas have the same truth at the next place as at the next position.
-use Rattle.std.proofs.Common.{◌≡◌, ◌↔◌, ◌<◌, ◌≤◌, ◌+◌, ◌-◌, ◌*◌, ◌%◌, ℕ, nat_lt, Bool, length, Some, slice_get, refl, sym, ap, ◌∙◌, subst, arith, inl, inr, if◌then◌else◌}
+use Rattle.std.proofs.Common.{◌≡◌, ◌↔◌, ◌<◌, ◌≤◌, ◌+◌, ◌-◌, ◌*◌, ◌%◌, ℕ, nat_lt, eqb, Bool, true, false, List, [], ◌∷◌, length, Some, slice_get, refl, sym, ap, ◌∙◌, subst, arith, inl, inr, if◌then◌else◌}
 use Rattle.std.proofs.Math.Nat.{mod_self}
 use Rattle.std.proofs.lemmas.Bool.{cases_lt, cond_below, cond_above}
 use Rattle.std.proofs.lemmas.Option.{slice_get_within}
@@ -7,7 +7,8 @@ use Rattle.core_tree.specs.Trees.{Term, Claim}
 use Rattle.core_tree.specs.Past.{no_depths, past_in, past_of}
 use Rattle.core_meaning.specs.Sequence.{LassoValue, period}
 use Rattle.core_meaning.specs.World.{World}
-use Rattle.core_meaning.specs.Meaning.{no_names, InTerm, Holds}
+use Rattle.core_meaning.specs.Operators.{Tuples}
+use Rattle.core_meaning.specs.Meaning.{atom, one_of, InTerm, Holds}
 use Rattle.core_meaning.specs.Called.{no_bodies}
 use Rattle.past_window.specs.Same.{SameTuples}
 use Rattle.past_window.specs.Shifts.{uncounted}
@@ -15,9 +16,9 @@ use Rattle.past_window.specs.Window.{HasLoop, RepeatNames, RepeatBodies}
 use Rattle.past_window.specs.Fold.{repeats_from, window_end, fold_of, fold_below, holds_folded, term_folded}
 use Rattle.lasso_frame.specs.declared.frame.Stretch.{Stretch}
 use Rattle.lasso_frame.specs.Frames.{IsStretch, window_length, place_next}
-use Rattle.lasso_sets.specs.Shown.{Reading, IsReading, Shows, HasPlace, none_nested}
+use Rattle.lasso_sets.specs.Shown.{Atoms, names_of, Reading, IsReading, Shows, HasPlace, none_nested}
 
--- ---- the window law, where nothing is called and no name is bound
+-- ---- the window law, where nothing is called and names stand for atoms
 
 bodies_again : (w : World) (some : HasLoop w.lasso) → RepeatBodies w some no_bodies none_nested
 bodies_again w some = record {
@@ -25,17 +26,26 @@ bodies_again w some = record {
   claims = λ body names d again h i le few far. ((λ v. v), (λ v. v));
 }
 
-names_again : (w : World) (some : HasLoop w.lasso) → RepeatNames w some no_names no_depths
-names_again w some = λ x h i le few far t. ((λ v. v), (λ v. v))
+one_moves : (b : Bool) (a i j : ℕ) (A B : Tuples) (t : List ℕ) → (A t → B t) → one_of b (atom a i) A t → one_of b (atom a j) B t
+one_moves true a i j A B t same is = is
+one_moves false a i j A B t same is = same is
+
+-- an atom is the same at every position
+atoms_move : (atoms : Atoms) (x i j : ℕ) (t : List ℕ) → names_of atoms x i t → names_of atoms x j t
+atoms_move [] x i j t is = is
+atoms_move (b ∷ atoms) x i j t is = one_moves (eqb x b.0) b.1 i j (names_of atoms x i) (names_of atoms x j) t (atoms_move atoms x i j t) is
+
+names_again : (w : World) (some : HasLoop w.lasso) (atoms : Atoms) → RepeatNames w some (names_of atoms) no_depths
+names_again w some atoms = λ x h i le few far t. (atoms_move atoms x i _ t, atoms_move atoms x _ i t)
 
 few_enough : (h : ℕ) → h ≤ 8 → h < uncounted
 few_enough h le = omega arith
 
-pub holds_folds : (w : World) (f : Claim) (h i : ℕ) → HasLoop w.lasso → h ≤ 8 → past_of none_nested f no_depths ≤ h → Holds w no_bodies f no_names (fold_of w.lasso h i) ↔ Holds w no_bodies f no_names i
-holds_folds w f h i some few le = holds_folded w some no_bodies none_nested (bodies_again w some) f no_names no_depths (names_again w some) h le (few_enough h few) i
+pub holds_folds : (w : World) (atoms : Atoms) (f : Claim) (h i : ℕ) → HasLoop w.lasso → h ≤ 8 → past_of none_nested f no_depths ≤ h → Holds w no_bodies f (names_of atoms) (fold_of w.lasso h i) ↔ Holds w no_bodies f (names_of atoms) i
+holds_folds w atoms f h i some few le = holds_folded w some no_bodies none_nested (bodies_again w some) f (names_of atoms) no_depths (names_again w some atoms) h le (few_enough h few) i
 
-pub term_folds : (w : World) (e : Term) (h i : ℕ) → HasLoop w.lasso → h ≤ 8 → past_in none_nested e no_depths ≤ h → SameTuples (InTerm w no_bodies e no_names (fold_of w.lasso h i)) (InTerm w no_bodies e no_names i)
-term_folds w e h i some few le = term_folded w some no_bodies none_nested (bodies_again w some) e no_names no_depths (names_again w some) h le (few_enough h few) i
+pub term_folds : (w : World) (atoms : Atoms) (e : Term) (h i : ℕ) → HasLoop w.lasso → h ≤ 8 → past_in none_nested e no_depths ≤ h → SameTuples (InTerm w no_bodies e (names_of atoms) (fold_of w.lasso h i)) (InTerm w no_bodies e (names_of atoms) i)
+term_folds w atoms e h i some few le = term_folded w some no_bodies none_nested (bodies_again w some) e (names_of atoms) no_depths (names_again w some atoms) h le (few_enough h few) i
 
 -- ---- windows
 

@@ -1,5 +1,5 @@
 -- The sets of relations at states and at places.
-use Rattle.std.specs.Prelude.{◌≡◌, ◌<◌, ℕ, Bool, List, Some, slice_get}
+use Rattle.std.specs.Prelude.{◌≡◌, ◌<◌, ℕ, Bool, List, [], Some, slice_get}
 use Rattle.gate_trait.specs.declared.node.Node.{Node}
 use Rattle.bool_matrix.specs.Matrices.{MatrixEntries}
 use Rattle.expr_encoder.specs.Sets.{MeansSet}
@@ -11,7 +11,7 @@ use Rattle.lasso_sets.specs.Shown.{Reading}
 
 -- how formulas are read in a setting
 abbrev pub reading_of : Setting → ℕ → Reading
-reading_of s depth = record { bounds = s.bounds.now; table = s.layout.now; scopes = s.scopes.now; frame = s.frame.now; depth = depth }
+reading_of s depth = record { bounds = s.bounds.now; table = s.layout.now; scopes = s.scopes.now; frame = s.frame.now; depth = depth; atoms = [] }
 
 -- the set of this number has the tuples of the relation at the state
 abbrev pub AddsState : ((ℕ → Bool) → Node → Bool) → List MatrixEntries → Bound → Cells → ℕ → ℕ → Type 0

@@ -1,7 +1,7 @@
 -- Rows and sets that are made of right ones are right.
-use Rattle.std.proofs.Common.{◌≡◌, ◌↔◌, ◌<◌, ◌≤◌, ◌+◌, ◌-◌, ◌&&◌, ℕ, Bool, true, false, not, IsTrue, List, [], ◌∷◌, length, refl, sym, ap, ◌∙◌, subst, arith}
+use Rattle.std.proofs.Common.{◌≡◌, ◌↔◌, ◌<◌, ◌≤◌, ◌+◌, ◌-◌, ◌&&◌, ℕ, zero, suc, eqb, Bool, true, false, not, IsTrue, List, [], ◌∷◌, ◌++◌, length, replicate, slice_get, Option, Some, None, refl, sym, ap, ◌∙◌, subst, arith, if◌then◌else◌}
 use Rattle.gate_trait.specs.declared.node.Node.{Node}
-use Rattle.core_tree.specs.Trees.{Term, Claim, Claims, combine, product, unary, prime, inside, equal, test, negation, every, temporal, temporal_pair, no_claims, more_claims}
+use Rattle.core_tree.specs.Trees.{Term, Claim, Claims, name, combine, product, unary, prime, inside, equal, test, negation, every, temporal, temporal_pair, no_claims, more_claims}
 use Rattle.core_tree.specs.Past.{no_depths, past_in, past_of}
 use Rattle.core_tree.specs.declared.operators.Multiplicity.TheVariants.{Set}
 use Rattle.core_tree.specs.declared.operators.RelationOp.{RelationOp}
@@ -11,23 +11,30 @@ use Rattle.core_tree.specs.declared.operators.UnaryRelation.TheVariants.{Transpo
 use Rattle.core_tree.specs.declared.operators.Quantity.TheVariants.{Some as SomeOf, No as NoneOf, One as OneOf, Lone as LoneOf}
 use Rattle.core_meaning.specs.World.{World}
 use Rattle.core_meaning.specs.Kept.{world_of}
-use Rattle.core_meaning.specs.Meaning.{no_names, InTerm, Holds}
+use Rattle.core_meaning.specs.Operators.{Tuples}
+use Rattle.core_meaning.specs.Meaning.{atom, one_of, InTerm, Holds}
 use Rattle.core_meaning.specs.Called.{no_bodies}
-use Rattle.past_window.specs.Same.{same_trans, combined_same, product_same, closure_same, inside_same, some_same, lone_same}
+use Rattle.past_window.specs.Same.{SameTuples, same_trans, combined_same, product_same, closure_same, inside_same, some_same, lone_same}
 use Rattle.past_window.specs.Fold.{repeats_from, fold_of}
 use Rattle.bool_matrix.specs.Matrices.{MatrixEntries, truth}
-use Rattle.expr_encoder.specs.Sets.{set_of}
+use Rattle.expr_encoder.specs.Sets.{MeansSet, set_of}
+use Rattle.set_circuits.specs.Sets.{one_atom}
 use Rattle.set_circuits.specs.declared.operators.SetOperator.TheVariants.{Combine, Product, Transpose, Closure}
 use Rattle.set_circuits.specs.declared.questions.Question.TheVariants.{Inside, Some as SomeQuestion, Lone as LoneQuestion}
 use Rattle.temporal_rows.specs.Rows.{row_value, folded}
 use Rattle.temporal_rows.specs.Times.{UntilAt, SinceAt}
 use Rattle.lasso_frame.specs.Frames.{place_next}
+use Rattle.lasso_frame.specs.Pushes.{push_last}
 use Rattle.lasso_frame.specs.Pairing.{IsMoved}
 use Rattle.lasso_stack.specs.declared.windows.TimeOperator.TheVariants.{Before, Since, Until}
 use Rattle.lasso_stack.specs.Rows.{AreBoth, IsSpread, IsAlong, IsNegated, IsConstant}
 use Rattle.lasso_stack.specs.Sets.{AreMade, AreAnswered}
-use Rattle.lasso_sets.specs.Shown.{Reading, IsReading, HasPlace, IsRight, AreRight, none_nested}
+use Rattle.lasso_sets.specs.Shown.{Atoms, names_of, atom_in, Reading, under, IsReading, HasPlace, IsRight, AreRight, none_nested}
 use Rattle.lasso_sets.specs.PlaceLaws.{holds_folds, term_folds, loop_of, place_within, next_is, next_place, next_at, loop_below, fold_place, back_is}
+
+-- the same reading where names stand for atoms
+pub ok_under : (r : Reading) (atoms : Atoms) → IsReading r → IsReading (under r atoms)
+ok_under r atoms ok = record { frame = ok.frame; few = ok.few }
 
 pub true_same : {P : Type 0} (a b : Bool) → a ≡ b → IsTrue b ↔ P → IsTrue a ↔ P
 true_same a b e h = ((λ t. h.0 (sym e ∙ t)), (λ p. e ∙ h.1 p))
@@ -87,10 +94,10 @@ after_right r value f row new ok le right spread = record {
       let n = place_next r.bounds.states (r.depth + 1) loop k in
       let there = next_place r ok loop k s some place in
       let same = spread.values x (s.start + k) (s.start + n) (next_at r ok loop k s place) in
-      let folds = holds_folds (world_of r.scopes lasso) f r.depth (k + 1) (loop_of r x lasso shows) ok.few le in
+      let folds = holds_folds (world_of r.scopes lasso) r.atoms f r.depth (k + 1) (loop_of r x lasso shows) ok.few le in
       let is = next_is r ok x lasso loop k s shows at place in
       let here = right.holds loop n s there x lasso shows at in
-      true_same _ _ same (same_trans (subst (λ (j : ℕ). IsTrue (row_value (value x) row (s.start + n)) ↔ Holds (world_of r.scopes lasso) no_bodies f no_names j) is here) folds);
+      true_same _ _ same (same_trans (subst (λ (j : ℕ). IsTrue (row_value (value x) row (s.start + n)) ↔ Holds (world_of r.scopes lasso) no_bodies f (names_of r.atoms) j) is here) folds);
 }
 
 -- along a window
@@ -103,9 +110,9 @@ until_right r old new f g a b row ok le le_g first second along = record {
       let some = loop_of r x lasso shows in
       let is = λ (j : ℕ). ap (λ (m : ℕ). folded m (s.end - s.start - (s.back - s.start)) j) back.0 ∙ ap (λ (p : ℕ). folded (repeats_from lasso r.depth) p j) back.1 in
       let there = fold_place r ok x lasso loop k s shows at place in
-      let left = λ (j : ℕ). same_trans (true_same _ _ (ap (λ (n : ℕ). row_value (old x) a (s.start + n)) (is j)) (first.holds loop (fold_of lasso r.depth j) s (there j) x lasso shows at)) (holds_folds w f r.depth j some ok.few le) in
-      let right = λ (j : ℕ). same_trans (true_same _ _ (ap (λ (n : ℕ). row_value (old x) b (s.start + n)) (is j)) (second.holds loop (fold_of lasso r.depth j) s (there j) x lasso shows at)) (holds_folds w g r.depth j some ok.few le_g) in
-      until_means _ _ (λ j. Holds w no_bodies f no_names j) (λ j. Holds w no_bodies g no_names j) k _ (along.values x loop s place.0 k place.1) left right;
+      let left = λ (j : ℕ). same_trans (true_same _ _ (ap (λ (n : ℕ). row_value (old x) a (s.start + n)) (is j)) (first.holds loop (fold_of lasso r.depth j) s (there j) x lasso shows at)) (holds_folds w r.atoms f r.depth j some ok.few le) in
+      let right = λ (j : ℕ). same_trans (true_same _ _ (ap (λ (n : ℕ). row_value (old x) b (s.start + n)) (is j)) (second.holds loop (fold_of lasso r.depth j) s (there j) x lasso shows at)) (holds_folds w r.atoms g r.depth j some ok.few le_g) in
+      until_means _ _ (λ j. Holds w no_bodies f (names_of r.atoms) j) (λ j. Holds w no_bodies g (names_of r.atoms) j) k _ (along.values x loop s place.0 k place.1) left right;
 }
 
 pub since_right : (r : Reading) (old new : (ℕ → Bool) → Node → Bool) (f g : Claim) (a b row : List Node) → IsReading r → IsRight r old f a → IsRight r old g b → IsAlong Since old new r.frame a b row → IsRight r new (temporal_pair SinceOf f g) row
@@ -115,7 +122,7 @@ since_right r old new f g a b row ok first second along = record {
       let w = world_of r.scopes lasso in
       let lt = place.1 in
       let earlier = λ (j : ℕ) (le : j ≤ k). (let there : HasPlace r.frame loop s j = (place.0, omega (arith, le, lt)) in there) in
-      since_means _ _ (λ j. Holds w no_bodies f no_names j) (λ j. Holds w no_bodies g no_names j) k _ (along.values x loop s place.0 k place.1)
+      since_means _ _ (λ j. Holds w no_bodies f (names_of r.atoms) j) (λ j. Holds w no_bodies g (names_of r.atoms) j) k _ (along.values x loop s place.0 k place.1)
       (λ j le. first.holds loop j s (earlier j le) x lasso shows at) (λ j le. second.holds loop j s (earlier j le) x lasso shows at);
 }
 
@@ -125,7 +132,7 @@ before_right r old new g a b row ok second along = record {
   holds = λ loop k s place x lasso shows at.
       let w = world_of r.scopes lasso in
       let lt = place.1 in
-      before_means (λ j. IsTrue (row_value (old x) b (s.start + j))) (λ j. Holds w no_bodies g no_names j) k _ (along.values x loop s place.0 k place.1)
+      before_means (λ j. IsTrue (row_value (old x) b (s.start + j))) (λ j. Holds w no_bodies g (names_of r.atoms) j) k _ (along.values x loop s place.0 k place.1)
       (λ some. (let there : HasPlace r.frame loop s (k - 1) = (place.0, omega (arith, lt)) in second.holds loop (k - 1) s there x lasso shows at));
 }
 
@@ -137,7 +144,7 @@ combine_right r old new before after op a b first second row left right made = r
       let (p, at_p, means_p) = left.sets loop k s place in
       let (q, at_q, means_q) = right.sets loop k s place in
       let (m, there, means) = made (s.start + k) p q at_p at_q in
-      (m, there, λ x lasso shows at t. same_trans (means x t) (combined_same op (set_of (old x) p) (InTerm (world_of r.scopes lasso) no_bodies a no_names k) (set_of (old x) q) (InTerm (world_of r.scopes lasso) no_bodies b no_names k) (means_p x lasso shows at) (means_q x lasso shows at) t));
+      (m, there, λ x lasso shows at t. same_trans (means x t) (combined_same op (set_of (old x) p) (InTerm (world_of r.scopes lasso) no_bodies a (names_of r.atoms) k) (set_of (old x) q) (InTerm (world_of r.scopes lasso) no_bodies b (names_of r.atoms) k) (means_p x lasso shows at) (means_q x lasso shows at) t));
 }
 
 pub product_right : (r : Reading) (old new : (ℕ → Bool) → Node → Bool) (before after : List MatrixEntries) (a b : Term) (first second row : List ℕ) → AreRight r old before a first → AreRight r old before b second → AreMade Product old new before after first second row → AreRight r new after (product a Set Set b) row
@@ -146,7 +153,7 @@ product_right r old new before after a b first second row left right made = reco
       let (p, at_p, means_p) = left.sets loop k s place in
       let (q, at_q, means_q) = right.sets loop k s place in
       let (m, there, means) = made (s.start + k) p q at_p at_q in
-      (m, there, λ x lasso shows at t. same_trans (means x t) (product_same (set_of (old x) p) (InTerm (world_of r.scopes lasso) no_bodies a no_names k) (set_of (old x) q) (InTerm (world_of r.scopes lasso) no_bodies b no_names k) (means_p x lasso shows at) (means_q x lasso shows at) t));
+      (m, there, λ x lasso shows at t. same_trans (means x t) (product_same (set_of (old x) p) (InTerm (world_of r.scopes lasso) no_bodies a (names_of r.atoms) k) (set_of (old x) q) (InTerm (world_of r.scopes lasso) no_bodies b (names_of r.atoms) k) (means_p x lasso shows at) (means_q x lasso shows at) t));
 }
 
 pub closure_right : (r : Reading) (old new : (ℕ → Bool) → Node → Bool) (before after : List MatrixEntries) (a : Term) (first row : List ℕ) → AreRight r old before a first → AreMade Closure old new before after first first row → AreRight r new after (unary ClosureOf a) row
@@ -154,7 +161,7 @@ closure_right r old new before after a first row left made = record {
   sets = λ loop k s place.
       let (p, at_p, means_p) = left.sets loop k s place in
       let (m, there, means) = made (s.start + k) p p at_p at_p in
-      (m, there, λ x lasso shows at t. same_trans (means x t) (closure_same (set_of (old x) p) (InTerm (world_of r.scopes lasso) no_bodies a no_names k) (means_p x lasso shows at) t));
+      (m, there, λ x lasso shows at t. same_trans (means x t) (closure_same (set_of (old x) p) (InTerm (world_of r.scopes lasso) no_bodies a (names_of r.atoms) k) (means_p x lasso shows at) t));
 }
 
 pub transpose_right : (r : Reading) (old new : (ℕ → Bool) → Node → Bool) (before after : List MatrixEntries) (a : Term) (first row : List ℕ) → AreRight r old before a first → AreMade Transpose old new before after first first row → AreRight r new after (unary TransposeOf a) row
@@ -182,10 +189,33 @@ prime_right r value matrices e numbers new ok le right moved = record {
         (number, moved (s.start + k) (s.start + n) number (next_at r ok loop k s place) at, stands),
         λ x lasso shows loops t.
             let is = next_is r ok x lasso loop k s shows loops place in
-            let folds = term_folds (world_of r.scopes lasso) e r.depth (k + 1) (loop_of r x lasso shows) ok.few le in
+            let folds = term_folds (world_of r.scopes lasso) r.atoms e r.depth (k + 1) (loop_of r x lasso shows) ok.few le in
             let here = means x lasso shows loops t in
-            same_trans (subst (λ (j : ℕ). (truth (value x) m t ≡ true) ↔ InTerm (world_of r.scopes lasso) no_bodies e no_names j t) is here) (folds t),
+            same_trans (subst (λ (j : ℕ). (truth (value x) m t ≡ true) ↔ InTerm (world_of r.scopes lasso) no_bodies e (names_of r.atoms) j t) is here) (folds t),
       );
+}
+
+-- a name: the set of its atom at every place
+atom_one : (b : Bool) (a i : ℕ) (rest : Option ℕ) (A : Tuples) (t : List ℕ) → one_atom rest t ↔ A t → one_atom (if b then Some a else rest) t ↔ one_of b (atom a i) A t
+atom_one true a i rest A t h = ((λ p. p), (λ p. p))
+atom_one false a i rest A t h = h
+
+named : (atoms : Atoms) (x i : ℕ) (t : List ℕ) → one_atom (atom_in atoms x) t ↔ names_of atoms x i t
+named [] x i t = ((λ p. p), (λ p. p))
+named (b ∷ atoms) x i t = atom_one (eqb x b.0) b.1 i (atom_in atoms x) (names_of atoms x i) t (named atoms x i t)
+
+each_same : (n k i : ℕ) → i < n → slice_get (replicate n k) i ≡ Some k
+each_same zero k i lt = absurd (omega arith)
+each_same (suc n) k zero lt = refl
+each_same (suc n) k (suc i) lt = each_same n k i (omega arith)
+
+pub name_right : (r : Reading) → IsReading r → (value : (ℕ → Bool) → Node → Bool) (before after : List MatrixEntries) (m : MatrixEntries) (said : Option ℕ) (x : ℕ) (row : List ℕ) → after ≡ before ++ m ∷ [] → row ≡ replicate (length r.frame.shown.items) (length before) → ((v : ℕ → Bool) → MeansSet (value v) m (one_atom said)) → said ≡ atom_in r.atoms x → AreRight r value after (name x) row
+name_right r ok value before after m said x row is long means same = record {
+  sets = λ loop k s place. (
+    m,
+    (length before, ap (λ (ns : List ℕ). slice_get ns (s.start + k)) long ∙ each_same (length r.frame.shown.items) (length before) (s.start + k) (place_within r ok loop k s place), ap (λ (ms : List MatrixEntries). slice_get ms (length before)) is ∙ push_last before m),
+    λ v lasso shows at t. same_trans (means v t) (subst (λ (o : Option ℕ). one_atom o t ↔ names_of r.atoms x k t) (sym same) (named r.atoms x k t)),
+  );
 }
 
 -- ---- tests
@@ -199,7 +229,7 @@ inside_right r old new matrices a b first second row left right says = record {
   holds = λ loop k s place x lasso shows at.
       let (p, at_p, means_p) = left.sets loop k s place in
       let (q, at_q, means_q) = right.sets loop k s place in
-      same_trans ((says (s.start + k) p q at_p at_q).1 x) (inside_same (set_of (old x) p) (InTerm (world_of r.scopes lasso) no_bodies a no_names k) (set_of (old x) q) (InTerm (world_of r.scopes lasso) no_bodies b no_names k) (means_p x lasso shows at) (means_q x lasso shows at));
+      same_trans ((says (s.start + k) p q at_p at_q).1 x) (inside_same (set_of (old x) p) (InTerm (world_of r.scopes lasso) no_bodies a (names_of r.atoms) k) (set_of (old x) q) (InTerm (world_of r.scopes lasso) no_bodies b (names_of r.atoms) k) (means_p x lasso shows at) (means_q x lasso shows at));
 }
 
 pub some_right : (r : Reading) (old new : (ℕ → Bool) → Node → Bool) (matrices : List MatrixEntries) (a : Term) (first : List ℕ) (row : List Node) → AreRight r old matrices a first → AreAnswered SomeQuestion old new matrices first first row → IsRight r new (test SomeOf a) row
@@ -207,7 +237,7 @@ some_right r old new matrices a first row left says = record {
   inside = λ loop k s place. (let (p, at_p, means_p) = left.sets loop k s place in (says (s.start + k) p p at_p at_p).0);
   holds = λ loop k s place x lasso shows at.
       let (p, at_p, means_p) = left.sets loop k s place in
-      same_trans ((says (s.start + k) p p at_p at_p).1 x) (some_same (set_of (old x) p) (InTerm (world_of r.scopes lasso) no_bodies a no_names k) (means_p x lasso shows at));
+      same_trans ((says (s.start + k) p p at_p at_p).1 x) (some_same (set_of (old x) p) (InTerm (world_of r.scopes lasso) no_bodies a (names_of r.atoms) k) (means_p x lasso shows at));
 }
 
 pub lone_right : (r : Reading) (old new : (ℕ → Bool) → Node → Bool) (matrices : List MatrixEntries) (a : Term) (first : List ℕ) (row : List Node) → AreRight r old matrices a first → AreAnswered LoneQuestion old new matrices first first row → IsRight r new (test LoneOf a) row
@@ -215,11 +245,11 @@ lone_right r old new matrices a first row left says = record {
   inside = λ loop k s place. (let (p, at_p, means_p) = left.sets loop k s place in (says (s.start + k) p p at_p at_p).0);
   holds = λ loop k s place x lasso shows at.
       let (p, at_p, means_p) = left.sets loop k s place in
-      same_trans ((says (s.start + k) p p at_p at_p).1 x) (lone_same (set_of (old x) p) (InTerm (world_of r.scopes lasso) no_bodies a no_names k) (means_p x lasso shows at));
+      same_trans ((says (s.start + k) p p at_p at_p).1 x) (lone_same (set_of (old x) p) (InTerm (world_of r.scopes lasso) no_bodies a (names_of r.atoms) k) (means_p x lasso shows at));
 }
 
 -- a test that asks two others
-pub both_right : (r : Reading) (old new : (ℕ → Bool) → Node → Bool) (f g h : Claim) (a b row : List Node) → ((w : World) (k : ℕ) → (Holds w no_bodies f no_names k × Holds w no_bodies g no_names k) ↔ Holds w no_bodies h no_names k) → IsRight r old f a → IsRight r old g b → AreBoth old new a b row → IsRight r new h row
+pub both_right : (r : Reading) (old new : (ℕ → Bool) → Node → Bool) (f g h : Claim) (a b row : List Node) → ((w : World) (k : ℕ) → (Holds w no_bodies f (names_of r.atoms) k × Holds w no_bodies g (names_of r.atoms) k) ↔ Holds w no_bodies h (names_of r.atoms) k) → IsRight r old f a → IsRight r old g b → AreBoth old new a b row → IsRight r new h row
 both_right r old new f g h a b row same first second both = record {
   inside = λ loop k s place. (let l = first.inside loop k s place in let m = both.long in omega (arith, l, m));
   holds = λ loop k s place x lasso shows at.

@@ -1,5 +1,5 @@
 -- What rows of nodes and of sets say of the lassos that an assignment shows.
-use Rattle.std.specs.Prelude.{◌≡◌, ◌↔◌, ◌⊎◌, ◌<◌, ◌≤◌, ◌+◌, ◌-◌, ℕ, Bool, List, [], length, slice_get, Some, IsTrue, Vec}
+use Rattle.std.specs.Prelude.{◌≡◌, ◌↔◌, ◌⊎◌, ◌<◌, ◌≤◌, ◌+◌, ◌-◌, ℕ, Bool, List, [], ◌∷◌, length, slice_get, Option, Some, None, eqb, if◌then◌else◌, IsTrue, Vec}
 use Rattle.std.specs.declared.alloc.Global.{Global}
 use Rattle.gate_trait.specs.declared.node.Node.{Node}
 use Rattle.core_tree.specs.Trees.{Term, Claim}
@@ -9,7 +9,7 @@ use Rattle.core_meaning.specs.Sequence.{LassoValue}
 use Rattle.core_meaning.specs.World.{InRelation}
 use Rattle.core_meaning.specs.Kept.{world_of}
 use Rattle.core_meaning.specs.Operators.{Tuples}
-use Rattle.core_meaning.specs.Meaning.{no_names, InTerm, Holds}
+use Rattle.core_meaning.specs.Meaning.{Names, no_names, with_name, atom, InTerm, Holds}
 use Rattle.core_meaning.specs.Called.{no_bodies}
 use Rattle.bool_matrix.specs.Matrices.{MatrixEntries}
 use Rattle.expr_encoder.specs.Sets.{MeansSet}
@@ -24,13 +24,33 @@ use Rattle.lasso_frame.specs.Frames.{IsFrame}
 use Rattle.lasso_stack.specs.Sets.{StandsAt}
 use Rattle.lasso_sets.specs.Table.{InState, InTable}
 
--- in what formulas are read: the table, the scopes, the places, and how deep past operators nest
+-- for which atoms names stand, the latest first
+abbrev pub Atoms : Type 0
+Atoms = List (ℕ × ℕ)
+
+-- what the names stand for
+abbrev pub names_of : Atoms → Names
+names_of [] = no_names
+names_of (b ∷ atoms) = with_name (names_of atoms) b.0 (atom b.1)
+
+-- the atom for which a name stands, if it stands for one
+abbrev pub atom_in : Atoms → ℕ → Option ℕ
+atom_in [] x = None
+atom_in (b ∷ atoms) x = if eqb x b.0 then Some b.1 else atom_in atoms x
+
+-- in what formulas are read: the table, the scopes, the places, how deep past operators nest, and for which
+-- atoms names stand
 pub record Reading : Type 0 where
   pub bounds : Bounds
   pub table : Layout
   pub scopes : Scopes
   pub frame : Frame
   pub depth : ℕ
+  pub atoms : Atoms
+
+-- the same where names stand for these atoms
+abbrev pub under : Reading → Atoms → Reading
+under r atoms = record { bounds = r.bounds; table = r.table; scopes = r.scopes; frame = r.frame; depth = r.depth; atoms = atoms }
 
 -- nothing is called
 abbrev pub none_nested : BodyDepths
@@ -55,7 +75,7 @@ HasPlace frame loop s k = (slice_get frame.windows.items loop ≡ Some s) × (k 
 -- a row is true at the places of each window where a formula holds in the lassos whose loop begins there
 pub record IsRight (r : Reading) (value : (ℕ → Bool) → Node → Bool) (f : Claim) (row : List Node) : Type 0 where
   pub inside : (loop k : ℕ) (s : Stretch) → HasPlace r.frame loop s k → s.start + k < length row
-  pub holds : (loop k : ℕ) (s : Stretch) → HasPlace r.frame loop s k → (x : ℕ → Bool) (lasso : LassoValue) → Shows r.bounds r.table x lasso → lasso.loop_start ≡ loop → IsTrue (row_value (value x) row (s.start + k)) ↔ Holds (world_of r.scopes lasso) no_bodies f no_names k
+  pub holds : (loop k : ℕ) (s : Stretch) → HasPlace r.frame loop s k → (x : ℕ → Bool) (lasso : LassoValue) → Shows r.bounds r.table x lasso → lasso.loop_start ≡ loop → IsTrue (row_value (value x) row (s.start + k)) ↔ Holds (world_of r.scopes lasso) no_bodies f (names_of r.atoms) k
 
 -- at each place of each window stands a set, which has the tuples that are given for the position
 abbrev pub HaveTuples : Reading → ((ℕ → Bool) → Node → Bool) → List MatrixEntries → (LassoValue → ℕ → Tuples) → List ℕ → Type 0
@@ -65,7 +85,7 @@ HaveTuples r value matrices has numbers =
 
 -- the tuples of an expression
 pub record AreRight (r : Reading) (value : (ℕ → Bool) → Node → Bool) (matrices : List MatrixEntries) (e : Term) (numbers : List ℕ) : Type 0 where
-  pub sets : HaveTuples r value matrices (λ lasso k. InTerm (world_of r.scopes lasso) no_bodies e no_names k) numbers
+  pub sets : HaveTuples r value matrices (λ lasso k. InTerm (world_of r.scopes lasso) no_bodies e (names_of r.atoms) k) numbers
 
 -- the tuples of a relation
 pub record AreOf (r : Reading) (value : (ℕ → Bool) → Node → Bool) (matrices : List MatrixEntries) (relation : ℕ) (numbers : List ℕ) : Type 0 where

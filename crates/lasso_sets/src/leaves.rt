@@ -6,7 +6,8 @@ ghost use Rattle.bool_matrix.specs.Matrices.{MatrixEntries};
 ghost use Rattle.expr_encoder.specs.Sets.{MeansSet};
 ghost use Rattle.lasso_stack.specs.Rows.{Grows};
 ghost use Rattle.lasso_stack.specs.Stored.{AreStored};
-ghost use Rattle.lasso_sets.specs.Shown.{IsReading, AreOf};
+ghost use Rattle.core_tree.specs.Trees.{name as named};
+ghost use Rattle.lasso_sets.specs.Shown.{Atoms, atom_in, under, IsReading, AreOf, AreRight};
 ghost use Rattle.lasso_sets.specs.Relations.{AddsState, AtStates, AtShown, reading_of};
 
 use crate::scopes::{cells_of, first_variable};
@@ -184,9 +185,12 @@ pub fn name_sets<G: Gates>(
     requires { AreStored (G.belongs gates.now) store.old }
     ensures stored { OnOk result (AreStored (G.belongs gates.now) store.new) }
     ensures grows { OnOk result (Grows store.old store.new) }
+    ensures right { IfOk result (λ numbers. (depth : ℕ) (atoms : Atoms) (x : ℕ) → IsReading (reading_of setting.now depth) → atom ≡ atom_in atoms x
+        → AreRight (under (reading_of setting.now depth) atoms) (G.node_value gates.now) store.new.matrices.items (named x) numbers.items) }
 {
     let matrix = atom_matrix(alloc, gates, atom)?;
-    let row = one_set(alloc, gates, store, matrix, setting.frame.len())?;
+    let count = setting.frame.shown.len();
+    let row = one_set(alloc, gates, store, matrix, count)?;
     Ok(row)
 }
 

@@ -1,6 +1,6 @@
 // Adding to a store and taking from it.
 
-ghost use Rattle.std.specs.Prelude.{◌≡◌, ◌∷◌, [], ◌++◌, ℕ, Bool, List, IfOk, OnOk, length};
+ghost use Rattle.std.specs.Prelude.{◌≡◌, ◌∷◌, [], ◌++◌, ℕ, Bool, List, IfOk, OnOk, length, take};
 ghost use Rattle.gate_trait.specs.Built.{AllIn};
 ghost use Rattle.gate_trait.specs.declared.node.Node.{Node as CircuitNode};
 ghost use Rattle.bool_matrix.specs.Matrices.{AllBelong};
@@ -123,7 +123,9 @@ pub fn drop_found<G: Gates>(gates: &G, store: &mut Store, base: usize)
 /// Leaves the sets and integers that there were.
 pub fn cut<G: Gates>(gates: &G, store: &mut Store, mark: Mark)
     requires { AreStored (G.belongs gates.now) store.old }
-    ensures { AreStored (G.belongs gates.now) store.new }
+    ensures stored { AreStored (G.belongs gates.now) store.new }
+    ensures rows { store.new.rows.items ≡ store.old.rows.items }
+    ensures matrices { store.new.matrices.items ≡ take mark.matrices store.old.matrices.items }
 {
     let _ = gates;
     store.matrices.truncate(mark.matrices);

@@ -28,7 +28,9 @@ pub struct Mark {
 
 impl Store {
     /// How many sets and integers there are.
-    pub fn mark(&self) -> Mark {
+    pub fn mark(&self) -> Mark
+        ensures { result.matrices ≡ length self.now.matrices.items }
+    {
         Mark {
             matrices: self.matrices.len(),
             integers: self.integers.len(),

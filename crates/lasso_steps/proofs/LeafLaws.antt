@@ -13,13 +13,15 @@ use Rattle.lasso_stack.specs.Rows.{IsPushed, IsConstant}
 use Rattle.lasso_steps.specs.declared.plan.Task.{Task}
 use Rattle.lasso_steps.specs.declared.plan.Task.TheVariants.{Sets, Holds}
 use Rattle.lasso_steps.specs.declared.plan.Plan.{Plan}
-use Rattle.lasso_sets.specs.Shown.{Reading, IsReading, AreRight, AreOf}
+use Rattle.lasso_sets.specs.Shown.{Atoms, Reading, under, IsReading, AreRight, AreOf}
+use Rattle.lasso_sets.specs.KeptLaws.{of_stays}
+use Rattle.lasso_steps.specs.Said.{Said, claimed, Valued, valued, Aim, Side, side_of, IsKept}
 use Rattle.lasso_steps.specs.Forms.{IsPlainTerm}
 use Rattle.lasso_steps.specs.Leads.{Leads, RightRows, RightValues, IsOnTheWay}
 use Rattle.lasso_sets.specs.Shown.{AreKept}
 use Rattle.lasso_steps.specs.Opened.{HoldsLeaf, IsOpenedWith, IsPutRow, opened_to}
 use Rattle.lasso_steps.specs.Plans.{todo, IsPut, IsOpened}
-use Rattle.lasso_sets.specs.RightLaws.{nothing_right}
+use Rattle.lasso_sets.specs.RightLaws.{ok_under, nothing_right}
 
 -- what is kept of a relation
 kept_of : (r : Reading) (value : (ℕ → Bool) → Node → Bool) (matrices : List MatrixEntries) (kept : List (Vec ℕ Global)) (number : ℕ) (v : List ℕ) → AreKept r value matrices kept → number < length r.bounds.relations → HoldsLeaf kept number v → AreOf r value matrices number v
@@ -28,74 +30,74 @@ kept_of r value matrices kept number v have lt (n, at, is, some) = elim (have nu
   | inr of ↦ subst (λ (s : List ℕ). AreOf r value matrices number s) (sym is) of
 ]
 
-pub sig_right : (r : Reading) (value : (ℕ → Bool) → Node → Bool) (matrices : List MatrixEntries) (s : ℕ) (v : List ℕ) → AreOf r value matrices s v → AreRight r value matrices (sig s) v
-sig_right r value matrices s v of = record { sets = of.sets }
+pub sig_right : (r : Reading) (atoms : Atoms) (value : (ℕ → Bool) → Node → Bool) (matrices : List MatrixEntries) (s : ℕ) (v : List ℕ) → AreOf r value matrices s v → AreRight (under r atoms) value matrices (sig s) v
+sig_right r atoms value matrices s v of = record { sets = of.sets }
 
-pub field_right : (r : Reading) (value : (ℕ → Bool) → Node → Bool) (matrices : List MatrixEntries) (f n : ℕ) (v : List ℕ) → n ≡ length r.scopes.numbers + f → AreOf r value matrices n v → AreRight r value matrices (field f) v
-field_right r value matrices f n v is of =
+pub field_right : (r : Reading) (atoms : Atoms) (value : (ℕ → Bool) → Node → Bool) (matrices : List MatrixEntries) (f n : ℕ) (v : List ℕ) → n ≡ length r.scopes.numbers + f → AreOf r value matrices n v → AreRight (under r atoms) value matrices (field f) v
+field_right r atoms value matrices f n v is of =
     let same : n ≡ length (map (λ (s : SigScope). s.top) r.scopes.numbers) + f = is ∙ ap (λ (k : ℕ). k + f) (sym (length-map r.scopes.numbers (λ (s : SigScope). s.top))) in
     let other = subst (λ (k : ℕ). AreOf r value matrices k v) same of in
     record { sets = other.sets }
 
 -- a relation's sets are put on the stack
-pub relation_on : (r : Reading) (root : Claim) (value : (ℕ → Bool) → Node → Bool) (store : Store) (old new : Plan) (v : Vec ℕ Global) (number : ℕ) (e : Bor Expr) (scope : ℕ) → ((u : List ℕ) → AreOf r value store.matrices.items number u → AreRight r value store.matrices.items (term_of e.now) u) → number < length r.bounds.relations → IsPut old new v → HoldsLeaf old.kept.items number v.items
-    → IsOnTheWay r root old.kept.items value store old.values.items (Sets e scope ∷ todo old) → IsOnTheWay r root new.kept.items value store new.values.items (todo new)
+pub relation_on : (r : Reading) (root : Aim) (value : (ℕ → Bool) → Node → Bool) (store : Store) (old new : Plan) (v : Vec ℕ Global) (number : ℕ) (e : Bor Expr) (scope : ℕ) → ((atoms : Atoms) (u : List ℕ) → AreOf r value store.matrices.items number u → AreRight (under r atoms) value store.matrices.items (term_of e.now) u) → number < length r.bounds.relations → IsPut old new v → HoldsLeaf old.kept.items number v.items
+    → IsOnTheWay r root (side_of old) value store old.values.items (Sets e scope ∷ todo old) → IsOnTheWay r root (side_of new) value store new.values.items (todo new)
 relation_on r root value store old new v number e scope right lt put holds way = record {
   fs = way.fs;
-  es = term_of e.now ∷ way.es;
+  es = valued way.leads.0 (term_of e.now) ∷ way.es;
   rows_right = way.rows_right;
-  values_right = (old.values.items, v, put.values, right v.items (kept_of r value store.matrices.items old.kept.items number v.items way.kept_right lt holds), way.values_right);
-  kept_right = subst (λ (ks : List (Vec ℕ Global)). AreKept r value store.matrices.items ks) (sym put.kept) way.kept_right;
-  leads = subst (λ (ts : List Task). Leads r.depth root ts way.fs (term_of e.now ∷ way.es)) (sym put.todo_is) way.leads.1;
+  values_right = (old.values.items, v, put.values, right way.leads.0 v.items (of_stays r value root.first store.matrices.items number v.items way.kept_right.stay (kept_of r value root.first old.kept.items number v.items way.kept_right.right lt holds)), way.values_right);
+  kept_right = subst (λ (ks : Side). IsKept r value root store.matrices.items ks) (sym put.kept) way.kept_right;
+  leads = subst (λ (ts : List Task). Leads r.depth root (side_of new).names ts way.fs (valued way.leads.0 (term_of e.now) ∷ way.es)) (sym put.todo_is) (subst (λ (ks : Side). Leads r.depth root ks.names (todo old) way.fs (valued way.leads.0 (term_of e.now) ∷ way.es)) (sym put.kept) way.leads.3);
 }
 
 -- an expression is looked into
-pub opened_on : (r : Reading) (root : Claim) (value : (ℕ → Bool) → Node → Bool) (before after : Store) (old new : Plan) (task : Task) → after ≡ before → IsOpened task old new
-    → IsOnTheWay r root old.kept.items value before old.values.items (task ∷ todo old) → IsOnTheWay r root new.kept.items value after new.values.items (todo new)
-opened_on r root value before after old new task same opened way = subst (λ (s : Store). IsOnTheWay r root new.kept.items value s new.values.items (todo new)) (sym same) (record {
+pub opened_on : (r : Reading) (root : Aim) (value : (ℕ → Bool) → Node → Bool) (before after : Store) (old new : Plan) (task : Task) → after ≡ before → IsOpened task old new
+    → IsOnTheWay r root (side_of old) value before old.values.items (task ∷ todo old) → IsOnTheWay r root (side_of new) value after new.values.items (todo new)
+opened_on r root value before after old new task same opened way = subst (λ (s : Store). IsOnTheWay r root (side_of new) value s new.values.items (todo new)) (sym same) (record {
   fs = way.fs;
   es = way.es;
   rows_right = way.rows_right;
   values_right = subst (λ (vs : List (Vec ℕ Global)). RightValues r value before.matrices.items vs way.es) (sym opened.values) way.values_right;
-  kept_right = subst (λ (ks : List (Vec ℕ Global)). AreKept r value before.matrices.items ks) (sym opened.kept) way.kept_right;
-  leads = opened.leads r.depth root way.fs way.es way.leads;
+  kept_right = subst (λ (ks : Side). IsKept r value root before.matrices.items ks) (sym opened.kept) way.kept_right;
+  leads = subst (λ (ks : Side). Leads r.depth root ks.names (todo new) way.fs way.es) (sym opened.kept) (opened.leads r.depth root old.names.items way.fs way.es way.leads);
 })
 
 -- a formula is looked into
-pub none_on : (r : Reading) (root : Claim) (value : (ℕ → Bool) → Node → Bool) (store : Store) (old new : Plan) (task : Task) (row : Option Bool) → row ≡ None → IsOpenedWith row task old new
-    → IsOnTheWay r root old.kept.items value store old.values.items (task ∷ todo old) → IsOnTheWay r root new.kept.items value store new.values.items (todo new)
+pub none_on : (r : Reading) (root : Aim) (value : (ℕ → Bool) → Node → Bool) (store : Store) (old new : Plan) (task : Task) (row : Option Bool) → row ≡ None → IsOpenedWith row task old new
+    → IsOnTheWay r root (side_of old) value store old.values.items (task ∷ todo old) → IsOnTheWay r root (side_of new) value store new.values.items (todo new)
 none_on r root value store old new task row is opened way = record {
   fs = way.fs;
   es = way.es;
   rows_right = way.rows_right;
   values_right = subst (λ (vs : List (Vec ℕ Global)). RightValues r value store.matrices.items vs way.es) (sym opened.values) way.values_right;
-  kept_right = subst (λ (ks : List (Vec ℕ Global)). AreKept r value store.matrices.items ks) (sym opened.kept) way.kept_right;
-  leads = subst (λ (o : Option Bool). opened_to o r.depth root (todo new) way.fs way.es) is (opened.leads r.depth root way.fs way.es way.leads);
+  kept_right = subst (λ (ks : Side). IsKept r value root store.matrices.items ks) (sym opened.kept) way.kept_right;
+  leads = subst (λ (ks : Side). Leads r.depth root ks.names (todo new) way.fs way.es) (sym opened.kept) (subst (λ (o : Option Bool). opened_to o r.depth root old.names.items (todo new) way.fs way.es) is (opened.leads r.depth root old.names.items way.fs way.es way.leads));
 }
 
-constant_on : (r : Reading) → IsReading r → (root : Claim) (value : (ℕ → Bool) → Node → Bool) (before after : Store) (old new : Plan) (b : Bool) (row : List Node) → IsPushed before after row → IsConstant value (length r.frame.shown.items) b row → new.values.items ≡ old.values.items → new.kept.items ≡ old.kept.items
-    → (fs : List Claim) (es : List Term) → RightRows r value before.rows.items fs → RightValues r value before.matrices.items old.values.items es → AreKept r value before.matrices.items old.kept.items → opened_to (Some b) r.depth root (todo new) fs es → IsOnTheWay r root new.kept.items value after new.values.items (todo new)
+constant_on : (r : Reading) → IsReading r → (root : Aim) (value : (ℕ → Bool) → Node → Bool) (before after : Store) (old new : Plan) (b : Bool) (row : List Node) → IsPushed before after row → IsConstant value (length r.frame.shown.items) b row → new.values.items ≡ old.values.items → side_of new ≡ side_of old
+    → (fs : List Said) (es : List Valued) → RightRows r value before.rows.items fs → RightValues r value before.matrices.items old.values.items es → IsKept r value root before.matrices.items (side_of old) → opened_to (Some b) r.depth root old.names.items (todo new) fs es → IsOnTheWay r root (side_of new) value after new.values.items (todo new)
 constant_on r ok root value before after old new true row pushed const values kept fs es rows right have leads = record {
-  fs = every no_claims ∷ fs;
+  fs = claimed leads.0 (every no_claims) ∷ fs;
   es = es;
-  rows_right = (before.rows.items, row, pushed.rows, nothing_right r value row ok const, rows);
+  rows_right = (before.rows.items, row, pushed.rows, nothing_right (under r leads.0) value row (ok_under r leads.0 ok) const, rows);
   values_right = subst (λ (ms : List MatrixEntries). RightValues r value ms new.values.items es) (sym pushed.matrices) (subst (λ (vs : List (Vec ℕ Global)). RightValues r value before.matrices.items vs es) (sym values) right);
-  kept_right = subst (λ (ms : List MatrixEntries). AreKept r value ms new.kept.items) (sym pushed.matrices) (subst (λ (ks : List (Vec ℕ Global)). AreKept r value before.matrices.items ks) (sym kept) have);
-  leads = leads;
+  kept_right = subst (λ (ms : List MatrixEntries). IsKept r value root ms (side_of new)) (sym pushed.matrices) (subst (λ (ks : Side). IsKept r value root before.matrices.items ks) (sym kept) have);
+  leads = subst (λ (ks : Side). Leads r.depth root ks.names (todo new) (claimed leads.0 (every no_claims) ∷ fs) es) (sym kept) leads.1;
 }
 constant_on r ok root value before after old new false row pushed const values kept fs es rows right have leads = absurd leads
 
-pub some_on : (r : Reading) → IsReading r → (root : Claim) (value : (ℕ → Bool) → Node → Bool) (before after : Store) (old new : Plan) (task : Task) (said : Option Bool) (b : Bool) (row : List Node) → said ≡ Some b → IsOpenedWith said task old new → IsPushed before after row → IsConstant value (length r.frame.shown.items) b row
-    → IsOnTheWay r root old.kept.items value before old.values.items (task ∷ todo old) → IsOnTheWay r root new.kept.items value after new.values.items (todo new)
+pub some_on : (r : Reading) → IsReading r → (root : Aim) (value : (ℕ → Bool) → Node → Bool) (before after : Store) (old new : Plan) (task : Task) (said : Option Bool) (b : Bool) (row : List Node) → said ≡ Some b → IsOpenedWith said task old new → IsPushed before after row → IsConstant value (length r.frame.shown.items) b row
+    → IsOnTheWay r root (side_of old) value before old.values.items (task ∷ todo old) → IsOnTheWay r root (side_of new) value after new.values.items (todo new)
 some_on r ok root value before after old new task said b row is opened pushed const way =
     constant_on r ok root value before after old new b row pushed const opened.values opened.kept way.fs way.es way.rows_right way.values_right way.kept_right
-    (subst (λ (o : Option Bool). opened_to o r.depth root (todo new) way.fs way.es) is (opened.leads r.depth root way.fs way.es way.leads))
+    (subst (λ (o : Option Bool). opened_to o r.depth root old.names.items (todo new) way.fs way.es) is (opened.leads r.depth root old.names.items way.fs way.es way.leads))
 
 -- whatever row the answer names
-pub row_on : (r : Reading) → IsReading r → (root : Claim) (value : (ℕ → Bool) → Node → Bool) (before after : Store) (old new : Plan) (task : Task) (said : Option Bool) → IsOpenedWith said task old new → (said ≡ None → after ≡ before) → ((b : Bool) → said ≡ Some b → IsPutRow before after value (length r.frame.shown.items) b)
-    → IsOnTheWay r root old.kept.items value before old.values.items (task ∷ todo old) → IsOnTheWay r root new.kept.items value after new.values.items (todo new)
+pub row_on : (r : Reading) → IsReading r → (root : Aim) (value : (ℕ → Bool) → Node → Bool) (before after : Store) (old new : Plan) (task : Task) (said : Option Bool) → IsOpenedWith said task old new → (said ≡ None → after ≡ before) → ((b : Bool) → said ≡ Some b → IsPutRow before after value (length r.frame.shown.items) b)
+    → IsOnTheWay r root (side_of old) value before old.values.items (task ∷ todo old) → IsOnTheWay r root (side_of new) value after new.values.items (todo new)
 row_on r ok root value before after old new task None opened none some way =
-    subst (λ (s : Store). IsOnTheWay r root new.kept.items value s new.values.items (todo new)) (sym (none refl)) (none_on r root value before old new task None refl opened way)
+    subst (λ (s : Store). IsOnTheWay r root (side_of new) value s new.values.items (todo new)) (sym (none refl)) (none_on r root value before old new task None refl opened way)
 row_on r ok root value before after old new task (Some b) opened none some way =
     let (row, pushed, const) = some b refl in
     some_on r ok root value before after old new task (Some b) b row refl opened pushed const way

@@ -6,3 +6,5 @@ pub mod LeafLaws
 pub mod StepLaws
 pub mod EndLaws
 pub mod PlainLaws
+mod BindLaws
+mod HeldLaws

@@ -1,5 +1,5 @@
 -- What stands in place of an expression or a formula leads to the same.
-use Rattle.std.proofs.Common.{◌≡◌, ◌≢◌, ◌⊎◌, ◌≤◌, ◌<◌, ◌+◌, ◌-◌, ◌^◌, ℕ, zero, suc, max, Bool, true, false, IsTrue, List, [], ◌∷◌, ◌++◌, map, length, take, get_or, Option, Some, None, slice_get, refl, sym, ap, ◌∙◌, subst, arith, inl, inr, Vec, Box, Global}
+use Rattle.std.proofs.Common.{◌≡◌, ◌≢◌, ◌⊎◌, ◌≤◌, ◌<◌, ◌+◌, ◌-◌, ◌^◌, ℕ, zero, suc, max, eqb, if◌then◌else◌, Bool, true, false, IsTrue, List, [], ◌∷◌, ◌++◌, map, length, take, get_or, Option, Some, None, slice_get, refl, sym, ap, ◌∙◌, subst, arith, inl, inr, Vec, Box, Global}
 use Rattle.std.specs.Borrow.{Bor}
 use Rattle.std.proofs.lemmas.Bool.{cases_lt, cond_below, cond_above}
 use Rattle.std.proofs.Math.Nat.{le-max_left, le-max_right}
@@ -15,8 +15,10 @@ use Rattle.core_tree.specs.declared.operators.TemporalBinary.{TemporalBinary}
 use Rattle.core_tree.specs.declared.operators.TemporalBinary.TheVariants.{Until as UntilOf, Since as SinceOf}
 use Rattle.core_tree.specs.declared.tree.Formula.{Formula}
 use Rattle.core_tree.specs.declared.tree.Expr.{Expr}
-use Rattle.core_tree.specs.Trees.{Term, Claim, Claims, combine, product, unary, prime, inside, equal, test, negation, every, temporal, temporal_pair, no_claims, more_claims, claim_list, term_of, claim_of}
-use Rattle.core_tree.specs.Past.{no_depths, one_more, past_in, past_of, past_of_each}
+use Rattle.core_tree.specs.declared.tree.Variable.{Variable}
+use Rattle.std.proofs.Math.Path.{fun_ext}
+use Rattle.core_tree.specs.Trees.{Term, Claim, Claims, combine, product, unary, prime, inside, equal, within, test, negation, every, temporal, temporal_pair, no_claims, more_claims, claim_list, variable_list, variable_of, term_of, claim_of}
+use Rattle.core_tree.specs.Past.{Depths, no_depths, with_depth, one_more, past_in, past_of, past_of_each}
 use Rattle.set_circuits.specs.declared.operators.SetOperator.{SetOperator}
 use Rattle.set_circuits.specs.declared.operators.SetOperator.TheVariants.{Combine, Product, Transpose, Closure}
 use Rattle.set_circuits.specs.declared.questions.Question.TheVariants.{Inside}
@@ -25,12 +27,14 @@ use Rattle.lasso_stack.specs.declared.numbers.TestOperator.TheVariants.{OfSets a
 use Rattle.lasso_stack.specs.declared.windows.TimeOperator.TheVariants.{Before, Since, Until}
 use Rattle.lasso_steps.specs.declared.plan.ValueStep.TheVariants.{Two, One, Next}
 use Rattle.lasso_steps.specs.declared.plan.RowStep.{RowStep}
-use Rattle.lasso_steps.specs.declared.plan.RowStep.TheVariants.{Asked, Equal, Tested, Negate, Both, After, Along}
+use Rattle.lasso_steps.specs.declared.plan.RowStep.TheVariants.{Asked, Equal, Tested, Lies, Negate, Both, After, Along}
 use Rattle.lasso_steps.specs.declared.plan.Task.{Task}
-use Rattle.lasso_steps.specs.declared.plan.Task.TheVariants.{Sets, Holds, Values, Rows}
+use Rattle.lasso_steps.specs.declared.plan.Task.TheVariants.{Sets, Holds, Values, Rows, ForAll}
 use Rattle.lasso_steps.specs.declared.plan.Plan.{Plan}
-use Rattle.lasso_sets.specs.Shown.{none_nested}
-use Rattle.lasso_steps.specs.Forms.{IsPlain, IsPlainTerm, ArePlain}
+use Rattle.lasso_sets.specs.Shown.{Atoms, none_nested}
+use Rattle.lasso_steps.specs.declared.plan.Name.{Name}
+use Rattle.lasso_steps.specs.Said.{IsScope, all_of, Said, claimed, Valued, valued, Aim, side_of}
+use Rattle.lasso_steps.specs.Forms.{IsPlain, IsPlainTerm, IsPlainBound, ArePlain}
 use Rattle.lasso_steps.specs.Opened.{turned_by, IsOpenedWith}
 use Rattle.lasso_steps.specs.Leads.{Leads, IsRead, IsReadTerm}
 use Rattle.lasso_steps.specs.Plans.{todo, ArePlanned, IsOpened}
@@ -49,9 +53,9 @@ one_less n h le = elim (cases_lt n (2 ^ 32 - 1)) [
 ]
 
 -- tasks that are put before others stand in place of a task that they lead on
-pub opened_by : (task : Task) (tasks : List Task) (old new : Plan) → ArePlanned old new tasks → ((depth : ℕ) (root : Claim) (fs : List Claim) (es : List Term) → Leads depth root (task ∷ todo old) fs es → Leads depth root (tasks ++ todo old) fs es) → IsOpened task old new
+pub opened_by : (task : Task) (tasks : List Task) (old new : Plan) → ArePlanned old new tasks → ((depth : ℕ) (root : Aim) (names : List Name) (fs : List Said) (es : List Valued) → Leads depth root names (task ∷ todo old) fs es → Leads depth root names (tasks ++ todo old) fs es) → IsOpened task old new
 opened_by task tasks old new planned leads = record {
-  leads = λ depth root fs es h. subst (λ (ts : List Task). Leads depth root ts fs es) (sym planned.todo_is) (leads depth root fs es h);
+  leads = λ depth root names fs es h. subst (λ (ts : List Task). Leads depth root names ts fs es) (sym planned.todo_is) (leads depth root names fs es h);
   values = planned.values;
   kept = planned.kept;
 }
@@ -64,37 +68,37 @@ product_plain Set n a b depth (plain, le) = absurd plain.1
 product_plain m n a b depth (plain, le) = absurd plain.0
 
 pub combine_opened : {a b : Bor Expr} {old new : Plan} (op : RelationOp) (e : Bor Expr) (scope : ℕ) → term_of e.now ≡ combine op (term_of a.now) (term_of b.now) → ArePlanned old new (Sets a scope ∷ Sets b scope ∷ Values (Two (OfSets (Combine op))) ∷ []) → IsOpened (Sets e scope) old new
-combine_opened {a} {b} {old} {new} op e scope is planned = opened_by (Sets e scope) _ old new planned (λ depth root fs es (read, leads).
+combine_opened {a} {b} {old} {new} op e scope is planned = opened_by (Sets e scope) _ old new planned (λ depth root names fs es (atoms, scoped, read, leads).
     let (plain, le) = subst (λ (t : Term). IsReadTerm depth t) is read in
-    let rest = subst (λ (t : Term). Leads depth root (todo old) fs (t ∷ es)) is leads in
-    ((plain.0, max_left _ _ depth le), ((plain.1, max_right _ _ depth le), rest)))
+    let rest = subst (λ (t : Term). Leads depth root names (todo old) fs (valued atoms t ∷ es)) is leads in
+    (let one = max_left _ _ depth le in let two = max_right _ _ depth le in (atoms, scoped, (plain.0, one), (atoms, scoped, (plain.1, two), (refl, rest)))))
 
 pub product_opened : {a b : Bor Expr} {old new : Plan} (m n : Multiplicity) (e : Bor Expr) (scope : ℕ) → term_of e.now ≡ product (term_of a.now) m n (term_of b.now) → ArePlanned old new (Sets a scope ∷ Sets b scope ∷ Values (Two (OfSets Product)) ∷ []) → IsOpened (Sets e scope) old new
-product_opened {a} {b} {old} {new} m n e scope is planned = opened_by (Sets e scope) _ old new planned (λ depth root fs es (read, leads).
+product_opened {a} {b} {old} {new} m n e scope is planned = opened_by (Sets e scope) _ old new planned (λ depth root names fs es (atoms, scoped, read, leads).
     let (same, one, two) = product_plain m n (term_of a.now) (term_of b.now) depth (subst (λ (t : Term). IsReadTerm depth t) is read) in
-    let rest = subst (λ (t : Term). Leads depth root (todo old) fs (t ∷ es)) (is ∙ same) leads in
-    (one, (two, rest)))
+    let rest = subst (λ (t : Term). Leads depth root names (todo old) fs (valued atoms t ∷ es)) (is ∙ same) leads in
+    (atoms, scoped, one, (atoms, scoped, two, (refl, rest))))
 
-turned_leads : (op : UnaryRelation) (a : Term) (depth : ℕ) (root : Claim) (more : List Task) (fs : List Claim) (es : List Term) → IsReadTerm depth (unary op a) → Leads depth root more fs (unary op a ∷ es) → IsReadTerm depth a × Leads depth root (Values (One (OfSets (turned_by op))) ∷ more) fs (a ∷ es)
-turned_leads TransposeOf a depth root more fs es (plain, le) leads = ((plain.1, le), leads)
-turned_leads ClosureOf a depth root more fs es (plain, le) leads = ((plain.1, le), leads)
-turned_leads op a depth root more fs es (plain, le) leads = absurd plain.0
+turned_leads : (op : UnaryRelation) (a : Term) (depth : ℕ) (root : Aim) (names : List Name) (more : List Task) (atoms : Atoms) (fs : List Said) (es : List Valued) → IsReadTerm depth (unary op a) → Leads depth root names more fs (valued atoms (unary op a) ∷ es) → IsReadTerm depth a × Leads depth root names (Values (One (OfSets (turned_by op))) ∷ more) fs (valued atoms a ∷ es)
+turned_leads TransposeOf a depth root names more atoms fs es (plain, le) leads = ((plain.1, le), leads)
+turned_leads ClosureOf a depth root names more atoms fs es (plain, le) leads = ((plain.1, le), leads)
+turned_leads op a depth root names more atoms fs es (plain, le) leads = absurd plain.0
 
 pub turned_opened : {a : Bor Expr} {old new : Plan} (op : UnaryRelation) (by : SetOperator) (e : Bor Expr) (scope : ℕ) → by ≡ turned_by op → term_of e.now ≡ unary op (term_of a.now) → ArePlanned old new (Sets a scope ∷ Values (One (OfSets by)) ∷ []) → IsOpened (Sets e scope) old new
-turned_opened {a} {old} {new} op by e scope same is planned = opened_by (Sets e scope) _ old new planned (λ depth root fs es (read, leads).
-    let (one, rest) = turned_leads op (term_of a.now) depth root (todo old) fs es (subst (λ (t : Term). IsReadTerm depth t) is read) (subst (λ (t : Term). Leads depth root (todo old) fs (t ∷ es)) is leads) in
-    (one, subst (λ (o : SetOperator). Leads depth root (Values (One (OfSets o)) ∷ todo old) fs (term_of a.now ∷ es)) (sym same) rest))
+turned_opened {a} {old} {new} op by e scope same is planned = opened_by (Sets e scope) _ old new planned (λ depth root names fs es (atoms, scoped, read, leads).
+    let (one, rest) = turned_leads op (term_of a.now) depth root names (todo old) atoms fs es (subst (λ (t : Term). IsReadTerm depth t) is read) (subst (λ (t : Term). Leads depth root names (todo old) fs (valued atoms t ∷ es)) is leads) in
+    (atoms, scoped, one, subst (λ (o : SetOperator). Leads depth root names (Values (One (OfSets o)) ∷ todo old) fs (valued atoms (term_of a.now) ∷ es)) (sym same) rest))
 
 pub next_opened : {a : Bor Expr} {old new : Plan} (e : Bor Expr) (scope : ℕ) → term_of e.now ≡ prime (term_of a.now) → ArePlanned old new (Sets a scope ∷ Values Next ∷ []) → IsOpened (Sets e scope) old new
-next_opened {a} {old} {new} e scope is planned = opened_by (Sets e scope) _ old new planned (λ depth root fs es (read, leads).
+next_opened {a} {old} {new} e scope is planned = opened_by (Sets e scope) _ old new planned (λ depth root names fs es (atoms, scoped, read, leads).
     let (plain, le) = subst (λ (t : Term). IsReadTerm depth t) is read in
-    let rest = subst (λ (t : Term). Leads depth root (todo old) fs (t ∷ es)) is leads in
-    ((plain, le), (le, rest)))
+    let rest = subst (λ (t : Term). Leads depth root names (todo old) fs (valued atoms t ∷ es)) is leads in
+    (atoms, scoped, (plain, le), (le, rest)))
 
 -- what is no plain expression leads to nothing
-pub none_opened : (e : Bor Expr) (scope : ℕ) (old new : Plan) → ¬ IsPlainTerm (term_of e.now) → new.values.items ≡ old.values.items → new.kept.items ≡ old.kept.items → IsOpened (Sets e scope) old new
+pub none_opened : (e : Bor Expr) (scope : ℕ) (old new : Plan) → ¬ IsPlainTerm (term_of e.now) → new.values.items ≡ old.values.items → side_of new ≡ side_of old → IsOpened (Sets e scope) old new
 none_opened e scope old new none values kept = record {
-  leads = λ depth root fs es h. absurd (none h.0.0);
+  leads = λ depth root names fs es h. absurd (none h.2.0);
   values = values;
   kept = kept;
 }
@@ -102,73 +106,108 @@ none_opened e scope old new none values kept = record {
 -- ---- formulas
 
 -- tasks that lead to the same, with no row before them
-with_none : (task : Task) (tasks : List Task) (old new : Plan) → ArePlanned old new tasks → ((depth : ℕ) (root : Claim) (fs : List Claim) (es : List Term) → Leads depth root (task ∷ todo old) fs es → Leads depth root (tasks ++ todo old) fs es) → IsOpenedWith None task old new
+with_none : (task : Task) (tasks : List Task) (old new : Plan) → ArePlanned old new tasks → ((depth : ℕ) (root : Aim) (names : List Name) (fs : List Said) (es : List Valued) → Leads depth root names (task ∷ todo old) fs es → Leads depth root names (tasks ++ todo old) fs es) → IsOpenedWith None task old new
 with_none task tasks old new planned leads = record {
-  leads = λ depth root fs es h. subst (λ (ts : List Task). Leads depth root ts fs es) (sym planned.todo_is) (leads depth root fs es h);
+  leads = λ depth root names fs es h. subst (λ (ts : List Task). Leads depth root names ts fs es) (sym planned.todo_is) (leads depth root names fs es h);
   values = planned.values;
   kept = planned.kept;
 }
 
 -- what is no plain formula leads to nothing
-pub unread : (row : Option Bool) (f : Bor Formula) (scope : ℕ) (old new : Plan) → ¬ IsPlain (claim_of f.now) → new.values.items ≡ old.values.items → new.kept.items ≡ old.kept.items → IsOpenedWith row (Holds f scope) old new
+pub unread : (row : Option Bool) (f : Bor Formula) (scope : ℕ) (old new : Plan) → ¬ IsPlain (claim_of f.now) → new.values.items ≡ old.values.items → side_of new ≡ side_of old → IsOpenedWith row (Holds f scope) old new
 unread row f scope old new none values kept = record {
-  leads = λ depth root fs es h. absurd (none h.0.0);
+  leads = λ depth root names fs es h. absurd (none h.3.0);
   values = values;
   kept = kept;
 }
 
 pub negation_opened : {a : Bor Formula} {old new : Plan} (f : Bor Formula) (scope : ℕ) → claim_of f.now ≡ negation (claim_of a.now) → ArePlanned old new (Holds a scope ∷ Rows Negate ∷ []) → IsOpenedWith None (Holds f scope) old new
-negation_opened {a} {old} {new} f scope is planned = with_none (Holds f scope) _ old new planned (λ depth root fs es (read, leads).
+negation_opened {a} {old} {new} f scope is planned = with_none (Holds f scope) _ old new planned (λ depth root names fs es (atoms, scoped, none, read, leads).
     let (plain, le) = subst (λ (t : Claim). IsRead depth t) is read in
-    let rest = subst (λ (t : Claim). Leads depth root (todo old) (t ∷ fs) es) is leads in
-    ((plain, le), rest))
+    let rest = subst (λ (t : Claim). Leads depth root names (todo old) (claimed atoms t ∷ fs) es) is leads in
+    (atoms, scoped, none, (plain, le), rest))
 
 pub after_opened : {a : Bor Formula} {old new : Plan} (f : Bor Formula) (scope : ℕ) → claim_of f.now ≡ temporal AfterOf (claim_of a.now) → ArePlanned old new (Holds a scope ∷ Rows After ∷ []) → IsOpenedWith None (Holds f scope) old new
-after_opened {a} {old} {new} f scope is planned = with_none (Holds f scope) _ old new planned (λ depth root fs es (read, leads).
+after_opened {a} {old} {new} f scope is planned = with_none (Holds f scope) _ old new planned (λ depth root names fs es (atoms, scoped, none, read, leads).
     let (plain, le) = subst (λ (t : Claim). IsRead depth t) is read in
-    let rest = subst (λ (t : Claim). Leads depth root (todo old) (t ∷ fs) es) is leads in
-    ((plain.1, le), (le, rest)))
+    let rest = subst (λ (t : Claim). Leads depth root names (todo old) (claimed atoms t ∷ fs) es) is leads in
+    (atoms, scoped, none, (plain.1, le), (le, rest)))
 
 pub until_opened : {a b : Bor Formula} {old new : Plan} (f : Bor Formula) (scope : ℕ) → claim_of f.now ≡ temporal_pair UntilOf (claim_of a.now) (claim_of b.now) → ArePlanned old new (Holds a scope ∷ Holds b scope ∷ Rows (Along Until) ∷ []) → IsOpenedWith None (Holds f scope) old new
-until_opened {a} {b} {old} {new} f scope is planned = with_none (Holds f scope) _ old new planned (λ depth root fs es (read, leads).
+until_opened {a} {b} {old} {new} f scope is planned = with_none (Holds f scope) _ old new planned (λ depth root names fs es (atoms, scoped, none, read, leads).
     let (plain, le) = subst (λ (t : Claim). IsRead depth t) is read in
-    let rest = subst (λ (t : Claim). Leads depth root (todo old) (t ∷ fs) es) is leads in
-    (let one = max_left _ _ depth le in let two = max_right _ _ depth le in ((plain.1, one), ((plain.2, two), (one, two, rest)))))
+    let rest = subst (λ (t : Claim). Leads depth root names (todo old) (claimed atoms t ∷ fs) es) is leads in
+    (let one = max_left _ _ depth le in let two = max_right _ _ depth le in (atoms, scoped, none, (plain.1, one), (atoms, scoped, none, (plain.2, two), (one, two, (refl, rest))))))
 
 pub since_opened : {a b : Bor Formula} {old new : Plan} (f : Bor Formula) (scope : ℕ) → claim_of f.now ≡ temporal_pair SinceOf (claim_of a.now) (claim_of b.now) → ArePlanned old new (Holds a scope ∷ Holds b scope ∷ Rows (Along Since) ∷ []) → IsOpenedWith None (Holds f scope) old new
-since_opened {a} {b} {old} {new} f scope is planned = with_none (Holds f scope) _ old new planned (λ depth root fs es (read, leads).
+since_opened {a} {b} {old} {new} f scope is planned = with_none (Holds f scope) _ old new planned (λ depth root names fs es (atoms, scoped, none, read, leads).
     let (plain, le) = subst (λ (t : Claim). IsRead depth t) is read in
-    let rest = subst (λ (t : Claim). Leads depth root (todo old) (t ∷ fs) es) is leads in
-    (let less = one_less _ depth le in ((plain.1, max_left _ _ depth less), ((plain.2, max_right _ _ depth less), rest))))
+    let rest = subst (λ (t : Claim). Leads depth root names (todo old) (claimed atoms t ∷ fs) es) is leads in
+    (let less = one_less _ depth le in let one = max_left _ _ depth less in let two = max_right _ _ depth less in (atoms, scoped, none, (plain.1, one), (atoms, scoped, none, (plain.2, two), (refl, rest)))))
 
 pub inside_opened : {a b : Bor Expr} {old new : Plan} (f : Bor Formula) (scope : ℕ) → claim_of f.now ≡ inside (term_of a.now) (term_of b.now) → ArePlanned old new (Sets a scope ∷ Sets b scope ∷ Rows (Asked (AskSets Inside)) ∷ []) → IsOpenedWith None (Holds f scope) old new
-inside_opened {a} {b} {old} {new} f scope is planned = with_none (Holds f scope) _ old new planned (λ depth root fs es (read, leads).
+inside_opened {a} {b} {old} {new} f scope is planned = with_none (Holds f scope) _ old new planned (λ depth root names fs es (atoms, scoped, none, read, leads).
     let (plain, le) = subst (λ (t : Claim). IsRead depth t) is read in
-    let rest = subst (λ (t : Claim). Leads depth root (todo old) (t ∷ fs) es) is leads in
-    ((plain.0, max_left _ _ depth le), ((plain.1, max_right _ _ depth le), rest)))
+    let rest = subst (λ (t : Claim). Leads depth root names (todo old) (claimed atoms t ∷ fs) es) is leads in
+    (let one = max_left _ _ depth le in let two = max_right _ _ depth le in (atoms, scoped, (plain.0, one), (atoms, scoped, (plain.1, two), (refl, rest)))))
+
+pub within_opened : {a b : Bor Expr} {old new : Plan} (word : Multiplicity) (f : Bor Formula) (scope : ℕ) → claim_of f.now ≡ within (term_of a.now) word (term_of b.now) → ArePlanned old new (Sets a scope ∷ Sets b scope ∷ Rows (Lies word) ∷ []) → IsOpenedWith None (Holds f scope) old new
+within_opened {a} {b} {old} {new} word f scope is planned = with_none (Holds f scope) _ old new planned (λ depth root names fs es (atoms, scoped, none, read, leads).
+    let (plain, le) = subst (λ (t : Claim). IsRead depth t) is read in
+    let rest = subst (λ (t : Claim). Leads depth root names (todo old) (claimed atoms t ∷ fs) es) is leads in
+    (let one = max_left _ _ depth le in let two = max_right _ _ depth le in (atoms, scoped, (plain.0, one), (atoms, scoped, (plain.1, two), (refl, plain.1, rest)))))
 
 pub equal_opened : {a b : Bor Expr} {old new : Plan} (f : Bor Formula) (scope : ℕ) → claim_of f.now ≡ equal (term_of a.now) (term_of b.now) → ArePlanned old new (Sets a scope ∷ Sets b scope ∷ Rows Equal ∷ []) → IsOpenedWith None (Holds f scope) old new
-equal_opened {a} {b} {old} {new} f scope is planned = with_none (Holds f scope) _ old new planned (λ depth root fs es (read, leads).
+equal_opened {a} {b} {old} {new} f scope is planned = with_none (Holds f scope) _ old new planned (λ depth root names fs es (atoms, scoped, none, read, leads).
     let (plain, le) = subst (λ (t : Claim). IsRead depth t) is read in
-    let rest = subst (λ (t : Claim). Leads depth root (todo old) (t ∷ fs) es) is leads in
-    ((plain.0, max_left _ _ depth le), ((plain.1, max_right _ _ depth le), rest)))
+    let rest = subst (λ (t : Claim). Leads depth root names (todo old) (claimed atoms t ∷ fs) es) is leads in
+    (let one = max_left _ _ depth le in let two = max_right _ _ depth le in (atoms, scoped, (plain.0, one), (atoms, scoped, (plain.1, two), (refl, rest)))))
 
 pub test_opened : {a : Bor Expr} {old new : Plan} (q : Quantity) (f : Bor Formula) (scope : ℕ) → claim_of f.now ≡ test q (term_of a.now) → ArePlanned old new (Sets a scope ∷ Rows (Tested q) ∷ []) → IsOpenedWith None (Holds f scope) old new
-test_opened {a} {old} {new} q f scope is planned = with_none (Holds f scope) _ old new planned (λ depth root fs es (read, leads).
+test_opened {a} {old} {new} q f scope is planned = with_none (Holds f scope) _ old new planned (λ depth root names fs es (atoms, scoped, none, read, leads).
     let (plain, le) = subst (λ (t : Claim). IsRead depth t) is read in
-    let rest = subst (λ (t : Claim). Leads depth root (todo old) (t ∷ fs) es) is leads in
-    ((plain, le), rest))
+    let rest = subst (λ (t : Claim). Leads depth root names (todo old) (claimed atoms t ∷ fs) es) is leads in
+    (atoms, scoped, (plain, le), rest))
 
 -- the formula on the position before, with the row of no formula under it
 pub before_opened : {a : Bor Formula} {old new : Plan} (f : Bor Formula) (scope : ℕ) → claim_of f.now ≡ temporal BeforeOf (claim_of a.now) → ArePlanned old new (Holds a scope ∷ Rows (Along Before) ∷ []) → IsOpenedWith (Some true) (Holds f scope) old new
 before_opened {a} {old} {new} f scope is planned = record {
-  leads = λ depth root fs es (read, leads).
+  leads = λ depth root names fs es (atoms, scoped, none, read, leads).
       let (plain, le) = subst (λ (t : Claim). IsRead depth t) is read in
       let less = one_less _ depth le in
-      subst (λ (ts : List Task). Leads depth root ts (every no_claims ∷ fs) es) (sym planned.todo_is) ((plain.1, less), subst (λ (t : Claim). Leads depth root (todo old) (t ∷ fs) es) is leads);
+      (atoms, subst (λ (ts : List Task). Leads depth root names ts (claimed atoms (every no_claims) ∷ fs) es) (sym planned.todo_is) (atoms, scoped, none, (plain.1, less), (refl, subst (λ (t : Claim). Leads depth root names (todo old) (claimed atoms t ∷ fs) es) is leads)));
   values = planned.values;
   kept = planned.kept;
 }
+
+both_same : (b : Bool) (n : ℕ) → (if b then n else n) ≡ n
+both_same true n = refl
+both_same false n = refl
+
+-- an atom nests none
+no_deeper : (x : ℕ) → with_depth no_depths x 0 ≡ no_depths
+no_deeper x = fun_ext (λ y. both_same (eqb y x) 0)
+
+-- all values of one variable: its bound first
+pub all_opened : {body : Bor Formula} {v : Bor Variable} {bound : Bor Expr} {old new : Plan} (f : Bor Formula) (scope : ℕ) → claim_of f.now ≡ all_of (variable_of v.now) (claim_of body.now) → bound.now ≡ v.now.bound → ArePlanned old new (Sets bound scope ∷ ForAll body v scope ∷ []) → IsOpenedWith None (Holds f scope) old new
+all_opened {body} {v} {bound} {old} {new} f scope is same planned = with_none (Holds f scope) _ old new planned (λ depth root names fs es (atoms, scoped, none, read, leads).
+    let (plain, le) = subst (λ (t : Claim). IsRead depth t) is read in
+    let rest = subst (λ (t : Claim). Leads depth root names (todo old) (claimed atoms t ∷ fs) es) is leads in
+    let one : past_in none_nested (term_of v.now.bound) no_depths ≤ depth = max_left _ _ depth le in
+    let two : past_of none_nested (claim_of body.now) (with_depth no_depths v.now.name 0) ≤ depth = max_right _ _ depth le in
+    let inner = subst (λ (d : Depths). past_of none_nested (claim_of body.now) d ≤ depth) (no_deeper v.now.name) two in
+    (atoms, scoped, subst (λ (e : Expr). IsReadTerm depth (term_of e)) (sym same) (plain.0, one), (scoped, none, ap term_of same, (plain.1, inner), rest)))
+
+pub one_item : {X : Type 0} (xs : List X) (x : X) → length xs ≡ 1 → slice_get xs 0 ≡ Some x → xs ≡ x ∷ []
+one_item [] x one at = absurd (omega (arith, one))
+one_item (y ∷ []) x one at = (let same : y ≡ x = cc in ap (λ z. z ∷ []) same)
+one_item (y ∷ z ∷ xs) x one at = absurd (omega (arith, one))
+
+-- a list of no variable, or of more than one, is not plain
+pub no_bound : (vs : List Variable) → length vs ≢ 1 → ¬ IsPlainBound (variable_list (map variable_of vs))
+no_bound [] other plain = plain
+no_bound (v ∷ []) other plain = other refl
+no_bound (v ∷ w ∷ vs) other plain = plain
 
 -- ---- lists of formulas
 
@@ -177,8 +216,8 @@ taken_more f [] k x at = cc
 taken_more f (y ∷ xs) zero x at = (let e : y ≡ x = cc in ap (λ z. f z ∷ []) e)
 taken_more f (y ∷ xs) (suc k) x at = ap (λ zs. f y ∷ zs) (taken_more f xs k x at)
 
-pub listed_none : (plan : Plan) → AreListed [] plan plan
-listed_none plan = record { leads = λ depth root fs es gs read leads. leads; values = refl; kept = refl }
+pub listed_none : (scope : ℕ) (plan : Plan) → AreListed [] scope plan plan
+listed_none scope plan = record { leads = λ depth root names atoms fs es gs scoped none read leads. leads; values = refl; kept = refl }
 
 before_more : (fs : List Claim) (f : Claim) (gs : Claims) → before_all (fs ++ f ∷ []) gs ≡ before_all fs (more_claims f gs)
 before_more [] f gs = refl
@@ -188,12 +227,12 @@ read_more : (depth : ℕ) (fs : List Claim) (f : Claim) → AreRead depth (fs ++
 read_more depth [] f read = (tt, read.0)
 read_more depth (e ∷ fs) f read = (let r = read_more depth fs f read.1 in ((read.0, r.0), r.1))
 
-pub listed_more : {a : Bor Formula} (claims more : List Claim) (scope : ℕ) (old now new : Plan) → more ≡ claims ++ claim_of a.now ∷ [] → AreListed claims old now → ArePlanned now new (Holds a scope ∷ Rows Both ∷ []) → AreListed more old new
-listed_more {a} claims more scope old now new is listed planned = subst (λ (cs : List Claim). AreListed cs old new) (sym is) (record {
-  leads = λ depth root fs es gs read leads.
+pub listed_more : {a : Bor Formula} (claims more : List Claim) (scope : ℕ) (old now new : Plan) → more ≡ claims ++ claim_of a.now ∷ [] → AreListed claims scope old now → ArePlanned now new (Holds a scope ∷ Rows Both ∷ []) → AreListed more scope old new
+listed_more {a} claims more scope old now new is listed planned = subst (λ (cs : List Claim). AreListed cs scope old new) (sym is) (record {
+  leads = λ depth root names atoms fs es gs scoped none read leads.
       let (before, here) = read_more depth claims (claim_of a.now) read in
-      let rest = listed.leads depth root fs es (more_claims (claim_of a.now) gs) before (subst (λ (cs : Claims). Leads depth root (todo old) (every cs ∷ fs) es) (before_more claims (claim_of a.now) gs) leads) in
-      subst (λ (ts : List Task). Leads depth root ts (every gs ∷ fs) es) (sym planned.todo_is) (here, rest);
+      let rest = listed.leads depth root names atoms fs es (more_claims (claim_of a.now) gs) scoped none before (subst (λ (cs : Claims). Leads depth root names (todo old) (claimed atoms (every cs) ∷ fs) es) (before_more claims (claim_of a.now) gs) leads) in
+      subst (λ (ts : List Task). Leads depth root names ts (claimed atoms (every gs) ∷ fs) es) (sym planned.todo_is) (atoms, scoped, none, here, (refl, rest));
   values = planned.values ∙ listed.values;
   kept = planned.kept ∙ listed.kept;
 })
@@ -207,12 +246,14 @@ all_before [] = refl
 all_before (f ∷ fs) = ap (more_claims f) (all_before fs)
 
 -- with the row of no formula on top, the tasks of a list lead to the row of all
-pub every_opened : (f : Bor Formula) (scope : ℕ) (claims : List Claim) (old new : Plan) → claim_of f.now ≡ every (claim_list claims) → AreListed claims old new → IsOpenedWith (Some true) (Holds f scope) old new
+pub every_opened : (f : Bor Formula) (scope : ℕ) (claims : List Claim) (old new : Plan) → claim_of f.now ≡ every (claim_list claims) → AreListed claims scope old new → IsOpenedWith (Some true) (Holds f scope) old new
 every_opened f scope claims old new is listed = record {
-  leads = λ depth root fs es (read, leads).
-      let (plain, le) = subst (λ (t : Claim). IsRead depth t) is read in
-      listed.leads depth root fs es no_claims (each_read depth claims plain le)
-      (subst (λ (t : Claim). Leads depth root (todo old) (t ∷ fs) es) (is ∙ ap every (sym (all_before claims))) leads);
+  leads = λ depth root names fs es (atoms, scoped, none, read, leads).
+      let (plain, le) = subst (λ (t : Claim). IsRead depth t) is read in (
+        atoms,
+        listed.leads depth root names atoms fs es no_claims scoped none (each_read depth claims plain le)
+            (subst (λ (t : Claim). Leads depth root names (todo old) (claimed atoms t ∷ fs) es) (is ∙ ap every (sym (all_before claims))) leads),
+      );
   values = listed.values;
   kept = listed.kept;
 }

@@ -7,15 +7,16 @@ use Rattle.core_tree.specs.declared.operators.TemporalUnary.{TemporalUnary}
 use Rattle.core_tree.specs.declared.operators.TemporalUnary.TheVariants.{After, Before}
 use Rattle.core_tree.specs.declared.operators.TemporalBinary.{TemporalBinary}
 use Rattle.core_tree.specs.declared.operators.TemporalBinary.TheVariants.{Until, Since}
-use Rattle.core_tree.specs.declared.tree.Expr.{Expr, Sig, Field}
+use Rattle.core_tree.specs.declared.tree.Expr.{Expr, Sig, Field, Name}
 use Rattle.core_tree.specs.Trees.{Term, Claim, term_of, claim_of}
 use Rattle.lasso_steps.specs.Forms.{IsPlainTerm, IsNeighbour, IsAlongTime}
 use Rattle.lasso_steps.specs.Opened.{IsNoRelation}
 
-pub no_relation : (e : Expr) → ((s : ℕ) → e ≡ Sig s → ⊥) → ((f : ℕ) → e ≡ Field f → ⊥) → IsNoRelation (term_of e)
-no_relation (Sig s) a b = absurd (a s refl)
-no_relation (Field f) a b = absurd (b f refl)
-no_relation e a b = tt
+pub no_relation : (e : Expr) → ((s : ℕ) → e ≡ Sig s → ⊥) → ((f : ℕ) → e ≡ Field f → ⊥) → ((x : ℕ) → e ≡ Name x → ⊥) → IsNoRelation (term_of e)
+no_relation (Sig s) a b c = absurd (a s refl)
+no_relation (Field f) a b c = absurd (b f refl)
+no_relation (Name x) a b c = absurd (c x refl)
+no_relation e a b c = tt
 
 pub no_neighbour : (op : TemporalUnary) → (op ≡ After → ⊥) → (op ≡ Before → ⊥) → ¬ IsNeighbour op
 no_neighbour After a b n = a refl

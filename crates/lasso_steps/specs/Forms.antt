@@ -7,7 +7,7 @@ use Rattle.core_tree.specs.declared.operators.TemporalBinary.{TemporalBinary}
 use Rattle.core_tree.specs.declared.operators.TemporalBinary.TheVariants.{Until, Since}
 use Rattle.core_tree.specs.declared.operators.UnaryRelation.{UnaryRelation}
 use Rattle.core_tree.specs.declared.operators.UnaryRelation.TheVariants.{Transpose, Closure}
-use Rattle.core_tree.specs.Trees.{Term, Claim, Claims, sig, field, combine, product, unary, prime, inside, equal, test, negation, every, temporal, temporal_pair, no_claims, more_claims}
+use Rattle.core_tree.specs.Trees.{Term, Variables, Claim, Claims, sig, field, name, combine, product, unary, prime, inside, equal, within, test, negation, every, for_all, temporal, temporal_pair, no_variables, more_variables, no_claims, more_claims}
 
 abbrev pub IsTurning : UnaryRelation → Type 0
 IsTurning Transpose = Unit {0}
@@ -28,24 +28,32 @@ abbrev pub IsPlainArrow : Multiplicity → Type 0
 IsPlainArrow Set = Unit {0}
 IsPlainArrow m = ⊥
 
--- expressions of sigs and fields
+-- expressions of sigs, fields and names
 abbrev pub IsPlainTerm : Term → Type 0
 IsPlainTerm (sig s) = Unit {0}
 IsPlainTerm (field f) = Unit {0}
+IsPlainTerm (name x) = Unit {0}
 IsPlainTerm (combine op a b) = IsPlainTerm a × IsPlainTerm b
 IsPlainTerm (product a m n b) = IsPlainArrow m × IsPlainArrow n × IsPlainTerm a × IsPlainTerm b
 IsPlainTerm (unary op a) = IsTurning op × IsPlainTerm a
 IsPlainTerm (prime a) = IsPlainTerm a
 IsPlainTerm e = ⊥
 
--- formulas on these, without variables
+-- the bound of one variable
+abbrev pub IsPlainBound : Variables → Type 0
+IsPlainBound (more_variables x apart e no_variables) = IsPlainTerm e
+IsPlainBound vs = ⊥
+
+-- formulas on these: `in`, also with a multiplicity, `=`, tests, `not`, lists, `all` with one variable, `after`, `before`, `until` and `since`
 abbrev mutual
   pub IsPlain : Claim → Type 0
   IsPlain (inside a b) = IsPlainTerm a × IsPlainTerm b
   IsPlain (equal a b) = IsPlainTerm a × IsPlainTerm b
+  IsPlain (within a m b) = IsPlainTerm a × IsPlainTerm b
   IsPlain (test q a) = IsPlainTerm a
   IsPlain (negation f) = IsPlain f
   IsPlain (every fs) = ArePlain fs
+  IsPlain (for_all vs f) = IsPlainBound vs × IsPlain f
   IsPlain (temporal op f) = IsNeighbour op × IsPlain f
   IsPlain (temporal_pair op f g) = IsAlongTime op × IsPlain f × IsPlain g
   IsPlain f = ⊥

@@ -3,7 +3,7 @@ use Rattle.std.specs.Prelude.{◌≡◌, ◌<◌, ℕ, Bool, true, false, List, 
 use Rattle.std.specs.declared.alloc.Global.{Global}
 use Rattle.core_tree.specs.declared.operators.UnaryRelation.{UnaryRelation}
 use Rattle.core_tree.specs.declared.operators.UnaryRelation.TheVariants.{Transpose as TransposeOf, Closure as ClosureOf, ReflexiveClosure as Reflexive}
-use Rattle.core_tree.specs.Trees.{Term, Claim, sig, field, every, no_claims}
+use Rattle.core_tree.specs.Trees.{Term, sig, field, name, every, no_claims}
 use Rattle.set_circuits.specs.declared.operators.SetOperator.{SetOperator}
 use Rattle.set_circuits.specs.declared.operators.SetOperator.TheVariants.{Transpose, Closure}
 use Rattle.gate_trait.specs.declared.node.Node.{Node}
@@ -11,13 +11,17 @@ use Rattle.lasso_stack.specs.declared.store.Store.{Store}
 use Rattle.lasso_stack.specs.Rows.{IsPushed, IsConstant}
 use Rattle.lasso_steps.specs.declared.plan.Task.{Task}
 use Rattle.lasso_steps.specs.declared.plan.Plan.{Plan}
+use Rattle.lasso_steps.specs.declared.plan.Name.{Name}
+use Rattle.lasso_sets.specs.Shown.{Atoms}
+use Rattle.lasso_steps.specs.Said.{Said, claimed, Valued, Aim, side_of}
 use Rattle.lasso_steps.specs.Leads.{Leads}
 use Rattle.lasso_steps.specs.Plans.{todo}
 
--- an expression that is neither a sig nor a field
+-- an expression that is neither a sig nor a field nor a name
 abbrev pub IsNoRelation : Term → Type 0
 IsNoRelation (sig s) = ⊥
 IsNoRelation (field f) = ⊥
+IsNoRelation (name x) = ⊥
 IsNoRelation e = Unit {0}
 
 -- the operator on sets that stands for one of the language
@@ -32,21 +36,21 @@ HoldsLeaf kept number v = (n : Vec ℕ Global) × (slice_get kept number ≡ Som
 
 -- what is left of a formula that was looked into, where a row that is the same everywhere was put on the stack,
 -- or none
-abbrev pub opened_to : Option Bool → ℕ → Claim → List Task → List Claim → List Term → Type 0
-opened_to None depth root tasks fs es = Leads depth root tasks fs es
-opened_to (Some true) depth root tasks fs es = Leads depth root tasks (every no_claims ∷ fs) es
-opened_to (Some false) depth root tasks fs es = ⊥
+abbrev pub opened_to : Option Bool → ℕ → Aim → List Name → List Task → List Said → List Valued → Type 0
+opened_to None depth root names tasks fs es = Leads depth root names tasks fs es
+opened_to (Some true) depth root names tasks fs es = (atoms : Atoms) × Leads depth root names tasks (claimed atoms (every no_claims) ∷ fs) es
+opened_to (Some false) depth root names tasks fs es = ⊥
 
 -- a formula is looked into: the tasks, after that row, lead to the same
 pub record IsOpenedWith (row : Option Bool) (task : Task) (old new : Plan) : Type 0 where
-  pub leads : (depth : ℕ) (root : Claim) (fs : List Claim) (es : List Term) → Leads depth root (task ∷ todo old) fs es → opened_to row depth root (todo new) fs es
+  pub leads : (depth : ℕ) (root : Aim) (names : List Name) (fs : List Said) (es : List Valued) → Leads depth root names (task ∷ todo old) fs es → opened_to row depth root names (todo new) fs es
   pub values : new.values.items ≡ old.values.items
-  pub kept : new.kept.items ≡ old.kept.items
+  pub kept : side_of new ≡ side_of old
 
 -- tasks are put before the others, whatever they are
 pub record IsAside (old new : Plan) : Type 0 where
   pub values : new.values.items ≡ old.values.items
-  pub kept : new.kept.items ≡ old.kept.items
+  pub kept : side_of new ≡ side_of old
 
 -- a row that has this value at all of so many places is put on the stack
 abbrev pub IsPutRow : Store → Store → ((ℕ → Bool) → Node → Bool) → ℕ → Bool → Type 0

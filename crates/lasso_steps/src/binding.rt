@@ -1,12 +1,16 @@
 // Tasks on all values of variables.
 
 ghost use Rattle.std.specs.Prelude.{OnOk};
+ghost use Rattle.core_tree.specs.Trees.{claim_of, variable_of};
 ghost use Rattle.lasso_stack.specs.Stored.{AreStored};
+ghost use Rattle.lasso_steps.specs.Bound.{TakesAtom, TakesAtoms};
+ghost use Rattle.lasso_steps.specs.Ways.{GoesOn};
 
 use crate::plan::{
-    Body, Plan, RowStep, Task, ValueStep, add_name, first, first_two, is_apart, pop_value,
+    Body, Plan, RowStep, Task, ValueStep, add_name, first, first_three, first_two, is_apart,
+    pop_value,
 };
-use core_tree::Variable;
+use core_tree::{Formula, Variable};
 use gate_trait::Gates;
 use lasso_frame::first_number;
 use lasso_sets::setting::Setting;
@@ -176,6 +180,86 @@ fn begin<G: Gates>(
         Body::All(_) => push_constant(alloc, gates, store, setting.frame.len(), true),
         _ => Ok(()),
     }
+}
+
+/// Plans the formula for one atom as the variable's value, where it is the only number of the tuple. After it, what was built on the way
+/// and the atom's name are let go.
+fn plan_atom<'a>(
+    plan: &mut Plan<'a>,
+    formula: &'a Formula,
+    variable: &Variable,
+    tuple: &Tuple,
+    scope: usize,
+    nodes: usize,
+    number: usize,
+    mark: Mark,
+) -> Result<(), AllocError>
+    ensures { OnOk result (TakesAtom (claim_of formula.now) (variable_of variable.now) tuple.now scope nodes number mark plan.old plan.new) }
+{
+    let numbers = tuple.numbers();
+    if numbers.len() != 1 {
+        return Ok(());
+    }
+    let count = plan.names.len();
+    let atom = numbers[0];
+    let inner = add_name(plan, variable.name, atom, scope)?;
+    first_three(
+        plan,
+        Task::Holds(formula, inner),
+        Task::Rows(RowStep::HeldWhere(nodes, number)),
+        Task::Cut(mark, count),
+    )?;
+    Ok(())
+}
+
+/// Plans the formula for each of these atoms as the variable's value, in order.
+fn plan_atoms<'a>(
+    plan: &mut Plan<'a>,
+    formula: &'a Formula,
+    variable: &Variable,
+    tuples: &[Tuple],
+    scope: usize,
+    nodes: usize,
+    mark: Mark,
+) -> Result<(), AllocError>
+    ensures { OnOk result (TakesAtoms (claim_of formula.now) (variable_of variable.now) tuples.now scope nodes mark 0 plan.old plan.new) }
+{
+    for place in 0..tuples.len() {
+        let number = tuples.len() - 1 - place;
+        let tuple = &tuples[number];
+        plan_atom(plan, formula, variable, tuple, scope, nodes, number, mark)?;
+    }
+    Ok(())
+}
+
+/// Plans the formula for all atoms in the set on top as values of the variable. Its error is want of memory, or that the set hasn't a
+/// place for each place of the windows.
+pub fn bind_all<'a, G: Gates>(
+    alloc: Global,
+    gates: &G,
+    store: &mut Store,
+    plan: &mut Plan<'a>,
+    setting: &Setting,
+    formula: &'a Formula,
+    variable: &'a Variable,
+    scope: usize,
+) -> Result<(), AllocError>
+    requires { AreStored (G.belongs gates.now) store.old }
+    ensures stored { OnOk result (AreStored (G.belongs gates.now) store.new) }
+    ensures goes { OnOk result (GoesOn setting.now (Task.ForAll formula.entry variable.entry scope) (G.node_value gates.now) (G.node_value gates.now) store.old store.new plan.old plan.new) }
+{
+    let bound = pop_value(alloc, plan);
+    let count = setting.frame.shown.len();
+    if bound.len() != count {
+        return Err(AllocError);
+    }
+    let tuples = members_of(alloc, gates, store, &bound)?;
+    let nodes = store.top();
+    push_constant(alloc, gates, store, count, true)?;
+    let mark = store.mark();
+    first(plan, Task::Rows(RowStep::DropBelow))?;
+    plan_atoms(plan, formula, variable, &tuples, scope, nodes, mark)?;
+    Ok(())
 }
 
 /// Plans the body for all atoms in the set on top as values of the variable.

@@ -1,15 +1,19 @@
 // Tasks that look into a formula: what it is made of is done first.
 
-ghost use Rattle.std.specs.Prelude.{◌≡◌, ◌∷◌, [], Bool, map, length, OnOk, IfOk, None, Some};
-ghost use Rattle.core_tree.specs.Trees.{claim_of, term_of, claim_list, every, negation, temporal, temporal_pair, test as asks_for, inside as lies_in, equal as equals};
+ghost use Rattle.std.specs.Prelude.{◌≡◌, ◌∷◌, [], Bool, false, map, length, OnOk, IfOk, None, Some};
+ghost use Rattle.std.specs.Borrow.{Bor};
+ghost use Rattle.core_tree.specs.declared.tree.Expr.{Expr as ExprTree};
+ghost use Rattle.core_tree.specs.Trees.{claim_of, term_of, claim_list, variable_of, variable_list, every, for_all, negation, temporal, temporal_pair, test as asks_for, inside as lies_in, within as lies_within, equal as equals};
 ghost use Rattle.lasso_stack.specs.Stored.{AreStored};
-ghost use Rattle.lasso_steps.specs.Forms.{IsPlain};
+ghost use Rattle.lasso_steps.specs.Forms.{IsPlain, IsPlainTerm, IsPlainArrow};
 ghost use Rattle.lasso_steps.specs.Opened.{IsOpenedWith, IsAside, IsPutRow};
 ghost use Rattle.lasso_steps.specs.Plans.{ArePlanned};
 ghost use Rattle.lasso_steps.specs.Ways.{GoesOn, AreListed};
 
 use crate::plan::{Body, Plan, RowStep, Task, first, first_three, first_two};
-use core_tree::{Connective, Expr, Formula, Quantity, TemporalBinary, TemporalUnary};
+use core_tree::{
+    Connective, Expr, Formula, Multiplicity, Quantity, TemporalBinary, TemporalUnary, Variable,
+};
 use gate_trait::Gates;
 use lasso_sets::setting::Setting;
 use lasso_stack::{Store, TestOperator, TimeOperator, push_constant};
@@ -78,7 +82,7 @@ fn plan_one<'a>(
 
 /// Plans where all formulas of a list hold, with the row on top.
 fn plan_every<'a>(plan: &mut Plan<'a>, list: &'a [Formula], scope: usize) -> Result<(), AllocError>
-    ensures { OnOk result (AreListed (map claim_of list.now) plan.old plan.new) }
+    ensures { OnOk result (AreListed (map claim_of list.now) scope plan.old plan.new) }
 {
     for place in 0..list.len() {
         let formula = &list[place];
@@ -117,6 +121,56 @@ fn open_equal<'a>(
 {
     plan_sets_test(plan, a, b, scope, RowStep::Equal)?;
     let _ = formula;
+    Ok(None)
+}
+
+/// Whether an arrow's end has no multiplicity.
+fn is_free(word: Multiplicity) -> bool
+    ensures { result ≡ false → ¬ IsPlainArrow word }
+{
+    match word {
+        Multiplicity::Set => true,
+        _ => false,
+    }
+}
+
+/// Whether the arrows of a bound, if it has any, have no multiplicities.
+fn asks_nothing(bound: &Expr) -> bool
+    ensures { result ≡ false → ¬ IsPlainTerm (term_of bound.now) }
+{
+    match bound {
+        Expr::Product(a, left, right, b) => {
+            if !is_free(*left) || !is_free(*right) {
+                return false;
+            }
+            if !asks_nothing(a) {
+                return false;
+            }
+            asks_nothing(b)
+        }
+        _ => true,
+    }
+}
+
+/// Looks into `a in b` with a multiplicity.
+fn open_within<'a>(
+    plan: &mut Plan<'a>,
+    formula: &Formula,
+    a: &'a Expr,
+    word: Multiplicity,
+    b: &'a Expr,
+    scope: usize,
+) -> Result<Option<bool>, AllocError>
+    requires { claim_of formula.now ≡ lies_within (term_of a.now) word (term_of b.now) }
+    ensures { IfOk result (λ row. IsOpenedWith row (Task.Holds formula.entry scope) plan.old plan.new) }
+{
+    let _ = formula;
+    if !asks_nothing(b) {
+        let within = Task::Within(word, b, scope);
+        first_three(plan, Task::Sets(a, scope), Task::Sets(b, scope), within)?;
+        return Ok(None);
+    }
+    plan_sets_test(plan, a, b, scope, RowStep::Lies(word))?;
     Ok(None)
 }
 
@@ -217,7 +271,46 @@ fn open_along<'a>(
     }
 }
 
-/// Plans where a formula on integers or on values of variables, or a connective holds. One that is no
+/// Plans where a formula holds for all values of one variable.
+fn plan_all<'a>(
+    plan: &mut Plan<'a>,
+    variable: &'a Variable,
+    f: &'a Formula,
+    scope: usize,
+) -> Result<(), AllocError>
+    ensures { OnOk result ((bound : Bor ExprTree) × (bound.now ≡ variable.now.bound) × ArePlanned plan.old plan.new (Task.Sets bound scope ∷ Task.ForAll f.entry variable.entry scope ∷ [])) }
+{
+    let bound = &variable.bound;
+    first_two(
+        plan,
+        Task::Sets(bound, scope),
+        Task::ForAll(f, variable, scope),
+    )?;
+    Ok(())
+}
+
+/// Looks into a formula on all values of variables. Where there is more than one, each has a task of its own.
+fn open_all<'a>(
+    plan: &mut Plan<'a>,
+    formula: &Formula,
+    list: &'a [Variable],
+    f: &'a Formula,
+    scope: usize,
+) -> Result<Option<bool>, AllocError>
+    requires { claim_of formula.now ≡ for_all (variable_list (map variable_of list.now)) (claim_of f.now) }
+    ensures { IfOk result (λ row. IsOpenedWith row (Task.Holds formula.entry scope) plan.old plan.new) }
+{
+    let _ = formula;
+    if list.len() != 1 {
+        first(plan, Task::Bind(Body::All(f), list, scope))?;
+        return Ok(None);
+    }
+    let variable = &list[0];
+    plan_all(plan, variable, f, scope)?;
+    Ok(None)
+}
+
+/// Plans where a formula on integers, or a connective holds. One that is no
 /// kernel formula holds nowhere.
 fn plan_rest<'a>(
     plan: &mut Plan<'a>,
@@ -227,11 +320,6 @@ fn plan_rest<'a>(
     ensures { OnOk result (IsAside plan.old plan.new) }
 {
     match formula {
-        Formula::Within(a, word, b) => {
-            let within = Task::Within(*word, b, scope);
-            first_three(plan, Task::Sets(a, scope), Task::Sets(b, scope), within)?;
-            Ok(None)
-        }
         Formula::Compare(op, a, b) => {
             let question = RowStep::Asked(TestOperator::OfIntegers(*op));
             first_three(
@@ -248,10 +336,6 @@ fn plan_rest<'a>(
         }
         Formula::Choose(f, g, h) => {
             plan_choice(plan, f, g, h, scope)?;
-            Ok(None)
-        }
-        Formula::ForAll(list, f) => {
-            first(plan, Task::Bind(Body::All(f), list, scope))?;
             Ok(None)
         }
         _ => Ok(Some(false)),
@@ -308,11 +392,11 @@ fn plan_formula<'a>(
         Formula::Every(list) => open_every(plan, formula, list, scope),
         Formula::Temporal(op, f) => open_neighbour(plan, formula, *op, f, scope),
         Formula::TemporalPair(op, f, g) => open_along(plan, formula, *op, f, g, scope),
-        Formula::Within(_, _, _) => open_rest(plan, formula, scope),
+        Formula::Within(a, word, b) => open_within(plan, formula, a, *word, b, scope),
         Formula::Compare(_, _, _) => open_rest(plan, formula, scope),
         Formula::Connect(_, _, _) => open_rest(plan, formula, scope),
         Formula::Choose(_, _, _) => open_rest(plan, formula, scope),
-        Formula::ForAll(_, _) => open_rest(plan, formula, scope),
+        Formula::ForAll(list, f) => open_all(plan, formula, list, f, scope),
         Formula::Counted(_, _, _) => open_rest(plan, formula, scope),
         Formula::Let(_, _, _) => open_rest(plan, formula, scope),
         Formula::Call(_, _) => open_rest(plan, formula, scope),

@@ -2,7 +2,7 @@
 
 ghost use Rattle.std.specs.Prelude.{◌≡◌, ◌<◌, ◌+◌, ◌∷◌, [], ℕ, length, OnOk, IfOk, IsTrue, Vec};
 ghost use Rattle.std.specs.declared.alloc.Global.{Global as Heap};
-ghost use Rattle.core_tree.specs.Trees.{term_of, sig as sig_of, field as field_of, combine as combination, product as product_of, unary as turned, prime as at_next};
+ghost use Rattle.core_tree.specs.Trees.{term_of, sig as sig_of, field as field_of, name as name_of, combine as combination, product as product_of, unary as turned, prime as at_next};
 ghost use Rattle.lasso_stack.specs.Stored.{AreStored};
 ghost use Rattle.lasso_steps.specs.Forms.{IsPlainTerm};
 ghost use Rattle.lasso_steps.specs.Opened.{IsNoRelation, turned_by, HoldsLeaf, IsAside};
@@ -83,7 +83,6 @@ fn leaf_sets<G: Gates>(
     plan: &Plan,
     setting: &Setting,
     expr: &Expr,
-    scope: usize,
 ) -> Result<Vec<usize>, AllocError>
     requires { AreStored (G.belongs gates.now) store.old }
     ensures { OnOk result (AreStored (G.belongs gates.now) store.new) }
@@ -91,13 +90,7 @@ fn leaf_sets<G: Gates>(
     if let Some(number) = leaf_number(leaves_of(setting), expr) {
         return kept_value(alloc, plan, number);
     }
-    match expr {
-        Expr::Name(name) => {
-            let atom = atom_of(&plan.names, scope, *name);
-            name_sets(alloc, gates, store, setting, atom)
-        }
-        _ => no_set(alloc, gates, store, setting),
-    }
+    no_set(alloc, gates, store, setting)
 }
 
 /// The operator on one set. The reflexive closure is no operator of the kernel.
@@ -375,6 +368,29 @@ fn open_field(
     Ok(())
 }
 
+/// Puts the atom of a name on the stack of values; the empty set where it stands for none.
+fn open_name<G: Gates>(
+    alloc: Global,
+    gates: &G,
+    store: &mut Store,
+    plan: &mut Plan,
+    setting: &Setting,
+    expr: &Expr,
+    name: u32,
+    scope: usize,
+) -> Result<(), AllocError>
+    requires store { AreStored (G.belongs gates.now) store.old }
+    requires name { term_of expr.now ≡ name_of name }
+    ensures stored { OnOk result (AreStored (G.belongs gates.now) store.new) }
+    ensures goes { OnOk result (GoesOn setting.now (Task.Sets expr.entry scope) (G.node_value gates.now) (G.node_value gates.now) store.old store.new plan.old plan.new) }
+{
+    let atom = atom_of(&plan.names, scope, name);
+    let value = name_sets(alloc, gates, store, setting, atom)?;
+    push_value(plan, value)?;
+    let _ = expr;
+    Ok(())
+}
+
 /// Looks into an expression that is no relation.
 fn open_others<'a, G: Gates>(
     alloc: Global,
@@ -391,7 +407,7 @@ fn open_others<'a, G: Gates>(
     ensures opened { OnOk result (IsPlainTerm (term_of expr.now) → (store.new ≡ store.old) × IsOpened (Task.Sets expr.entry scope) plan.old plan.new) }
 {
     if is_leaf(expr) {
-        let value = leaf_sets(alloc, gates, store, plan, setting, expr, scope)?;
+        let value = leaf_sets(alloc, gates, store, plan, setting, expr)?;
         return push_value(plan, value);
     }
     plan_sets(plan, expr, scope)?;
@@ -420,6 +436,10 @@ pub fn open_sets<'a, G: Gates>(
         }
         Expr::Field(field) => {
             open_field(alloc, plan, setting, expr, *field, scope)?;
+            Ok(())
+        }
+        Expr::Name(name) => {
+            open_name(alloc, gates, store, plan, setting, expr, *name, scope)?;
             Ok(())
         }
         Expr::Comprehension(list, f) => {

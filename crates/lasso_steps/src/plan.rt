@@ -1,7 +1,9 @@
 // What is still to be done, and what stands between the steps.
 
-ghost use Rattle.std.specs.Prelude.{◌≡◌, ◌∷◌, [], OnOk};
-ghost use Rattle.lasso_steps.specs.Plans.{ArePlanned, IsTaken, IsPut};
+ghost use Rattle.std.specs.Prelude.{◌≡◌, ◌∷◌, [], OnOk, IfOk};
+ghost use Rattle.lasso_sets.specs.Shown.{Atoms, atom_in};
+ghost use Rattle.lasso_steps.specs.Said.{IsScope};
+ghost use Rattle.lasso_steps.specs.Plans.{ArePlanned, IsTaken, IsPut, IsNamed};
 
 use core_tree::{Expr, Formula, Multiplicity, Quantity, Variable};
 use lasso_stack::{Choice, Mark, Operator, TestOperator, TimeOperator};
@@ -36,6 +38,8 @@ pub enum RowStep {
     Equal,
     /// Whether the set on top passes the test.
     Tested(Quantity),
+    /// Whether the first of the two sets on top lies in the second and has the multiplicity.
+    Lies(Multiplicity),
     /// Everywhere.
     True,
     Negate,
@@ -84,6 +88,8 @@ pub enum Task<'a> {
     /// All atoms in the set on top for the first variable; then the rest. The number is the row that
     /// says where the earlier atoms are in their bounds.
     Each(Body<'a>, &'a Variable, &'a [Variable], usize, usize),
+    /// All atoms in the set on top as values of the variable: where the formula holds for each of them.
+    ForAll(&'a Formula, &'a Variable, usize),
     /// The two sets on top are those of `in` with this multiplicity and this bound.
     Within(Multiplicity, &'a Expr, usize),
     /// Whether the value of this number keeps the arrows of a bound.
@@ -200,9 +206,12 @@ pub fn push_value(plan: &mut Plan, value: Vec<usize>) -> Result<(), AllocError>
 }
 
 /// The scope with one more name.
-pub fn add_name(plan: &mut Plan, name: u32, atom: u32, outer: usize) -> Result<usize, AllocError> {
+pub fn add_name(plan: &mut Plan, name: u32, atom: u32, outer: usize) -> Result<usize, AllocError>
+    ensures { IfOk result (λ scope. IsNamed plan.old plan.new name atom outer scope) }
+{
+    let count = plan.names.len();
     plan.names.push(Name { name, atom, outer })?;
-    Ok(plan.names.len())
+    Ok(count + 1)
 }
 
 /// The innermost name of a scope.
@@ -214,20 +223,23 @@ fn name_at(names: &[Name], scope: usize) -> Option<Name> {
 }
 
 /// The atom for which a name stands, if it stands for one.
-pub fn atom_of(names: &[Name], scope: usize, name: u32) -> Option<u32> {
-    let mut at = scope;
-    for _ in 0..names.len() {
-        match name_at(names, at) {
-            None => return None,
-            Some(found) => {
-                if found.name == name {
-                    return Some(found.atom);
-                }
-                at = found.outer;
-            }
-        }
+pub fn atom_of(names: &[Name], scope: usize, name: u32) -> Option<u32>
+    ensures { (atoms : Atoms) → IsScope names.now scope atoms → result ≡ atom_in atoms name }
+{
+    if scope == 0 {
+        return None;
     }
-    None
+    if scope > names.len() {
+        return None;
+    }
+    let found = names[scope - 1];
+    if found.name == name {
+        return Some(found.atom);
+    }
+    if found.outer >= scope {
+        return None;
+    }
+    atom_of(names, found.outer, name)
 }
 
 /// Whether the atom differs from those of the last `apart` names.

@@ -11,18 +11,18 @@ ghost use Rattle.lasso_steps.specs.Leads.{IsRead};
 ghost use Rattle.lasso_steps.specs.Ways.{GoesOn, GoesAlone, RowsGoOn, Advances, Ends};
 
 use crate::arrows::{at_end, ends, fits, within};
-use crate::binding::{bind, bind_each};
+use crate::binding::{bind, bind_all, bind_each};
 use crate::formulas::open_formula;
 use crate::opening::{open_integers, open_sets};
 use crate::plan::{
     Plan, RowStep, Task, ValueStep, first, last_atoms, new_plan, pop_value, push_value,
 };
-use core_tree::{Formula, Quantity};
+use core_tree::{Formula, Multiplicity, Quantity};
 use gate_trait::Gates;
 use lasso_frame::moved;
 use lasso_sets::kept::kept_of;
 use lasso_sets::setting::Setting;
-use lasso_sets::tests_of_sets::{push_equal, push_tested};
+use lasso_sets::tests_of_sets::{push_equal, push_tested, push_within};
 use lasso_stack::{
     Choice, Operator, Store, TestOperator, after_top, asked, both_top, choose_top, chosen,
     combined, comprehended, cut, drop_below, drop_found, held_where_top, keep_found, moving_top,
@@ -237,6 +237,27 @@ fn test_value<G: Gates>(
     Ok(())
 }
 
+/// Puts on the stack whether the first of the two sets on top lies in the second and has the multiplicity.
+fn lies_values<G: Gates>(
+    alloc: Global,
+    gates: &mut G,
+    store: &mut Store,
+    plan: &mut Plan,
+    setting: &Setting,
+    word: Multiplicity,
+) -> Result<(), AllocError>
+    requires { AreStored (G.belongs gates.old) store.old }
+    ensures keeps { Keeps G.belongs G.node_value gates.old gates.new }
+    ensures stored { OnOk result (AreStored (G.belongs gates.new) store.new) }
+    ensures goes { OnOk result (GoesOn setting.now (Task.Rows (RowStep.Lies word)) (G.node_value gates.old) (G.node_value gates.new) store.old store.new plan.old plan.new) }
+{
+    let second = pop_value(alloc, plan);
+    let first = pop_value(alloc, plan);
+    let _ = setting.frame.states;
+    push_within(alloc, gates, store, word, &first, &second)?;
+    Ok(())
+}
+
 /// Moves where the row on top and another row hold to what is found: the tuple of the last atoms of
 /// the scope.
 fn find_top<G: Gates>(
@@ -284,12 +305,8 @@ fn other_step<G: Gates>(
 {
     match step {
         RowStep::Drop => drop_top(alloc, gates, store),
-        RowStep::DropBelow => drop_below(alloc, gates, store),
         RowStep::PushBoth(there, nodes, number) => {
             push_both(alloc, gates, store, there, nodes, number, count)
-        }
-        RowStep::HeldWhere(nodes, number) => {
-            held_where_top(alloc, gates, store, nodes, number, count)
         }
         _ => Ok(()),
     }
@@ -308,7 +325,7 @@ fn stack_step<G: Gates>(
     ensures stored { OnOk result (AreStored (G.belongs gates.new) store.new) }
     ensures goes { OnOk result (RowsGoOn setting.now step (G.node_value gates.old) (G.node_value gates.new) store.old store.new) }
 {
-    let count = setting.frame.len();
+    let count = setting.frame.shown.len();
     match step {
         RowStep::True => push_constant(alloc, gates, store, count, true),
         RowStep::Negate => {
@@ -327,6 +344,14 @@ fn stack_step<G: Gates>(
         }
         RowStep::Along(op) => {
             moving_top(alloc, gates, store, setting.frame, op)?;
+            Ok(())
+        }
+        RowStep::HeldWhere(nodes, number) => {
+            held_where_top(alloc, gates, store, nodes, number, count)?;
+            Ok(())
+        }
+        RowStep::DropBelow => {
+            drop_below(alloc, gates, store)?;
             Ok(())
         }
         _ => other_step(alloc, gates, store, count, step),
@@ -360,6 +385,10 @@ fn row_step<G: Gates>(
             test_value(alloc, gates, store, plan, setting, quantity)?;
             Ok(())
         }
+        RowStep::Lies(word) => {
+            lies_values(alloc, gates, store, plan, setting, word)?;
+            Ok(())
+        }
         RowStep::Find(there, scope, columns) => {
             find_top(alloc, gates, store, plan, setting, there, scope, columns)
         }
@@ -375,15 +404,17 @@ fn cut_all<G: Gates>(
     gates: &G,
     store: &mut Store,
     plan: &mut Plan,
+    setting: &Setting,
     mark: lasso_stack::Mark,
     names: usize,
-) -> Result<(), AllocError>
+)
     requires { AreStored (G.belongs gates.now) store.old }
-    ensures { OnOk result (AreStored (G.belongs gates.now) store.new) }
+    ensures stored { AreStored (G.belongs gates.now) store.new }
+    ensures goes { GoesOn setting.now (Task.Cut mark names) (G.node_value gates.now) (G.node_value gates.now) store.old store.new plan.old plan.new }
 {
+    let _ = setting.frame.states;
     cut(gates, store, mark);
     plan.names.truncate(names);
-    Ok(())
 }
 
 /// Does one task on bounds with multiplicities, or leaves what there was.
@@ -408,7 +439,6 @@ fn arrow_step<'a, G: Gates>(
         Task::AtEnd(end, chain, count) => {
             at_end(alloc, gates, store, plan, setting, end, chain, count)
         }
-        Task::Cut(mark, names) => cut_all(gates, store, plan, mark, names),
         _ => Ok(()),
     }
 }
@@ -450,6 +480,14 @@ fn step<'a, G: Gates>(
         Task::Bind(body, list, scope) => {
             let there = store.top();
             bind(plan, body, list, scope, there)
+        }
+        Task::ForAll(formula, variable, scope) => {
+            bind_all(alloc, gates, store, plan, setting, formula, variable, scope)?;
+            Ok(())
+        }
+        Task::Cut(mark, names) => {
+            cut_all(gates, store, plan, setting, mark, names);
+            Ok(())
         }
         Task::Each(body, variable, rest, scope, there) => bind_each(
             alloc, gates, store, plan, setting, body, variable, rest, scope, there,

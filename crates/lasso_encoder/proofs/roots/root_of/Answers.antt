@@ -15,7 +15,7 @@ returns-clause-says g c = λ are plain few x lasso d.
     let belongs = g.G.Gates.belongs in
     let h = depth_for c.depth_of.result in
     let frame = c.in_ok-frame.frame in
-    let r : Reading = record { bounds = c.args.bounds.now; table = c.args.table.now; scopes = c.args.scopes.now; frame = frame; depth = h } in
+    let r : Reading = record { bounds = c.args.bounds.now; table = c.args.table.now; scopes = c.args.scopes.now; frame = frame; depth = h; atoms = [] } in
     let ok : IsReading r = record { frame = subst (λ (n : ℕ). IsFrame c.args.bounds.now.states n frame) (rounds_is c.depth_of.result) c.in_ok-frame.ensures; few = depth_few c.depth_of.result } in
     let same_depth = claim_depth (claim_of c.args.formula.now) plain ∙ sym c.depth_of.ensures in
     let reaches = depth_reaches c.depth_of.result (past_of none_nested (claim_of c.args.formula.now) no_depths) (omega (arith, same_depth)) few in

@@ -5,7 +5,7 @@ use Rattle.lasso_steps.proofs.OpenLaws.{listed_none, listed_more, taken_more}
 use Rattle.lasso_steps.proofs.formulas.plan_every.Goals as goal
 
 pub loop-place-init : goal.loop-place-init
-loop-place-init c = listed_none c.args.plan.now
+loop-place-init c = listed_none c.args.scope c.args.plan.now
 
 pub loop-place-preserved : goal.loop-place-preserved
 loop-place-preserved c =

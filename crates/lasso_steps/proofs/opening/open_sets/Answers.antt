@@ -15,9 +15,9 @@ returns-in_ok-open_field-in-Field-clause-goes g c = c.in_ok-open_field-in-Field.
 
 pub returns-in_ok-plan_comprehension-in-Comprehension-clause-goes : goal.returns-in_ok-plan_comprehension-in-Comprehension-clause-goes
 returns-in_ok-plan_comprehension-in-Comprehension-clause-goes g c = λ depth root ok way.
-    absurd (subst (λ (t : Term). IsPlainTerm t) (ap term_of c.in-Comprehension.is ∙ comprehension_is c.in-Comprehension.list c.in-Comprehension.f) way.leads.0.0)
+    absurd (subst (λ (t : Term). IsPlainTerm t) (ap term_of c.in-Comprehension.is ∙ comprehension_is c.in-Comprehension.list c.in-Comprehension.f) way.leads.2.0)
 
 pub returns-in_ok-open_others-in_default-clause-goes : goal.returns-in_ok-open_others-in_default-clause-goes
 returns-in_ok-open_others-in_default-clause-goes g c = λ depth root ok way.
-    let o = c.in_ok-open_others-in_default.ensures.opened way.leads.0.0 in
+    let o = c.in_ok-open_others-in_default.ensures.opened way.leads.2.0 in
     opened_on (reading_of c.args.setting.now depth) root (g.G.Gates.node_value c.args.gates.now) c.args.store.now c.open_others.new.store c.args.plan.now c.open_others.new.plan (Sets c.args.expr c.args.scope) o.0 o.1 way

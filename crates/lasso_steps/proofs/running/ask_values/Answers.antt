@@ -1,6 +1,7 @@
 use Rattle.std.proofs.Common.{◌≡◌, ◌∙◌, ℕ, List, sym, subst}
 use Rattle.lasso_sets.specs.Relations.{reading_of}
 use Rattle.lasso_steps.specs.Plans.{todo}
+use Rattle.lasso_steps.specs.Said.{side_of}
 use Rattle.lasso_steps.proofs.WayLaws.{asked_on, moved_way}
 use Rattle.set_circuits.specs.declared.questions.Question.{Question}
 use Rattle.lasso_stack.specs.declared.numbers.TestOperator.TheVariants.{OfSets as AskSets}
@@ -24,7 +25,7 @@ returns-clause-goes g c = λ depth root ok way.
     let after = c.asked.new.store in
     let sets = subst (λ (fs : List ℕ). (of : Question) → c.args.question ≡ AskSets of → HasTop before.rows.items after.rows.items (AreAnswered of old now before.matrices.items fs c.pop_value-second.result.items)) one
     (subst (λ (gs : List ℕ). (of : Question) → c.args.question ≡ AskSets of → HasTop before.rows.items after.rows.items (AreAnswered of old now before.matrices.items c.deref.result.now gs)) two said.sets) in
-    moved_way r root (value c.asked.new.gates) c.asked.new.store c.pop_value-first.new.plan.values.items c.args.plan.now.kept.items c.pop_value-first.new.plan.kept.items (todo c.args.plan.now) (todo c.pop_value-first.new.plan) (q.kept ∙ p.kept) (q.todo_is ∙ p.todo_is)
-    (asked_on belongs value r ok root c.args.plan.now.kept.items c.args.gates.now c.asked.new.gates c.asked.ensures.keeps c.args.store.now c.asked.new.store c.requires said.beside.matrices
+    moved_way r root (value c.asked.new.gates) c.asked.new.store c.pop_value-first.new.plan.values.items (side_of c.args.plan.now) (side_of c.pop_value-first.new.plan) (todo c.args.plan.now) (todo c.pop_value-first.new.plan) (q.kept ∙ p.kept) (q.todo_is ∙ p.todo_is)
+    (asked_on belongs value r ok root (side_of c.args.plan.now) c.args.gates.now c.asked.new.gates c.asked.ensures.keeps c.args.store.now c.asked.new.store c.requires said.beside.matrices
     c.args.plan.now.values.items c.pop_value-second.new.plan.values.items c.pop_value-first.new.plan.values.items c.pop_value-second.result c.pop_value-first.result (todo c.args.plan.now)
     p.values q.values c.args.question sets way.fs way.es way.rows_right way.values_right way.kept_right way.leads)

@@ -3,6 +3,7 @@ use Rattle.gate_trait.specs.Kept.{keeps_trans}
 use Rattle.core_tree.specs.Trees.{claim_of}
 use Rattle.lasso_sets.specs.Relations.{reading_of}
 use Rattle.lasso_sets.specs.Shown.{AreKept}
+use Rattle.lasso_steps.specs.Said.{aim_of}
 use Rattle.lasso_steps.proofs.EndLaws.{begins}
 use Rattle.lasso_steps.proofs.running.push_formula.Goals as goal
 
@@ -16,7 +17,7 @@ loop-turn-init g c =
       way = λ depth ok read none.
           let r = reading_of c.args.setting.now depth in
           let have = subst (λ (ks : List (Vec ℕ Global)). AreKept r (value c.kept_of.new.gates) c.kept_of.new.store.matrices.items ks) (sym plan.kept) (c.in_ok-kept.ensures.kept depth ok) in
-          begins r c.args.formula 0 (value c.kept_of.new.gates) c.kept_of.new.store c.new_plan-plan.result c.first.new.plan (c.in_ok-kept.ensures.rows ∙ none) plan.values plan.tasks c.in_ok-first.ensures read have;
+          (c.kept_of.new.store.matrices.items, begins r c.args.formula (value c.kept_of.new.gates) c.kept_of.new.store c.new_plan-plan.result c.first.new.plan (c.in_ok-kept.ensures.rows ∙ none) plan.values plan.tasks c.in_ok-first.ensures read have);
     }
 
 pub loop-turn-preserved : goal.loop-turn-preserved
@@ -27,9 +28,10 @@ loop-turn-preserved g c =
     record {
       keeps = keeps_trans belongs value c.args.gates.now c.loop-turn.gates c.advance.new.gates before.keeps c.advance.ensures.keeps;
       stored = c.in_ok-more.ensures.stored;
-      way = λ depth ok read none. c.in_ok-more.ensures.goes c.if-not-more.false depth (claim_of c.args.formula.now) ok (before.way depth ok read none);
+      way = λ depth ok read none. (let w = before.way depth ok read none in (w.0, c.in_ok-more.ensures.goes c.if-not-more.false depth (aim_of (claim_of c.args.formula.now) w.0) ok w.1));
     }
 
 pub returns-then-not-more-clause-right : goal.returns-then-not-more-clause-right
 returns-then-not-more-clause-right g c = λ depth ok read none.
-    c.in_ok-more.ensures.ends c.if-not-more.true depth (claim_of c.args.formula.now) (c.loop-turn.invariant.way depth ok read none)
+    let w = c.loop-turn.invariant.way depth ok read none in
+    c.in_ok-more.ensures.ends c.if-not-more.true depth (aim_of (claim_of c.args.formula.now) w.0) w.1

@@ -1,6 +1,8 @@
-use Rattle.std.proofs.Common.{◌≡◌, ℕ, [], ◌∷◌}
+use Rattle.std.proofs.Common.{◌≡◌, ℕ, List, [], ◌∷◌}
 use Rattle.gate_trait.specs.Built.{Keeps}
 use Rattle.core_tree.specs.Trees.{claim_of}
+use Rattle.bool_matrix.specs.Matrices.{MatrixEntries}
+use Rattle.lasso_steps.specs.Said.{aim_of}
 use Rattle.lasso_stack.specs.Stored.{AreStored}
 use Rattle.lasso_sets.specs.Relations.{reading_of}
 use Rattle.lasso_sets.specs.Shown.{IsReading}
@@ -16,5 +18,5 @@ invariant-loop-turn g l =
     record {
       keeps : Keeps belongs value l.fn.gates l.gates;
       stored : AreStored (belongs l.gates) l.store;
-      way : (depth : ℕ) → IsReading (reading_of l.setting depth) → IsRead depth (claim_of l.formula) → l.fn.store.rows.items ≡ [] → OnTheWay l.setting depth (claim_of l.formula) (value l.gates) l.store l.plan (todo l.plan);
+      way : (depth : ℕ) → IsReading (reading_of l.setting depth) → IsRead depth (claim_of l.formula) → l.fn.store.rows.items ≡ [] → (first : List MatrixEntries) × OnTheWay l.setting depth (aim_of (claim_of l.formula) first) (value l.gates) l.store l.plan (todo l.plan);
     }

@@ -3,6 +3,7 @@ use Rattle.lasso_steps.specs.declared.plan.RowStep.{RowStep}
 use Rattle.lasso_steps.specs.declared.plan.Task.TheVariants.{Rows}
 use Rattle.lasso_steps.specs.Plans.{todo}
 use Rattle.lasso_steps.specs.Ways.{GoesOn}
+use Rattle.lasso_steps.specs.Said.{side_of}
 use Rattle.lasso_steps.proofs.StepLaws.{of_rows}
 use Rattle.lasso_steps.proofs.running.row_step.Goals as goal
 
@@ -23,4 +24,9 @@ returns-in_ok-test_value-in-Tested-clause-goes g c =
 
 pub returns-in_ok-stack_step-in_default-clause-goes : goal.returns-in_ok-stack_step-in_default-clause-goes
 returns-in_ok-stack_step-in_default-clause-goes g c = λ depth root ok way.
-    c.in_ok-stack_step-in_default.ensures.goes depth root c.args.plan.now.kept.items c.args.plan.now.values.items (todo c.args.plan.now) ok (of_rows c.args.step c.in_default.not-Asked c.in_default.not-Equal c.in_default.not-Tested) way
+    c.in_ok-stack_step-in_default.ensures.goes depth root (side_of c.args.plan.now) c.args.plan.now.values.items (todo c.args.plan.now) ok (of_rows c.args.step c.in_default.not-Asked c.in_default.not-Equal c.in_default.not-Tested c.in_default.not-Lies) way
+
+pub returns-in_ok-lies_values-in-Lies-clause-goes : goal.returns-in_ok-lies_values-in-Lies-clause-goes
+returns-in_ok-lies_values-in-Lies-clause-goes g c =
+    let value = g.G.Gates.node_value in
+    subst (λ (s : RowStep). GoesOn c.args.setting.now (Rows s) (value c.args.gates.now) (value c.lies_values.new.gates) c.args.store.now c.lies_values.new.store c.args.plan.now c.lies_values.new.plan) (sym c.in-Lies.is) c.in_ok-lies_values-in-Lies.ensures.goes

@@ -1,9 +1,10 @@
-use Rattle.std.proofs.Common.{◌≡◌, sym, subst}
+use Rattle.std.proofs.Common.{◌≡◌, length, sym, subst, arith}
 use Rattle.gate_trait.specs.Kept.{keeps_refl}
 use Rattle.lasso_steps.specs.declared.plan.RowStep.{RowStep}
 use Rattle.lasso_sets.specs.Relations.{reading_of}
 use Rattle.lasso_steps.specs.Ways.{RowsGoOn}
 use Rattle.lasso_steps.proofs.WayLaws.{negate_on, both_on, after_on, along_on}
+use Rattle.lasso_steps.proofs.BindLaws.{held_on, drop_on}
 use Rattle.lasso_steps.proofs.running.stack_step.Goals as goal
 
 pub returns-in_ok-negate_top-in-Negate-clause-goes : goal.returns-in_ok-negate_top-in-Negate-clause-goes
@@ -43,3 +44,23 @@ returns-in_ok-moving_top-in-Along-clause-goes g c =
     subst (λ (s : RowStep). RowsGoOn c.args.setting.now s (value gates) (value later) c.args.store.now c.moving_top.new.store) (sym c.in-Along.is) (λ depth root kept values tasks ok own way.
     along_on belongs value (reading_of c.args.setting.now depth) ok root kept gates later c.moving_top.ensures.keeps c.args.store.now c.moving_top.new.store c.requires c.in_ok-moving_top-in-Along.ensures.beside.matrices values tasks c.in-Along.op
     (c.in_ok-moving_top-in-Along.ensures.rows _ _ ok.frame) way.fs way.es way.rows_right way.values_right way.kept_right way.leads)
+
+pub returns-in_ok-held_where_top-in-HeldWhere-clause-goes : goal.returns-in_ok-held_where_top-in-HeldWhere-clause-goes
+returns-in_ok-held_where_top-in-HeldWhere-clause-goes g c =
+    let value = g.G.Gates.node_value in
+    let belongs = g.G.Gates.belongs in
+    let gates = c.args.gates.now in
+    let later = c.held_where_top.new.gates in
+    let long : c.len-count.result ≡ length c.args.setting.now.frame.now.shown.items = omega (arith, c.len-count.ensures, c.args.setting.now.frame.now.shown.ok.0) in
+    subst (λ (s : RowStep). RowsGoOn c.args.setting.now s (value gates) (value later) c.args.store.now c.held_where_top.new.store) (sym c.in-HeldWhere.is) (λ depth root kept values tasks ok own way.
+    held_on belongs value (reading_of c.args.setting.now depth) ok root kept gates later c.held_where_top.ensures.keeps c.args.store.now c.held_where_top.new.store c.requires c.in_ok-held_where_top-in-HeldWhere.ensures.beside.matrices values tasks c.in-HeldWhere.nodes c.in-HeldWhere.number c.len-count.result long
+    c.in_ok-held_where_top-in-HeldWhere.ensures.rows way.fs way.es way.rows_right way.values_right way.kept_right way.leads)
+
+pub returns-in_ok-drop_below-in-DropBelow-clause-goes : goal.returns-in_ok-drop_below-in-DropBelow-clause-goes
+returns-in_ok-drop_below-in-DropBelow-clause-goes g c =
+    let value = g.G.Gates.node_value in
+    let belongs = g.G.Gates.belongs in
+    let gates = c.args.gates.now in
+    subst (λ (s : RowStep). RowsGoOn c.args.setting.now s (value gates) (value gates) c.args.store.now c.drop_below.new.store) (sym c.in-DropBelow.is) (λ depth root kept values tasks ok own way.
+    drop_on belongs value (reading_of c.args.setting.now depth) ok root kept gates gates (keeps_refl belongs value gates) c.args.store.now c.drop_below.new.store c.requires c.in_ok-drop_below-in-DropBelow.ensures.beside.matrices values tasks
+    c.in_ok-drop_below-in-DropBelow.ensures.rows way.fs way.es way.rows_right way.values_right way.kept_right way.leads)

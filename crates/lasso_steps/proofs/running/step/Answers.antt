@@ -22,3 +22,13 @@ pub returns-in_ok-row_step-in-Rows-clause-goes : goal.returns-in_ok-row_step-in-
 returns-in_ok-row_step-in-Rows-clause-goes g c =
     let value = g.G.Gates.node_value in
     subst (λ (t : Task). GoesOn c.args.setting.now t (value c.args.gates.now) (value c.row_step.new.gates) c.args.store.now c.row_step.new.store c.args.plan.now c.row_step.new.plan) (sym c.in-Rows.is) c.in_ok-row_step-in-Rows.ensures.goes
+
+pub returns-in_ok-bind_all-in-ForAll-clause-goes : goal.returns-in_ok-bind_all-in-ForAll-clause-goes
+returns-in_ok-bind_all-in-ForAll-clause-goes g c =
+    let value = g.G.Gates.node_value in
+    subst (λ (t : Task). GoesOn c.args.setting.now t (value c.args.gates.now) (value c.args.gates.now) c.args.store.now c.bind_all.new.store c.args.plan.now c.bind_all.new.plan) (sym c.in-ForAll.is) c.in_ok-bind_all-in-ForAll.ensures.goes
+
+pub returns-in-Cut-clause-goes : goal.returns-in-Cut-clause-goes
+returns-in-Cut-clause-goes g c =
+    let value = g.G.Gates.node_value in
+    subst (λ (t : Task). GoesOn c.args.setting.now t (value c.args.gates.now) (value c.args.gates.now) c.args.store.now c.cut_all.new.store c.args.plan.now c.cut_all.new.plan) (sym c.in-Cut.is) c.cut_all.ensures.goes

@@ -1,6 +1,7 @@
 use Rattle.std.proofs.Common.{◌≡◌, ◌∙◌, ℕ, List, sym, subst}
 use Rattle.lasso_sets.specs.Relations.{reading_of}
 use Rattle.lasso_steps.specs.Plans.{todo}
+use Rattle.lasso_steps.specs.Said.{side_of}
 use Rattle.lasso_steps.proofs.WayLaws.{two_on, moved_way}
 use Rattle.set_circuits.specs.declared.operators.SetOperator.{SetOperator}
 use Rattle.lasso_stack.specs.declared.numbers.Operator.TheVariants.{OfSets}
@@ -25,7 +26,7 @@ returns-clause-goes g c = λ depth root ok way.
     let row = c.in_ok-new.new.items in
     let sets = subst (λ (fs : List ℕ). (of : SetOperator) → c.args.op ≡ OfSets of → AreMade of old now before after fs c.pop_value-second.result.items row) one
     (subst (λ (gs : List ℕ). (of : SetOperator) → c.args.op ≡ OfSets of → AreMade of old now before after c.deref.result.now gs row) two made.sets) in
-    moved_way r root (value c.combined.new.gates) c.combined.new.store c.push_value.new.plan.values.items c.args.plan.now.kept.items c.push_value.new.plan.kept.items (todo c.args.plan.now) (todo c.push_value.new.plan) (put.kept ∙ q.kept ∙ p.kept) (put.todo_is ∙ q.todo_is ∙ p.todo_is)
-    (two_on belongs value r ok root c.args.plan.now.kept.items c.args.gates.now c.combined.new.gates c.combined.ensures.keeps c.args.store.now c.combined.new.store c.requires made.grows.rows made.grows.matrices
+    moved_way r root (value c.combined.new.gates) c.combined.new.store c.push_value.new.plan.values.items (side_of c.args.plan.now) (side_of c.push_value.new.plan) (todo c.args.plan.now) (todo c.push_value.new.plan) (put.kept ∙ q.kept ∙ p.kept) (put.todo_is ∙ q.todo_is ∙ p.todo_is)
+    (two_on belongs value r ok root (side_of c.args.plan.now) c.args.gates.now c.combined.new.gates c.combined.ensures.keeps c.args.store.now c.combined.new.store c.requires made.grows.rows made.grows.matrices
     c.args.plan.now.values.items c.pop_value-second.new.plan.values.items c.pop_value-first.new.plan.values.items c.push_value.new.plan.values.items c.pop_value-second.result c.pop_value-first.result c.in_ok-new.new (todo c.args.plan.now)
     p.values q.values put.values c.args.op sets way.fs way.es way.rows_right way.values_right way.kept_right way.leads)
