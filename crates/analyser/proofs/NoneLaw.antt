@@ -90,8 +90,8 @@ pub none_satisfies : (number : ℕ) (prepared : Prepared) → IsReady number pre
 none_satisfies number prepared ready ruled law = record {
   candidates = λ covered lasso candidate trace. ruled ready.table covered lasso candidate (meets number prepared ready lasso trace);
   lassos = λ covered usual lasso over few trace. (
-    let states = ready.states in
-    let (other, same, candidate, satisfied) = law prepared.model prepared.scopes prepared.bounds lasso (claim_of trace.command.formula) (right_of prepared ready.scopes_are usual) ready.bounds_are over (omega (arith, few, states)) trace.satisfies in
-    let shown : IsTraceOf prepared other = record { facts = trace.facts; command = trace.command; parts_are = trace.parts_are; satisfies = satisfied } in
-    ruled ready.table covered other candidate (meets number prepared ready other shown));
+      let states = ready.states in
+      let (other, same, candidate, satisfied) = law prepared.model prepared.scopes prepared.bounds lasso (claim_of trace.command.formula) (right_of prepared ready.scopes_are usual) ready.bounds_are over (omega (arith, few, states)) trace.satisfies in
+      let shown : IsTraceOf prepared other = record { facts = trace.facts; command = trace.command; parts_are = trace.parts_are; satisfies = satisfied } in
+      ruled ready.table covered other candidate (meets number prepared ready other shown));
 }
