@@ -7,7 +7,7 @@ use crate::reading::{Readable, among, gate_values, has_bit};
 use crate::tally::{Line, Tally, add_line};
 use core_tree::{Comparison, IntOp};
 use gate_trait::Gates;
-use int_circuits::{Bits, at_most, count, exactly};
+use int_circuits::{Bits, at_most, count, exactly, neg};
 use number_circuits::{calculate, compare};
 use std::alloc::{AllocError, Global};
 
@@ -22,7 +22,7 @@ fn push_input<G: Gates>(gates: &mut G, bits: &mut Bits, variable: u64) -> Result
 }
 
 /// So many bits, which are the inputs from a number on.
-fn inputs<G: Gates>(
+pub fn inputs<G: Gates>(
     alloc: Global,
     gates: &mut G,
     first: u64,
@@ -39,7 +39,7 @@ fn inputs<G: Gates>(
 }
 
 /// How many integers have so many bits.
-fn size_of(width: u32) -> u32 {
+pub fn size_of(width: u32) -> u32 {
     match width {
         1 => 2,
         2 => 4,
@@ -49,7 +49,7 @@ fn size_of(width: u32) -> u32 {
 }
 
 /// The integer whose bits are those of a number below so many.
-fn integer_of(code: u32, size: u32) -> i64 {
+pub fn integer_with(code: u32, size: u32) -> i64 {
     let value = i64::from(code);
     if code >= size / 2 {
         value.wrapping_sub(i64::from(size))
@@ -59,7 +59,7 @@ fn integer_of(code: u32, size: u32) -> i64 {
 }
 
 /// Whether bits are the low bits of an integer.
-fn are_bits(values: &[bool], bits: &Bits, wanted: i64) -> bool {
+pub fn are_bits(values: &[bool], bits: &Bits, wanted: i64) -> bool {
     let mut left = wanted;
     for node in bits.nodes() {
         if among(values, *node) != (left & 1 == 1) {
@@ -121,9 +121,24 @@ fn operate<G: Readable>(alloc: Global, op: IntOp, width: u32) -> Result<Tally, A
     for left in 0..size {
         for right in 0..size {
             let values = gate_values(alloc, &gates, both(left, right, size))?;
-            let wanted = answer(op, integer_of(left, size), integer_of(right, size));
+            let wanted = answer(op, integer_with(left, size), integer_with(right, size));
             tally.add(made.len() == width as usize && are_bits(&values, &made, wanted));
         }
+    }
+    Ok(tally)
+}
+
+/// The negation of all integers of a width.
+fn negate<G: Readable>(alloc: Global, width: u32) -> Result<Tally, AllocError> {
+    let mut gates = G::fresh(alloc);
+    let a = inputs(alloc, &mut gates, 1, width)?;
+    let made = neg(alloc, &mut gates, &a)?;
+    let size = size_of(width);
+    let mut tally = Tally::NONE;
+    for code in 0..size {
+        let values = gate_values(alloc, &gates, u64::from(code))?;
+        let wanted = integer_with(code, size).wrapping_neg();
+        tally.add(made.len() == width as usize && are_bits(&values, &made, wanted));
     }
     Ok(tally)
 }
@@ -139,7 +154,7 @@ fn relate<G: Readable>(alloc: Global, op: Comparison, width: u32) -> Result<Tall
     for left in 0..size {
         for right in 0..size {
             let values = gate_values(alloc, &gates, both(left, right, size))?;
-            let wanted = are_so(op, integer_of(left, size), integer_of(right, size));
+            let wanted = are_so(op, integer_with(left, size), integer_with(right, size));
             tally.add(among(&values, made) == wanted);
         }
     }
@@ -215,6 +230,15 @@ fn add_comparison<G: Readable>(
     add_line(lines, name, tally)
 }
 
+/// The negation at the widths from 1 to 4.
+fn add_negation<G: Readable>(alloc: Global, lines: &mut Vec<Line>) -> Result<(), AllocError> {
+    let mut tally = Tally::NONE;
+    for width in 1..5 {
+        tally.join(negate::<G>(alloc, width)?);
+    }
+    add_line(lines, "neg", tally)
+}
+
 /// Counts at the widths from 1 to 4, and limits from 0 to 6.
 fn add_counts<G: Readable>(alloc: Global, lines: &mut Vec<Line>) -> Result<(), AllocError> {
     let mut counts = Tally::NONE;
@@ -236,6 +260,7 @@ pub fn add_integers<G: Readable>(alloc: Global, lines: &mut Vec<Line>) -> Result
     add_operator::<G>(alloc, lines, "mul", IntOp::Mul)?;
     add_operator::<G>(alloc, lines, "div", IntOp::Div)?;
     add_operator::<G>(alloc, lines, "rem", IntOp::Rem)?;
+    add_negation::<G>(alloc, lines)?;
     add_comparison::<G>(alloc, lines, "equal", Comparison::Equal)?;
     add_comparison::<G>(alloc, lines, "less", Comparison::Less)?;
     add_comparison::<G>(alloc, lines, "greater", Comparison::Greater)?;

@@ -1,10 +1,14 @@
-//! Compares circuits of small operands with plain integers and plain sets, under all assignments, over both stores of gates.
+//! Compares circuits of small operands with plain values, integers and sets, under all assignments, over both stores of gates.
 //!
-//! Each line is a store, an operation, how many results are right, and how many aren't: of integers for all pairs at each width from 1 to 4,
-//! of sets for all sets of pairs over two atoms, and in the closure and the transpose over three. The status is 1 where a result is wrong.
+//! Each line is a store, an operation, how many results are right, and how many aren't: of gates for all constants, inputs and negations
+//! of three inputs, and whether a gate that is asked for again is kept once; of integers for all pairs at each width from 1 to 4; of sets
+//! for all sets of pairs over two atoms, and in the closure, the transpose and the rests over three; and between sets and integers for
+//! all of them at each width from 1 to 3. The status is 1 where a result is wrong.
 #![tactic(auto)]
 
+mod gates;
 mod integers;
+mod numbers;
 mod reading;
 mod sets;
 mod tally;
@@ -12,7 +16,9 @@ mod tally;
 use anyhow::Result;
 use circuit_store::CircuitStore;
 use gate_trait::PlainGates;
+use gates::add_gates;
 use integers::add_integers;
+use numbers::add_numbers;
 use reading::Readable;
 use set_operators::EvaluationFault;
 use sets::add_sets;
@@ -23,8 +29,10 @@ use tally::Line;
 /// All operations over one store of gates.
 fn lines_of<G: Readable>(alloc: Global) -> Result<Vec<Line>, EvaluationFault> {
     let mut lines = Vec::new(alloc);
+    add_gates::<G>(alloc, &mut lines)?;
     add_integers::<G>(alloc, &mut lines)?;
     add_sets::<G>(alloc, &mut lines)?;
+    add_numbers::<G>(alloc, &mut lines)?;
     Ok(lines)
 }
 

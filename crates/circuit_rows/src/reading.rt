@@ -9,6 +9,9 @@ pub trait Readable: Gates + Drop {
     /// No gates.
     fn fresh(alloc: Global) -> Self;
 
+    /// Whether a gate that is asked for again is the one that is there.
+    fn is_shared() -> bool;
+
     /// How many gates there are.
     fn size(&self) -> u64;
 
@@ -19,6 +22,10 @@ pub trait Readable: Gates + Drop {
 impl Readable for PlainGates {
     fn fresh(alloc: Global) -> Self {
         PlainGates::new(alloc)
+    }
+
+    fn is_shared() -> bool {
+        false
     }
 
     fn size(&self) -> u64 {
@@ -37,6 +44,10 @@ impl Readable for PlainGates {
 impl Readable for CircuitStore {
     fn fresh(alloc: Global) -> Self {
         CircuitStore::new(alloc)
+    }
+
+    fn is_shared() -> bool {
+        true
     }
 
     fn size(&self) -> u64 {

@@ -2,15 +2,18 @@
 
 use crate::reading::{Readable, among, gate_values, has_bit};
 use crate::tally::{Line, Tally, add_line};
-use bool_matrix::Matrix;
+use bool_matrix::{Matrix, equal, one};
 use core_tree::RelationOp;
-use set_circuits::{Question, SetOperator, apply, ask, relation_matrix};
-use set_operators::{EvaluationFault, closure, combine, empty_of, identity, paired, put, turned};
+use set_circuits::{Question, SetOperator, apply, ask, choose, relation_matrix, rest_of};
+use set_operators::{
+    EvaluationFault, are_equal, closure, combine, empty_of, identity, paired, put, rows_after,
+    rows_before, turned,
+};
 use std::alloc::Global;
 use tuple_sets::{Tuple, TupleSet};
 
 /// All tuples of one number below an end.
-fn all_atoms(alloc: Global, end: u32) -> Result<TupleSet, EvaluationFault> {
+pub fn all_atoms(alloc: Global, end: u32) -> Result<TupleSet, EvaluationFault> {
     let mut set = empty_of(alloc, 1);
     for atom in 0..end {
         put(&mut set, Tuple::of(alloc, &[atom])?)?;
@@ -30,7 +33,7 @@ fn all_pairs(alloc: Global, end: u32) -> Result<TupleSet, EvaluationFault> {
 }
 
 /// The tuples whose bits are set, where the first one has the bit of this place.
-fn chosen(
+pub fn chosen(
     alloc: Global,
     upper: &TupleSet,
     bits: u64,
@@ -79,7 +82,7 @@ fn is_wanted(
 }
 
 /// Whether just the tuples of a set have true nodes.
-fn is_same(values: &[bool], matrix: &Matrix, set: &TupleSet) -> bool {
+pub fn is_same(values: &[bool], matrix: &Matrix, set: &TupleSet) -> bool {
     let mut found: usize = 0;
     for entry in matrix.entries() {
         let is_true = among(values, entry.node);
@@ -144,6 +147,84 @@ fn ask_all<G: Readable>(
         let first = chosen(alloc, left, bits, 0)?;
         let second = chosen(alloc, right, bits, behind)?;
         tally.add(among(&values, made) == is_wanted(alloc, question, &first, &second)?);
+    }
+    Ok(tally)
+}
+
+/// Whether a set has just one tuple, for all sets within another.
+fn ask_one<G: Readable>(alloc: Global, upper: &TupleSet) -> Result<Tally, EvaluationFault> {
+    let mut gates = G::fresh(alloc);
+    let a = relation_matrix(alloc, &mut gates, upper, 1)?;
+    let made = one(alloc, &mut gates, &a)?;
+    let mut tally = Tally::NONE;
+    for bits in 0..assignments(upper, &empty_of(alloc, 1)) {
+        let values = gate_values(alloc, &gates, bits)?;
+        let set = chosen(alloc, upper, bits, 0)?;
+        tally.add(among(&values, made) == (set.len() == 1));
+    }
+    Ok(tally)
+}
+
+/// Whether two sets are equal, for all pairs of sets within another.
+fn ask_equal<G: Readable>(alloc: Global, upper: &TupleSet) -> Result<Tally, EvaluationFault> {
+    let mut gates = G::fresh(alloc);
+    let behind = upper.len() as u64;
+    let a = relation_matrix(alloc, &mut gates, upper, 1)?;
+    let b = relation_matrix(alloc, &mut gates, upper, behind.saturating_add(1))?;
+    if a.arity() != b.arity() {
+        return Err(EvaluationFault::Unfit);
+    }
+    let made = equal(alloc, &mut gates, &a, &b)?;
+    let mut tally = Tally::NONE;
+    for bits in 0..assignments(upper, upper) {
+        let values = gate_values(alloc, &gates, bits)?;
+        let first = chosen(alloc, upper, bits, 0)?;
+        let second = chosen(alloc, upper, bits, behind)?;
+        tally.add(among(&values, made) == are_equal(&first, &second));
+    }
+    Ok(tally)
+}
+
+/// The choice of one of two sets by an input, for all pairs of sets within another.
+fn choose_all<G: Readable>(alloc: Global, upper: &TupleSet) -> Result<Tally, EvaluationFault> {
+    let mut gates = G::fresh(alloc);
+    let behind = upper.len() as u64;
+    let a = relation_matrix(alloc, &mut gates, upper, 1)?;
+    let b = relation_matrix(alloc, &mut gates, upper, behind.saturating_add(1))?;
+    let last = behind.saturating_mul(2);
+    let node = gates.input(last.saturating_add(1))?;
+    let made = choose(alloc, &mut gates, node, &a, &b)?;
+    let mut tally = Tally::NONE;
+    for bits in 0..assignments(upper, upper).saturating_mul(2) {
+        let values = gate_values(alloc, &gates, bits)?;
+        let from = if has_bit(bits, last) { 0 } else { behind };
+        let set = chosen(alloc, upper, bits, from)?;
+        tally.add(is_same(&values, &made, &set));
+    }
+    Ok(tally)
+}
+
+/// What follows a number in the pairs of a set, or what stands before it, for all sets within
+/// another.
+fn rest_all<G: Readable>(
+    alloc: Global,
+    upper: &TupleSet,
+    number: u32,
+    at_start: bool,
+) -> Result<Tally, EvaluationFault> {
+    let mut gates = G::fresh(alloc);
+    let a = relation_matrix(alloc, &mut gates, upper, 1)?;
+    let made = rest_of(alloc, &gates, &a, &[number], at_start)?;
+    let mut tally = Tally::NONE;
+    for bits in 0..assignments(upper, &empty_of(alloc, 1)) {
+        let values = gate_values(alloc, &gates, bits)?;
+        let set = chosen(alloc, upper, bits, 0)?;
+        let wanted = if at_start {
+            rows_after(alloc, &set, &[number])?
+        } else {
+            rows_before(alloc, &set, &[number])?
+        };
+        tally.add(is_same(&values, &made, &wanted));
     }
     Ok(tally)
 }
@@ -271,9 +352,28 @@ fn add_single<G: Readable>(
     add_question::<G>(alloc, lines, "lone", Question::Lone, &all.pairs, &all.none)
 }
 
+/// The tests for one tuple and for equality, the choice, and the rests of tuples.
+fn add_others<G: Readable>(
+    alloc: Global,
+    lines: &mut Vec<Line>,
+    all: &Uppers,
+) -> Result<(), EvaluationFault> {
+    add_line(lines, "one", ask_one::<G>(alloc, &all.pairs)?)?;
+    add_line(lines, "same set", ask_equal::<G>(alloc, &all.pairs)?)?;
+    add_line(lines, "choice", choose_all::<G>(alloc, &all.atoms)?)?;
+    let mut rests = Tally::NONE;
+    for number in 0..3 {
+        rests.join(rest_all::<G>(alloc, &all.more_pairs, number, true)?);
+        rests.join(rest_all::<G>(alloc, &all.more_pairs, number, false)?);
+    }
+    add_line(lines, "rest", rests)?;
+    Ok(())
+}
+
 /// All of them, over one store of gates.
 pub fn add_sets<G: Readable>(alloc: Global, lines: &mut Vec<Line>) -> Result<(), EvaluationFault> {
     let all = make_uppers(alloc)?;
     add_combined::<G>(alloc, lines, &all)?;
-    add_single::<G>(alloc, lines, &all)
+    add_single::<G>(alloc, lines, &all)?;
+    add_others::<G>(alloc, lines, &all)
 }
