@@ -1,8 +1,7 @@
 //! A conflict-driven search: an assignment that satisfies the clauses, or lemmas that refute them.
 //!
-//! Each lemma is taken through the checker's step as it is learnt, and an assignment is tested at the end. Where a
-//! lemma doesn't pass or the test fails, the plain search answers. So the answers are right whatever the trail, the
-//! analysis and the chooser do.
+//! Each lemma is taken through the checker's step as it is learnt, and passes. An assignment is tested at the end, and
+//! where the test fails the plain search answers. So the answers are right whatever the chooser does.
 #![tactic(auto)]
 
 mod lent;

@@ -1,6 +1,6 @@
-ghost use Rattle.std.specs.Prelude.{◌≡◌, ◌<◌, ◌≤◌, IsTrue, nat_abs};
+ghost use Rattle.std.specs.Prelude.{◌≡◌, ◌<◌, ◌≤◌, ◌^◌, ◌++◌, ◌∷◌, [], IsTrue, IfOk, OnOk, length};
+ghost use Rattle.std.specs.List.{All};
 ghost use Rattle.trail_literals.specs.Literal.{IsLiteral};
-ghost use Rattle.cnf_form.specs.Literal.{IsWithin};
 
 use cnf_form::Clause;
 use lrat_form::Hints;
@@ -13,26 +13,6 @@ pub(crate) fn is_literal(variables: usize, literal: i64) -> bool
     ensures { IsTrue result → IsLiteral variables literal }
 {
     literal != 0 && literal.unsigned_abs() <= variables as u64
-}
-
-/// Whether a literal's variable is one of so many, or it is 0.
-#[inline]
-fn is_within(variables: usize, literal: i64) -> bool
-    ensures { IsTrue result → nat_abs literal ≤ variables }
-{
-    literal.unsigned_abs() <= variables as u64
-}
-
-/// Whether the variables of all literals are among so many.
-pub(crate) fn are_within(variables: usize, literals: &[i64]) -> bool
-    ensures { IsTrue result → IsWithin variables literals.now }
-{
-    for place in 0..literals.len() {
-        if !is_within(variables, literals[place]) {
-            return false;
-        }
-    }
-    true
 }
 
 /// A bit for the level that a literal's variable had last, by the level's rest at 64.
@@ -53,20 +33,46 @@ pub(crate) fn level_count(trail: &Trail, literals: &[i64]) -> u64 {
     u64::from(bits.count_ones())
 }
 
-/// The clause of some literals, where each is one.
-pub(crate) fn clause_of(alloc: Global, literals: &[i64]) -> Result<Option<Clause>, AllocError> {
+/// How many variables there are, by the values of these.
+#[inline]
+pub(crate) fn count_of(values: &[i8]) -> usize
+    ensures count { result ≡ length values.now }
+    ensures fits { result < 2 ^ 63 }
+{
+    values.len()
+}
+
+/// Adds a literal to a clause.
+fn push_literal(clause: &mut Clause, variables: usize, literal: &i64) -> Result<(), AllocError>
+    requires fits { variables < 2 ^ 63 }
+    requires literal { IsLiteral variables literal.now }
+    ensures { OnOk result (clause.new ≡ clause.old ++ literal.now ∷ []) }
+{
+    clause.push(*literal)?;
+    Ok(())
+}
+
+/// The clause of some literals.
+pub(crate) fn clause_of(
+    alloc: Global,
+    variables: usize,
+    literals: &[i64],
+) -> Result<Clause, AllocError>
+    requires fits { variables < 2 ^ 63 }
+    requires literals { All (IsLiteral variables) literals.now }
+    ensures { IfOk result (λ clause. clause ≡ literals.now) }
+{
     let mut clause = Clause::new(alloc);
     for literal in literals {
-        if *literal == 0 || *literal == i64::MIN {
-            return Ok(None);
-        }
-        clause.push(*literal)?;
+        push_literal(&mut clause, variables, literal)?;
     }
-    Ok(Some(clause))
+    Ok(clause)
 }
 
 /// Hints of some numbers.
-pub(crate) fn hints_of(alloc: Global, numbers: &[u64]) -> Result<Hints, AllocError> {
+pub(crate) fn hints_of(alloc: Global, numbers: &[u64]) -> Result<Hints, AllocError>
+    ensures { IfOk result (λ hints. hints ≡ numbers.now) }
+{
     let mut hints = Hints::new(alloc);
     for number in numbers {
         hints.push(*number)?;

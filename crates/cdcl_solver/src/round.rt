@@ -1,4 +1,5 @@
-ghost use Rattle.std.specs.Prelude.{◌≡◌, ◌-◌, ◌<◌, ◌≤◌, ℕ, ℤ, List, IfOk, Some, Option, IsTrue, length};
+ghost use Rattle.std.specs.Prelude.{◌≡◌, ◌≢◌, ◌-◌, ◌<◌, ◌≤◌, ℕ, ℤ, List, IfOk, OnOk, Some, Option, IsTrue, length};
+ghost use Rattle.std.specs.List.{All};
 ghost use Rattle.lrat_form.specs.Step.{start};
 ghost use Rattle.lemma_log.specs.Outcome.{AreLemmas, Leaves};
 ghost use Rattle.trail_literals.specs.Literal.{IsLiteral};
@@ -6,9 +7,11 @@ ghost use Rattle.solver_trail.specs.Sound.{IsFree};
 ghost use Rattle.solver_trail.specs.Watched.{IsFalseIn};
 ghost use Rattle.lrat_form.specs.declared.line.Line.{Line};
 ghost use Rattle.lrat_form.specs.Step.{State};
+ghost use Rattle.conflict_analysis.specs.Learnt.{IsLearnt};
 ghost use Rattle.cdcl_solver.specs.Turn.{IsTurn};
+ghost use Rattle.cdcl_solver.specs.Shared.{AreShared};
 
-use crate::load::{are_within, clause_of, hints_of, is_literal, level_count};
+use crate::load::{clause_of, count_of, hints_of, is_literal, level_count};
 use crate::pace::Pace;
 use chooser_box::Chooser;
 use conflict_analysis::Analysis;
@@ -28,8 +31,6 @@ pub(crate) enum Turn {
     Full,
     /// There are as many lemmas as the budget allows.
     Spent,
-    /// The search has lost its way.
-    Lost,
 }
 
 /// Raises the weights of the variables of false literals that a conflict came from.
@@ -62,6 +63,7 @@ fn can_assign(trail: &Trail, literal: i64) -> bool
 /// Makes a free literal true, if there is one.
 fn decide<C: Chooser>(trail: &mut Trail, chooser: &mut C) -> Turn
     ensures variables { trail.new.variables ≡ trail.old.variables }
+    ensures clauses { (trail.new.literals ≡ trail.old.literals) × (trail.new.ends ≡ trail.old.ends) }
     ensures turn { (formula : List (List ℤ)) (budget : Option ℕ) (lines : List Line) (state : State) → AreLemmas (start formula) lines state → IsTurn formula budget result lines state }
 {
     let picked = chooser.pick(trail.values());
@@ -87,37 +89,37 @@ fn is_spent(budget: Option<u64>, count: usize) -> bool
     }
 }
 
-/// What a lemma comes to.
+/// What a lemma that passes comes to.
 fn turn_of(taken: Taken) -> Turn
+    requires { taken ≢ Taken.Failed }
     ensures { (formula : List (List ℤ)) (budget : Option ℕ) (lines : List Line) (state : State) → Leaves formula taken lines state → IsTurn formula budget result lines state }
 {
     match taken {
         Taken::Added => Turn::On,
         Taken::Refuted => Turn::Refuted,
-        Taken::Failed => Turn::Lost,
+        Taken::Failed => unreachable!(),
     }
 }
 
-/// Keeps what was learnt: the trail goes back and has the clause, and the checker takes the lemma.
-pub(crate) fn keep(
+/// Keeps what was learnt: the trail goes back and has the clause, and the checker takes the lemma, which passes.
+fn keep(
     alloc: Global,
     log: &mut LemmaLog,
     trail: &mut Trail,
     analysis: &Analysis,
 ) -> Result<Turn, AllocError>
+    requires shared { AreShared trail.old log.old.checker }
+    requires literals { All (IsLiteral trail.old.variables) analysis.now.literals.items }
+    requires learnt { IsLearnt trail.old analysis.now.literals.items analysis.now.hints.items analysis.now.back_to }
     ensures variables { trail.new.variables ≡ trail.old.variables }
+    ensures shared { OnOk result (AreShared trail.new log.new.checker) }
     ensures turn { (formula : List (List ℤ)) (budget : Option ℕ) → AreLemmas (start formula) log.old.lines log.old.checker →
         IfOk result (λ turn. IsTurn formula budget turn log.new.lines log.new.checker) }
 {
-    let Some(clause) = clause_of(alloc, &analysis.literals)? else {
-        return Ok(Turn::Lost);
-    };
-    if analysis.back_to > trail.top() || !are_within(trail.values().len(), clause.literals()) {
-        return Ok(Turn::Lost);
-    }
+    let clause = clause_of(alloc, count_of(trail.values()), &analysis.literals)?;
+    let hints = hints_of(alloc, &analysis.hints)?;
     trail.undo_to(analysis.back_to);
     let id = trail.add_clause(&clause)?;
-    let hints = hints_of(alloc, &analysis.hints)?;
     let taken = log.take(Line::Lemma { id, clause, hints })?;
     Ok(turn_of(taken))
 }
@@ -133,9 +135,11 @@ fn take_conflict<C: Chooser>(
     conflict: u64,
 ) -> Result<Turn, AllocError>
     requires analysis { analysis.old.variables ≡ trail.old.variables }
+    requires shared { AreShared trail.old log.old.checker }
     requires conflict { (0 < conflict) × (conflict ≤ length trail.old.ends) × IsFalseIn trail.old.literals trail.old.ends trail.old.assignment.trail (conflict - 1) }
     ensures analysis { analysis.new.variables ≡ analysis.old.variables }
     ensures variables { trail.new.variables ≡ trail.old.variables }
+    ensures shared { OnOk result (AreShared trail.new log.new.checker) }
     ensures turn { (formula : List (List ℤ)) → AreLemmas (start formula) log.old.lines log.old.checker →
         IfOk result (λ turn. IsTurn formula budget turn log.new.lines log.new.checker) }
 {
@@ -150,7 +154,8 @@ fn take_conflict<C: Chooser>(
 
 /// Lets the conflict count: old weights count less, and the trail goes back to level 0 where this is due.
 fn count_conflict<C: Chooser>(trail: &mut Trail, learnt: &[i64], chooser: &mut C, pace: &mut Pace)
-    ensures { trail.new.variables ≡ trail.old.variables }
+    ensures variables { trail.new.variables ≡ trail.old.variables }
+    ensures clauses { (trail.new.literals ≡ trail.old.literals) × (trail.new.ends ≡ trail.old.ends) }
 {
     chooser.decay();
     // A variable that has been undone keeps the level that it had last.
@@ -171,8 +176,10 @@ pub(crate) fn take_turn<C: Chooser>(
     budget: Option<u64>,
 ) -> Result<Turn, AllocError>
     requires analysis { analysis.old.variables ≡ trail.old.variables }
+    requires shared { AreShared trail.old log.old.checker }
     ensures analysis { analysis.new.variables ≡ analysis.old.variables }
     ensures variables { trail.new.variables ≡ trail.old.variables }
+    ensures shared { OnOk result (AreShared trail.new log.new.checker) }
     ensures turn { (formula : List (List ℤ)) → AreLemmas (start formula) log.old.lines log.old.checker →
         IfOk result (λ turn. IsTurn formula budget turn log.new.lines log.new.checker) }
 {

@@ -38,7 +38,7 @@ fn answer(alloc: Global, cnf: &Cnf, trail: &Trail) -> Result<Option<Outcome>, Al
     Ok(Some(Outcome::Assignment(assignment)))
 }
 
-/// Searches over the trail, and gives an answer or has lost its way.
+/// Searches over the trail, and gives an answer, but where the assignment that it ends with fails.
 fn run<C: Chooser>(
     alloc: Global,
     cnf: &Cnf,
@@ -72,7 +72,6 @@ fn run<C: Chooser>(
                 return Ok(Some(Outcome::Spent(lines)));
             }
             Turn::Full => return answer(alloc, cnf, &trail),
-            Turn::Lost => return Ok(None),
         }
     }
     Ok(None)

@@ -1,14 +1,10 @@
-use crate::round::{Turn, keep};
 use crate::{solve, solve_by, solve_with};
 use chooser_box::{Activity, Chooser, FirstFree, Lying};
 use cnf_form::{Cnf, read_cnf, satisfies};
-use conflict_analysis::Analysis;
-use lemma_log::LemmaLog;
 use lrat_checker::{Checker, Step};
 use lrat_form::{LineList, Outcome};
-use solver_trail::Trail;
 use split_solver::split;
-use std::alloc::{AllocError, Global};
+use std::alloc::Global;
 use std::test::Fail;
 
 /// Three holes are too few for four pigeons: variable `3 * pigeon + hole + 1` says that a pigeon
@@ -181,21 +177,5 @@ fn the_plain_search_answers_alike(rt: HostRuntime) -> Result<(), Fail> {
         by_both(rt.alloc(), b"p cnf 3 4\n1 2 0\n-1 3 0\n-2 -3 0\n3 -3 0\n")?,
         (10, 10)
     );
-    Ok(())
-}
-
-/// What it comes to that the literal 1 is to be kept as learnt, without a hint.
-fn kept_without_hints(alloc: Global, cnf: &Cnf) -> Result<Turn, AllocError> {
-    let mut log = LemmaLog::new(alloc, cnf)?;
-    let mut trail = Trail::new(alloc, cnf)?;
-    let mut analysis = Analysis::new(alloc, 2)?;
-    analysis.literals.push(1)?;
-    keep(alloc, &mut log, &mut trail, &analysis)
-}
-
-#[test]
-fn a_lemma_that_does_not_pass_is_lost(rt: HostRuntime) -> Result<(), Fail> {
-    let cnf = cnf_of(rt.alloc(), b"p cnf 2 1\n1 2 0\n")?;
-    assert_eq!(rt; kept_without_hints(rt.alloc(), &cnf)?, Turn::Lost);
     Ok(())
 }
