@@ -1,5 +1,5 @@
 -- Each assignment that chooses one loop stands for a lasso.
-use Rattle.std.proofs.Common.{◌≡◌, ◌↔◌, ◌⊎◌, ◌<◌, ◌+◌, ℕ, zero, suc, Bool, true, false, cond, List, [], ◌∷◌, ◌++◌, length, get_or, Contains, Some, slice_get, refl, sym, ap, ◌∙◌, subst, arith, inl, inr, length-append}
+use Rattle.std.proofs.Common.{◌≡◌, ◌↔◌, ◌⊎◌, ◌<◌, ◌+◌, ℕ, zero, suc, Bool, true, cond, List, [], ◌∷◌, ◌++◌, length, get_or, Contains, Some, slice_get, refl, sym, ap, ◌∙◌, subst, arith, inl, inr, length-append}
 use Rattle.std.proofs.lemmas.Bool.{cases_lt, cases_Bool, false≢true}
 use Rattle.tuple_sets.specs.Sets.{TupleList}
 use Rattle.core_meaning.specs.Sequence.{LassoValue}
@@ -9,7 +9,7 @@ use Rattle.bounds_builder.specs.declared.table.Bound.{Bound}
 use Rattle.bounds_builder.specs.declared.table.Bounds.{Bounds}
 use Rattle.lasso_frame.specs.Pushes.{push_kept, push_at}
 use Rattle.lasso_sets.specs.Loops.{IsLoopOf}
-use Rattle.lasso_sets.specs.Table.{first_at, InTable, InState, Decodes}
+use Rattle.lasso_sets.specs.Table.{first_at, Decodes}
 
 -- the tuples whose variables are true
 abbrev chosen : (ℕ → Bool) → ℕ → List (List ℕ) → List (List ℕ)

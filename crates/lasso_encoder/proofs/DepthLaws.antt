@@ -7,7 +7,7 @@ use Rattle.core_tree.specs.declared.operators.Quantity.{Quantity}
 use Rattle.core_tree.specs.declared.tree.Variable.{Variable}
 use Rattle.core_tree.specs.declared.tree.Formula.{Formula, Every, ForAll, Counted, Call as CallFormula}
 use Rattle.core_tree.specs.declared.tree.Expr.{Expr, Comprehension, Sum, Call as CallExpr}
-use Rattle.core_tree.specs.Trees.{Term, Variables, Claim, Claims, Binder, sig, field, name, combine, product, unary, prime, inside, equal, within, test, negation, every, for_all, temporal, temporal_pair, no_variables, more_variables, no_claims, more_claims, term_of, claim_of, variable_of, variable_list, claim_list}
+use Rattle.core_tree.specs.Trees.{Term, Claim, Claims, Binder, sig, field, name, univ, iden, empty, int, combine, product, unary, prime, inside, equal, within, test, negation, every, for_all, connect, choose_claim, temporal, temporal_pair, no_variables, more_variables, no_claims, more_claims, term_of, claim_of, variable_of, variable_list, claim_list}
 use Rattle.core_tree.specs.Past.{Depths, no_depths, with_depth, under_unary, under_binary, past_in, past_of, past_of_each}
 use Rattle.core_tree.specs.Rows.{every_is, for_all_is, counted_is, call_claim_is, comprehension_is, sum_over_is, call_term_is}
 use Rattle.lasso_sets.specs.Shown.{none_nested}
@@ -98,6 +98,10 @@ mutual
   term_depth (sig s) plain = refl
   term_depth (field f) plain = refl
   term_depth (name x) plain = refl
+  term_depth univ plain = refl
+  term_depth iden plain = refl
+  term_depth empty plain = refl
+  term_depth int plain = refl
   term_depth (combine op a b) plain = ap (λ n. max n (past_in none_nested b no_depths)) (term_depth a plain.0) ∙ ap (max (nested_in a)) (term_depth b plain.1)
   term_depth (product a m n b) plain = ap (λ k. max k (past_in none_nested b no_depths)) (term_depth a plain.2) ∙ ap (max (nested_in a)) (term_depth b plain.3)
   term_depth (unary op a) plain = term_depth a plain.1
@@ -114,6 +118,8 @@ mutual
   claim_depth (for_all (more_variables x apart e no_variables) f) plain =
       ap (λ n. max n (past_of none_nested f (with_depth no_depths x 0))) (term_depth e plain.0 ∙ max_zero (nested_in e)) ∙ ap (max (max (nested_in e) 0)) (ap (λ (d : Depths). past_of none_nested f d) (no_deeper x) ∙ claim_depth f plain.1)
   claim_depth (for_all vs f) plain = absurd plain.0
+  claim_depth (connect op f g) plain = ap (λ n. max n (past_of none_nested g no_depths)) (claim_depth f plain.1) ∙ ap (max (nested_of f)) (claim_depth g plain.2)
+  claim_depth (choose_claim f g h) plain = ap (λ n. max n (max (past_of none_nested g no_depths) (past_of none_nested h no_depths))) (claim_depth f plain.0) ∙ ap (max (nested_of f)) (ap (λ n. max n (past_of none_nested h no_depths)) (claim_depth g plain.1) ∙ ap (max (nested_of g)) (claim_depth h plain.2))
   claim_depth (temporal op f) plain = ap (under_unary op) (claim_depth f plain.1)
   claim_depth (temporal_pair op f g) plain = ap (under_binary op) (ap (λ n. max n (past_of none_nested g no_depths)) (claim_depth f plain.1) ∙ ap (max (nested_of f)) (claim_depth g plain.2))
   claim_depth f plain = absurd plain

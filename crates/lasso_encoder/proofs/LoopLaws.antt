@@ -1,9 +1,7 @@
 -- The choice of a loop.
-use Rattle.std.proofs.Common.{◌≡◌, ◌↔◌, ◌<◌, ◌+◌, ℕ, zero, suc, Bool, true, List, [], ◌∷◌, ◌++◌, length, refl, sym, ap, ◌∙◌, subst, arith, inl, inr, length-append}
-use Rattle.std.proofs.lemmas.Bool.{cases_lt}
+use Rattle.std.proofs.Common.{◌≡◌, ◌↔◌, ◌<◌, ℕ, Bool, true, List, length, refl, sym, ap, ◌∙◌, arith}
 use Rattle.gate_trait.specs.declared.node.Node.{Node}
 use Rattle.gate_trait.specs.Built.{Keeps, AllIn}
-use Rattle.gate_trait.specs.Kept.{all_tail}
 use Rattle.temporal_rows.specs.Rows.{row_value, IsOnlyOf}
 use Rattle.lasso_sets.specs.Loops.{AreChoices}
 use Rattle.lasso_sets.specs.RowLaws.{row_kept}

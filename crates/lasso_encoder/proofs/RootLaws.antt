@@ -1,5 +1,5 @@
 -- The root of a formula.
-use Rattle.std.proofs.Common.{◌≡◌, ◌↔◌, ◌<◌, ◌≤◌, ◌+◌, ◌-◌, ◌*◌, ℕ, zero, suc, nat_lt, Bool, IsTrue, List, [], ◌∷◌, ◌++◌, length, get_or, Some, slice_get, refl, sym, ap, ◌∙◌, subst, arith, inl, inr, if◌then◌else◌, length-append}
+use Rattle.std.proofs.Common.{◌≡◌, ◌↔◌, ◌<◌, ◌≤◌, ◌+◌, ◌-◌, ℕ, nat_lt, Bool, IsTrue, List, [], ◌∷◌, ◌++◌, length, get_or, Some, slice_get, refl, sym, ap, ◌∙◌, subst, arith, inl, inr, if◌then◌else◌, length-append}
 use Rattle.std.proofs.lemmas.Bool.{cases_lt, cond_below, cond_above}
 use Rattle.std.proofs.lemmas.Option.{slice_get_within, slice_get-get_or, get_or_from_slice_get}
 use Rattle.gate_trait.specs.declared.node.Node.{Node}
@@ -11,11 +11,11 @@ use Rattle.core_meaning.specs.Sequence.{LassoValue}
 use Rattle.core_meaning.specs.Kept.{world_of}
 use Rattle.core_meaning.specs.Meaning.{no_names, Holds}
 use Rattle.core_meaning.specs.Called.{no_bodies}
-use Rattle.temporal_rows.specs.Rows.{row_value, IsOnly, IsOnlyOf}
+use Rattle.temporal_rows.specs.Rows.{row_value, IsOnly}
 use Rattle.bounds_builder.specs.declared.places.Layout.{Layout}
 use Rattle.bounds_builder.specs.declared.table.Bounds.{Bounds}
 use Rattle.lasso_frame.specs.declared.frame.Stretch.{Stretch}
-use Rattle.lasso_frame.specs.Frames.{rounds_of, window_length}
+use Rattle.lasso_frame.specs.Frames.{rounds_of}
 use Rattle.lasso_frame.specs.Pushes.{push_cases}
 use Rattle.lasso_sets.specs.Loops.{AreChoices}
 use Rattle.lasso_sets.specs.Table.{Decodes}

@@ -1,7 +1,7 @@
 -- How many past operators a kernel formula nests; a call or a `let` isn't looked into.
 use Rattle.std.specs.Prelude.{ℕ, max}
 use Rattle.core_tree.specs.Past.{under_unary, under_binary}
-use Rattle.core_tree.specs.Trees.{Term, Terms, Variables, Claim, Claims, sig, field, name, univ, iden, empty, int, combine, product, unary, prime, choose_term, comprehension, number, count, arithmetic, sum_over, let_term, call_term, no_variables, more_variables, inside, equal, within, test, compare, negation, every, connect, choose_claim, for_all, counted, temporal, temporal_pair, let_claim, call_claim, no_claims, more_claims}
+use Rattle.core_tree.specs.Trees.{Term, Variables, Claim, Claims, sig, field, name, univ, iden, empty, int, combine, product, unary, prime, choose_term, comprehension, number, count, arithmetic, sum_over, let_term, call_term, no_variables, more_variables, inside, equal, within, test, compare, negation, every, connect, choose_claim, for_all, counted, temporal, temporal_pair, let_claim, call_claim, no_claims, more_claims}
 
 abbrev mutual
   pub nested_in : Term → ℕ

@@ -9,9 +9,11 @@ ghost use Rattle.gate_trait.specs.Built.{Keeps, AllIn};
 ghost use Rattle.gate_trait.specs.declared.node.Node.{Node as CircuitNode};
 ghost use Rattle.bounds_builder.specs.declared.places.Layout.{Layout as VariableTable};
 ghost use Rattle.lasso_sets.specs.Loops.{AreChoices};
+ghost use Rattle.lasso_sets.specs.Shown.{IsUniverseOf};
 ghost use Rattle.lasso_encoder.specs.Encodes.{IsEncoded};
 
 use crate::past_depth::depth_of;
+use bounds_builder::numbers::spans_of;
 use bounds_builder::{Bounds, Layout, layout};
 use core_meaning::{Scopes, Target};
 use core_tree::Formula;
@@ -35,15 +37,18 @@ pub struct Encoded {
     pub roots: NodeList,
 }
 
-/// How many atoms the top-level sigs have together, at most 16,384.
-fn atom_count(scopes: &Scopes) -> u32 {
-    let mut count = 0u32;
-    for sig in scopes.numbers.as_slice() {
-        if let (true, Some(number)) = (sig.top, sig.number) {
-            count = count.saturating_add(number.min(16384) as u32);
-        }
+/// The universe of some scopes. Its error is want of memory, or that the scopes give more numbers than a
+/// universe has, or no bitwidth from 1 to 12.
+fn universe_of(alloc: Global, scopes: &Scopes) -> Result<Universe, AllocError>
+    ensures { IfOk result (λ u. IsUniverseOf scopes.now u) }
+{
+    let bits = scopes.bits;
+    if bits < 1 || bits > 12 {
+        return Err(AllocError);
     }
-    count.min(16384)
+    let spans = spans_of(alloc, scopes)?;
+    let atoms = spans.integers.first;
+    Ok(Universe { atoms, bits })
 }
 
 /// For each state, whether the loop begins there: the variables of the loop indices. With one state there
@@ -136,9 +141,11 @@ fn root_of<G: Gates>(
     bounds: &Bounds,
     table: &Layout,
     scopes: &Scopes,
+    universe: Universe,
     formula: &Formula,
 ) -> Result<Node, AllocError>
-    requires { AllIn (G.belongs gates.old) choices.now }
+    requires choices { AllIn (G.belongs gates.old) choices.now }
+    requires universe { IsUniverseOf scopes.now universe }
     ensures keeps { Keeps G.belongs G.node_value gates.old gates.new }
     ensures belongs { IfOk result (λ n. G.belongs gates.new n) }
     ensures says { IfOk result (λ n. AreChoices (G.node_value gates.old) bounds.now.states table.now.loops choices.now
@@ -149,10 +156,7 @@ fn root_of<G: Gates>(
         bounds,
         layout: table,
         scopes,
-        universe: Universe {
-            atoms: atom_count(scopes),
-            bits: scopes.bits,
-        },
+        universe,
         frame: &frame,
     };
     let mut store = empty_store(alloc, gates);
@@ -171,9 +175,11 @@ fn add_roots<G: Gates>(
     target: &Target,
     bounds: &Bounds,
     table: &Layout,
+    universe: Universe,
     roots: &mut NodeList,
 ) -> Result<(), AllocError>
     requires choices { AllIn (G.belongs gates.old) choices.now }
+    requires universe { IsUniverseOf target.now.scopes universe }
     requires roots { AllIn (G.belongs gates.old) roots.old }
     ensures keeps { Keeps G.belongs G.node_value gates.old gates.new }
     ensures belongs { AllIn (G.belongs gates.new) roots.new }
@@ -193,6 +199,7 @@ fn add_roots<G: Gates>(
             bounds,
             table,
             &target.scopes,
+            universe,
             formula,
         )?;
         roots.push(root)?;
@@ -218,7 +225,10 @@ pub fn encode<G: Gates>(
     let first = keeps_numbers(alloc, gates, bounds, &table, &target.scopes)?;
     let mut roots = NodeList::new(alloc);
     roots.push(first)?;
-    add_roots(alloc, gates, &choices, target, bounds, &table, &mut roots)?;
+    let universe = universe_of(alloc, &target.scopes)?;
+    add_roots(
+        alloc, gates, &choices, target, bounds, &table, universe, &mut roots,
+    )?;
     let sure = only_one(gates, &choices)?;
     Ok(Encoded { sure, roots })
 }

@@ -1,3 +1,4 @@
 pub mod MarkLaws
 pub mod ScopeLaws
 pub mod RelationLaws
+pub mod LeafLaws

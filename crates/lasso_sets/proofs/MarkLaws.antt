@@ -19,7 +19,7 @@ abbrev pub first_of : List ℕ → ℕ
 first_of [] = 0
 first_of (a ∷ t) = a
 
-single : (t : List ℕ) → length t ≡ 1 → t ≡ first_of t ∷ []
+pub single : (t : List ℕ) → length t ≡ 1 → t ≡ first_of t ∷ []
 single [] e = absurd (omega arith)
 single (a ∷ []) e = refl
 single (a ∷ b ∷ t) e = absurd (omega arith)

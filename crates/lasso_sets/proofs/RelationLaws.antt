@@ -1,8 +1,8 @@
 -- The sets of relations at states and at places.
-use Rattle.std.proofs.Common.{◌≡◌, ◌↔◌, ◌<◌, ◌+◌, ◌-◌, ◌%◌, ℕ, zero, suc, Bool, true, List, [], ◌∷◌, ◌++◌, length, replicate, Some, slice_get, refl, sym, ap, ◌∙◌, subst, arith, inl, inr}
+use Rattle.std.proofs.Common.{◌≡◌, ◌↔◌, ◌<◌, ◌+◌, ◌-◌, ◌%◌, ℕ, zero, suc, Bool, true, List, [], ◌∷◌, ◌++◌, All, length, replicate, Some, slice_get, refl, sym, ap, ◌∙◌, subst, arith, inl, inr}
 use Rattle.std.proofs.lemmas.Bool.{cases_lt, cond_below, cond_above}
 use Rattle.std.proofs.Math.Nat.{mod-lt}
-use Rattle.std.proofs.lemmas.Option.{slice_get_within}
+use Rattle.std.proofs.lemmas.Option.{slice_get_within, get_or_from_slice_get}
 use Rattle.gate_trait.specs.declared.node.Node.{Node}
 use Rattle.gate_trait.specs.Built.{Keeps}
 use Rattle.core_meaning.specs.Sequence.{LassoValue, place_of}
@@ -18,8 +18,8 @@ use Rattle.lasso_frame.specs.Frames.{state_shown}
 use Rattle.lasso_frame.specs.Pairing.{IsMoved}
 use Rattle.lasso_frame.specs.Pushes.{push_kept, push_at}
 use Rattle.lasso_sets.specs.Table.{first_at, InState}
-use Rattle.lasso_sets.specs.Shown.{Reading, IsReading, HasPlace, AreOf}
-use Rattle.lasso_sets.specs.Relations.{AddsState, AtStates, AtShown}
+use Rattle.lasso_sets.specs.Shown.{Reading, IsReading, HasPlace, AreOf, of_relation}
+use Rattle.lasso_sets.specs.Relations.{AddsState, AtStates, AtShown, HasOneColumn}
 use Rattle.lasso_sets.specs.KeptLaws.{Stay, matrix_belongs}
 use Rattle.lasso_sets.specs.PlaceLaws.{length_of, stretch_of, loop_below}
 
@@ -82,7 +82,7 @@ state_below : (r : Reading) → IsReading r → (loop k : ℕ) (s : Stretch) →
 state_below r ok loop k s place = shown_within r.bounds.states loop k (loop_below r ok loop k s place)
 
 -- what stands at the places is the relation's
-pub shown_right : (r : Reading) → IsReading r → (value : (ℕ → Bool) → Node → Bool) (matrices : List MatrixEntries) (number : ℕ) (bound : Bound) (cells : Cells) (row : List ℕ) → slice_get r.bounds.relations number ≡ Some bound → slice_get r.table.relations.items number ≡ Some cells → AtShown value matrices bound cells r.bounds.states r.frame.shown.items row → AreOf r value matrices number row
+pub shown_right : (r : Reading) → IsReading r → (value : (ℕ → Bool) → Node → Bool) (matrices : List MatrixEntries) (number : ℕ) (bound : Bound) (cells : Cells) (row : List ℕ) → slice_get r.bounds.relations number ≡ Some bound → slice_get r.table.relations.items number ≡ Some cells → AtShown value matrices bound cells r.bounds.states r.frame.shown.items row → AreOf r value matrices (of_relation number) row
 shown_right r ok value matrices number bound cells row at there shown = record {
   sets = λ loop k s place.
       let long = length_of r ok loop k s place in
@@ -102,3 +102,11 @@ shown_right r ok value matrices number bound cells row at there shown = record {
             ((λ q. inside.0 (law.1 (u.0 q))), (λ q. u.1 (law.0 (inside.1 q)))),
       );
 }
+
+-- a relation whose upper bound has one column has tuples of one number alone
+pub one_column : (r : Reading) → IsReading r → (number : ℕ) (bound : Bound) (cells : Cells) → slice_get r.bounds.relations number ≡ Some bound → slice_get r.table.relations.items number ≡ Some cells → All (λ t. length t ≡ 1) bound.upper.tuples → HasOneColumn r number
+one_column r ok number bound cells at there all loop k s place x lasso shows loops t (sets, set, a, b, c) =
+    let is = shown_is r.bounds.states loop k lasso shows.states loops in
+    let law = shows.relations number (state_shown r.bounds.states loop k) bound cells at there (state_below r ok loop k s place) t in
+    let (j, e, v) = law.0 (sets, set, ap (λ (p : ℕ). slice_get lasso.states p) is ∙ a, b, c) in
+    subst (λ (u : List ℕ). length u ≡ 1) (get_or_from_slice_get bound.upper.tuples j t t e) (all j t (slice_get_within bound.upper.tuples j t e))

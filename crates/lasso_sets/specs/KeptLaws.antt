@@ -1,5 +1,5 @@
 -- What is right stays right while the circuit grows and sets are added.
-use Rattle.std.proofs.Common.{◌≡◌, ◌⊎◌, ◌<◌, ◌+◌, ℕ, zero, suc, Bool, List, [], ◌∷◌, ◌++◌, length, All, Some, slice_get, refl, sym, ap, ◌∙◌, subst, arith, inl, inr, Vec, Global}
+use Rattle.std.proofs.Common.{◌≡◌, ◌⊎◌, ◌+◌, ℕ, zero, suc, Bool, List, [], ◌∷◌, ◌++◌, length, All, Some, slice_get, refl, sym, ap, ◌∙◌, subst, arith, inl, inr, Vec, Global}
 use Rattle.std.proofs.lemmas.Option.{slice_get_within, get_or_from_slice_get}
 use Rattle.gate_trait.specs.declared.node.Node.{Node}
 use Rattle.gate_trait.specs.Built.{Keeps, AllIn}
@@ -13,7 +13,7 @@ use Rattle.lasso_frame.specs.Pushes.{push_kept, push_cases}
 use Rattle.lasso_stack.specs.declared.store.Store.{Store}
 use Rattle.lasso_stack.specs.Rows.{Grows, IsAdded, AreBeside}
 use Rattle.lasso_stack.specs.Stored.{AreStored}
-use Rattle.lasso_sets.specs.Shown.{Reading, IsRight, HaveTuples, AreRight, AreOf, AreKept}
+use Rattle.lasso_sets.specs.Shown.{Reading, IsRight, HaveTuples, AreRight, Leaf, IsLeafAt, AreOf, AreKept}
 use Rattle.lasso_sets.specs.RowLaws.{row_kept}
 use Rattle.lasso_sets.specs.RightLaws.{true_same}
 
@@ -64,20 +64,20 @@ module _ {S : Type 0} (belongs : S → Node → Type 0) (value : S → (ℕ → 
       )
 
   pub first_kept : (first now : List MatrixEntries) (kept : List (Vec ℕ Global)) → AllMatrices (belongs g) now → Stay first now → AreKept r (value g) first kept → AreKept r (value h) first kept
-  first_kept first now kept all stay are n numbers lt at = elim (are n numbers lt at) [
+  first_kept first now kept all stay are leaf n numbers lt at = elim (are leaf n numbers lt at) [
     | inl none ↦ inl none
     | inr of ↦ inr (record { sets = first_tuples first now _ numbers.items all stay of.sets })
   ]
 
   pub kept_kept : (before after : List MatrixEntries) (kept : List (Vec ℕ Global)) → AllMatrices (belongs g) before → Stay before after → AreKept r (value g) before kept → AreKept r (value h) after kept
-  kept_kept before after kept all stay are n numbers lt at = elim (are n numbers lt at) [
+  kept_kept before after kept all stay are leaf n numbers lt at = elim (are leaf n numbers lt at) [
     | inl none ↦ inl none
     | inr of ↦ inr (record { sets = tuples_kept before after _ numbers.items all stay of.sets })
   ]
 
 -- sets that stay have the same tuples
-pub of_stays : (r : Reading) (value : (ℕ → Bool) → Node → Bool) (before after : List MatrixEntries) (number : ℕ) (numbers : List ℕ) → Stay before after → AreOf r value before number numbers → AreOf r value after number numbers
-of_stays r value before after number numbers stay of = record {
+pub of_stays : (r : Reading) (value : (ℕ → Bool) → Node → Bool) (before after : List MatrixEntries) (leaf : Leaf) (numbers : List ℕ) → Stay before after → AreOf r value before leaf numbers → AreOf r value after leaf numbers
+of_stays r value before after leaf numbers stay of = record {
   sets = λ loop k s place. (let (m, (n, at, stands), means) = of.sets loop k s place in (m, (n, at, stay n m stands), means));
 }
 
@@ -88,12 +88,12 @@ again_right belongs value r g h keeps before after e numbers stored beside right
 }
 
 -- one kept value more
-pub kept_more : {S : Type 0} (belongs : S → Node → Type 0) (value : S → (ℕ → Bool) → Node → Bool) (r : Reading) (g h : S) → Keeps belongs value g h → (before after : List MatrixEntries) (kept new : List (Vec ℕ Global)) (v : Vec ℕ Global) (number : ℕ) → AllMatrices (belongs g) before → Stay before after → length kept ≡ number → new ≡ kept ++ v ∷ [] → AreKept r (value g) before kept → (number < length r.bounds.relations → (v.items ≡ []) ⊎ AreOf r (value h) after number v.items) → AreKept r (value h) after new
-kept_more belongs value r g h keeps before after kept new v number all stay long is old here n numbers lt at = elim (push_cases kept v n numbers (ap (λ (vs : List (Vec ℕ Global)). slice_get vs n) (sym is) ∙ at)) [
-  | inl there ↦ kept_kept belongs value r g h keeps before after kept all stay old n numbers lt there
+pub kept_more : {S : Type 0} (belongs : S → Node → Type 0) (value : S → (ℕ → Bool) → Node → Bool) (r : Reading) (g h : S) → Keeps belongs value g h → (before after : List MatrixEntries) (kept new : List (Vec ℕ Global)) (v : Vec ℕ Global) (number : ℕ) → AllMatrices (belongs g) before → Stay before after → length kept ≡ number → new ≡ kept ++ v ∷ [] → AreKept r (value g) before kept → ((leaf : Leaf) → IsLeafAt r.bounds.relations leaf number → (v.items ≡ []) ⊎ AreOf r (value h) after leaf v.items) → AreKept r (value h) after new
+kept_more belongs value r g h keeps before after kept new v number all stay long is old here leaf n numbers lt at = elim (push_cases kept v n numbers (ap (λ (vs : List (Vec ℕ Global)). slice_get vs n) (sym is) ∙ at)) [
+  | inl there ↦ kept_kept belongs value r g h keeps before after kept all stay old leaf n numbers lt there
   | inr last ↦ (let same : n ≡ number = last.0 ∙ long in
-      let said = here (subst (λ (k : ℕ). k < length r.bounds.relations) same lt) in
-      subst (λ (k : ℕ). (numbers.items ≡ []) ⊎ AreOf r (value h) after k numbers.items) (sym same) (subst (λ (w : Vec ℕ Global). (w.items ≡ []) ⊎ AreOf r (value h) after number w.items) last.1 said))
+      let said = here leaf (subst (λ (k : ℕ). IsLeafAt r.bounds.relations leaf k) same lt) in
+      subst (λ (w : Vec ℕ Global). (w.items ≡ []) ⊎ AreOf r (value h) after leaf w.items) last.1 said)
 ]
 
 pub grows_refl : (s : Store) → Grows s s

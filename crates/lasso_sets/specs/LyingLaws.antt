@@ -1,7 +1,6 @@
 -- What lies in a bound whose arrows ask nothing.
-use Rattle.std.proofs.Common.{◌≡◌, ◌↔◌, ◌<◌, ◌+◌, ◌++◌, ℕ, Bool, IsTrue, List, length, arith}
+use Rattle.std.proofs.Common.{◌+◌, ◌++◌, ℕ, Bool, List, arith}
 use Rattle.gate_trait.specs.declared.node.Node.{Node}
-use Rattle.core_tree.specs.declared.operators.Multiplicity.{Multiplicity}
 use Rattle.core_tree.specs.declared.operators.Multiplicity.TheVariants.{Set, One, Lone, Some}
 use Rattle.core_tree.specs.declared.operators.Quantity.TheVariants.{Some as SomeOf, One as OneOf, Lone as LoneOf}
 use Rattle.core_tree.specs.Trees.{Term, Claim, product, inside, test, within}
@@ -10,7 +9,6 @@ use Rattle.core_meaning.specs.Operators.{Tuples}
 use Rattle.core_meaning.specs.Meaning.{Names, Fits, InTerm}
 use Rattle.core_meaning.specs.Called.{no_bodies}
 use Rattle.core_meaning.specs.Kept.{world_of}
-use Rattle.past_window.specs.Same.{same_trans}
 use Rattle.lasso_stack.specs.Rows.{AreBoth}
 use Rattle.lasso_sets.specs.Shown.{names_of, Reading, IsRight}
 use Rattle.lasso_sets.specs.RightLaws.{both_means}

@@ -1,7 +1,7 @@
 -- Rows and sets that are made of right ones are right.
-use Rattle.std.proofs.Common.{◌≡◌, ◌↔◌, ◌<◌, ◌≤◌, ◌+◌, ◌-◌, ◌&&◌, ℕ, zero, suc, eqb, Bool, true, false, not, IsTrue, List, [], ◌∷◌, ◌++◌, length, replicate, slice_get, Option, Some, None, refl, sym, ap, ◌∙◌, subst, arith, if◌then◌else◌}
+use Rattle.std.proofs.Common.{◌≡◌, ◌↔◌, ◌<◌, ◌≤◌, ◌+◌, ◌-◌, ◌&&◌, ℕ, zero, suc, eqb, Bool, true, false, not, IsTrue, List, [], ◌∷◌, ◌++◌, length, replicate, slice_get, Option, Some, refl, sym, ap, ◌∙◌, subst, arith, if◌then◌else◌}
 use Rattle.gate_trait.specs.declared.node.Node.{Node}
-use Rattle.core_tree.specs.Trees.{Term, Claim, Claims, name, combine, product, unary, prime, inside, equal, test, negation, every, temporal, temporal_pair, no_claims, more_claims}
+use Rattle.core_tree.specs.Trees.{Term, Claim, Claims, name, empty, combine, product, unary, prime, inside, equal, test, negation, every, temporal, temporal_pair, no_claims, more_claims}
 use Rattle.core_tree.specs.Past.{no_depths, past_in, past_of}
 use Rattle.core_tree.specs.declared.operators.Multiplicity.TheVariants.{Set}
 use Rattle.core_tree.specs.declared.operators.RelationOp.{RelationOp}
@@ -9,12 +9,13 @@ use Rattle.core_tree.specs.declared.operators.TemporalUnary.TheVariants.{After a
 use Rattle.core_tree.specs.declared.operators.TemporalBinary.TheVariants.{Until as UntilOf, Since as SinceOf}
 use Rattle.core_tree.specs.declared.operators.UnaryRelation.TheVariants.{Transpose as TransposeOf, Closure as ClosureOf}
 use Rattle.core_tree.specs.declared.operators.Quantity.TheVariants.{Some as SomeOf, No as NoneOf, One as OneOf, Lone as LoneOf}
+use Rattle.core_meaning.specs.Sequence.{LassoValue}
 use Rattle.core_meaning.specs.World.{World}
 use Rattle.core_meaning.specs.Kept.{world_of}
 use Rattle.core_meaning.specs.Operators.{Tuples}
 use Rattle.core_meaning.specs.Meaning.{atom, one_of, InTerm, Holds}
 use Rattle.core_meaning.specs.Called.{no_bodies}
-use Rattle.past_window.specs.Same.{SameTuples, same_trans, combined_same, product_same, closure_same, inside_same, some_same, lone_same}
+use Rattle.past_window.specs.Same.{same_trans, combined_same, product_same, closure_same, inside_same, some_same, lone_same}
 use Rattle.past_window.specs.Fold.{repeats_from, fold_of}
 use Rattle.bool_matrix.specs.Matrices.{MatrixEntries, truth}
 use Rattle.expr_encoder.specs.Sets.{MeansSet, set_of}
@@ -29,12 +30,12 @@ use Rattle.lasso_frame.specs.Pairing.{IsMoved}
 use Rattle.lasso_stack.specs.declared.windows.TimeOperator.TheVariants.{Before, Since, Until}
 use Rattle.lasso_stack.specs.Rows.{AreBoth, IsSpread, IsAlong, IsNegated, IsConstant}
 use Rattle.lasso_stack.specs.Sets.{AreMade, AreAnswered}
-use Rattle.lasso_sets.specs.Shown.{Atoms, names_of, atom_in, Reading, under, IsReading, HasPlace, IsRight, AreRight, none_nested}
+use Rattle.lasso_sets.specs.Shown.{Atoms, names_of, atom_in, Reading, under, IsReading, HasPlace, IsRight, HaveTuples, AreRight, none_nested}
 use Rattle.lasso_sets.specs.PlaceLaws.{holds_folds, term_folds, loop_of, place_within, next_is, next_place, next_at, loop_below, fold_place, back_is}
 
 -- the same reading where names stand for atoms
 pub ok_under : (r : Reading) (atoms : Atoms) → IsReading r → IsReading (under r atoms)
-ok_under r atoms ok = record { frame = ok.frame; few = ok.few }
+ok_under r atoms ok = record { frame = ok.frame; few = ok.few; universe = ok.universe }
 
 pub true_same : {P : Type 0} (a b : Bool) → a ≡ b → IsTrue b ↔ P → IsTrue a ↔ P
 true_same a b e h = ((λ t. h.0 (sym e ∙ t)), (λ p. e ∙ h.1 p))
@@ -216,6 +217,22 @@ name_right r ok value before after m said x row is long means same = record {
     (length before, ap (λ (ns : List ℕ). slice_get ns (s.start + k)) long ∙ each_same (length r.frame.shown.items) (length before) (s.start + k) (place_within r ok loop k s place), ap (λ (ms : List MatrixEntries). slice_get ms (length before)) is ∙ push_last before m),
     λ v lasso shows at t. same_trans (means v t) (subst (λ (o : Option ℕ). one_atom o t ↔ names_of r.atoms x k t) (sym same) (named r.atoms x k t)),
   );
+}
+
+-- the same set at each place
+pub everywhere : (r : Reading) → IsReading r → (value : (ℕ → Bool) → Node → Bool) (before after : List MatrixEntries) (m : MatrixEntries) (row : List ℕ) (P : Tuples) (has : LassoValue → ℕ → Tuples) → after ≡ before ++ m ∷ [] → row ≡ replicate (length r.frame.shown.items) (length before) → ((v : ℕ → Bool) → MeansSet (value v) m P) → ((lasso : LassoValue) (k : ℕ) (t : List ℕ) → P t ↔ has lasso k t) → HaveTuples r value after has row
+everywhere r ok value before after m row P has is long means same = λ loop k s place. (
+  m,
+  (length before, ap (λ (ns : List ℕ). slice_get ns (s.start + k)) long ∙ each_same (length r.frame.shown.items) (length before) (s.start + k) (place_within r ok loop k s place), ap (λ (ms : List MatrixEntries). slice_get ms (length before)) is ∙ push_last before m),
+  λ v lasso shows at t. same_trans (means v t) (same lasso k t),
+)
+
+no_truth : (value : Node → Bool) (m : MatrixEntries) (arity : ℕ) (t : List ℕ) → m ≡ record { arity = arity; entries = [] } → (truth value m t ≡ true) ↔ ⊥
+no_truth value m arity t is = ((λ e. let clash : false ≡ true = sym (ap (λ (n : MatrixEntries). truth value n t) is) ∙ e in absurd cc), (λ never. absurd never))
+
+pub empty_right : (r : Reading) → IsReading r → (value : (ℕ → Bool) → Node → Bool) (before after : List MatrixEntries) (m : MatrixEntries) (row : List ℕ) → after ≡ before ++ m ∷ [] → row ≡ replicate (length r.frame.shown.items) (length before) → m ≡ record { arity = 1; entries = [] } → AreRight r value after empty row
+empty_right r ok value before after m row is long none = record {
+  sets = everywhere r ok value before after m row (λ t. ⊥) (λ lasso k t. ⊥) is long (λ v t. no_truth (value v) m 1 t none) (λ lasso k t. ((λ p. p), (λ p. p)));
 }
 
 -- ---- tests

@@ -6,13 +6,14 @@ use Rattle.core_tree.specs.Trees.{Term, Claim}
 use Rattle.core_tree.specs.Past.{BodyDepths}
 use Rattle.core_meaning.specs.declared.scopes.Scopes.{Scopes}
 use Rattle.core_meaning.specs.Sequence.{LassoValue}
-use Rattle.core_meaning.specs.World.{InRelation}
-use Rattle.core_meaning.specs.Kept.{world_of}
-use Rattle.core_meaning.specs.Operators.{Tuples}
+use Rattle.tuple_sets.specs.declared.universe.Universe.{Universe}
+use Rattle.core_meaning.specs.World.{World, InRelation, IsInteger, InUniverse}
+use Rattle.core_meaning.specs.Kept.{atom_count, world_of}
+use Rattle.core_meaning.specs.Operators.{Tuples, identity_tuples}
 use Rattle.core_meaning.specs.Meaning.{Names, no_names, with_name, atom, InTerm, Holds}
 use Rattle.core_meaning.specs.Called.{no_bodies}
 use Rattle.bool_matrix.specs.Matrices.{MatrixEntries}
-use Rattle.expr_encoder.specs.Sets.{MeansSet}
+use Rattle.expr_encoder.specs.Sets.{MeansSet, IsUniverse}
 use Rattle.temporal_rows.specs.Rows.{row_value}
 use Rattle.bounds_builder.specs.declared.places.Cells.{Cells}
 use Rattle.bounds_builder.specs.declared.places.Layout.{Layout}
@@ -38,28 +39,36 @@ abbrev pub atom_in : Atoms → ℕ → Option ℕ
 atom_in [] x = None
 atom_in (b ∷ atoms) x = if eqb x b.0 then Some b.1 else atom_in atoms x
 
--- in what formulas are read: the table, the scopes, the places, how deep past operators nest, and for which
--- atoms names stand
+-- in what formulas are read: the table, the scopes, the universe, the places, how deep past operators nest, and
+-- for which atoms names stand
 pub record Reading : Type 0 where
   pub bounds : Bounds
   pub table : Layout
   pub scopes : Scopes
+  pub universe : Universe
   pub frame : Frame
   pub depth : ℕ
   pub atoms : Atoms
 
 -- the same where names stand for these atoms
 abbrev pub under : Reading → Atoms → Reading
-under r atoms = record { bounds = r.bounds; table = r.table; scopes = r.scopes; frame = r.frame; depth = r.depth; atoms = atoms }
+under r atoms = record { bounds = r.bounds; table = r.table; scopes = r.scopes; universe = r.universe; frame = r.frame; depth = r.depth; atoms = atoms }
 
 -- nothing is called
 abbrev pub none_nested : BodyDepths
 none_nested body d = 0
 
+-- the universe is that of the scopes, within the limits
+pub record IsUniverseOf (scopes : Scopes) (universe : Universe) : Type 0 where
+  pub atoms : universe.atoms ≡ atom_count scopes.numbers
+  pub bits : universe.bits ≡ scopes.bits
+  pub valid : IsUniverse universe
+
 -- the places show windows of all loops, each with one round more than past operators nest
 pub record IsReading (r : Reading) : Type 0 where
   pub frame : IsFrame r.bounds.states (r.depth + 1) r.frame
   pub few : r.depth ≤ 8
+  pub universe : IsUniverseOf r.scopes r.universe
 
 -- the assignment shows a lasso, whatever its loop: as many states as the bounds say, and in each relation at
 -- each state just the tuples whose variables are true
@@ -87,10 +96,31 @@ HaveTuples r value matrices has numbers =
 pub record AreRight (r : Reading) (value : (ℕ → Bool) → Node → Bool) (matrices : List MatrixEntries) (e : Term) (numbers : List ℕ) : Type 0 where
   pub sets : HaveTuples r value matrices (λ lasso k. InTerm (world_of r.scopes lasso) no_bodies e (names_of r.atoms) k) numbers
 
--- the tuples of a relation
-pub record AreOf (r : Reading) (value : (ℕ → Bool) → Node → Bool) (matrices : List MatrixEntries) (relation : ℕ) (numbers : List ℕ) : Type 0 where
-  pub sets : HaveTuples r value matrices (λ lasso k. InRelation (world_of r.scopes lasso) relation k) numbers
+-- a set without parts: that of a relation, by its number, `univ`, `iden` or `Int`
+pub data Leaf : Type 0 where
+  of_relation : (n : ℕ) → Leaf
+  of_univ : Leaf
+  of_iden : Leaf
+  of_int : Leaf
 
--- each relation's value that is kept, by its number, is the relation's, or nothing is kept of it
+-- its tuples at a position
+abbrev pub leaf_tuples : World → Leaf → ℕ → Tuples
+leaf_tuples w (of_relation n) i t = InRelation w n i t
+leaf_tuples w of_univ i t = (a : ℕ) × InUniverse w i a × (t ≡ a ∷ [])
+leaf_tuples w of_iden i t = identity_tuples w i t
+leaf_tuples w of_int i t = (a : ℕ) × IsInteger w a × (t ≡ a ∷ [])
+
+-- its number: the relations come first
+abbrev pub IsLeafAt : List Bound → Leaf → ℕ → Type 0
+IsLeafAt relations (of_relation n) k = (k ≡ n) × (n < length relations)
+IsLeafAt relations of_univ k = k ≡ length relations
+IsLeafAt relations of_iden k = k ≡ length relations + 1
+IsLeafAt relations of_int k = k ≡ length relations + 2
+
+-- the tuples of such a set
+pub record AreOf (r : Reading) (value : (ℕ → Bool) → Node → Bool) (matrices : List MatrixEntries) (leaf : Leaf) (numbers : List ℕ) : Type 0 where
+  pub sets : HaveTuples r value matrices (λ lasso k. leaf_tuples (world_of r.scopes lasso) leaf k) numbers
+
+-- the value that is kept under the number of such a set is its own, or nothing is kept of it
 abbrev pub AreKept : Reading → ((ℕ → Bool) → Node → Bool) → List MatrixEntries → List (Vec ℕ Global) → Type 0
-AreKept r value matrices kept = (n : ℕ) (numbers : Vec ℕ Global) → n < length r.bounds.relations → slice_get kept n ≡ Some numbers → (numbers.items ≡ []) ⊎ AreOf r value matrices n numbers.items
+AreKept r value matrices kept = (leaf : Leaf) (n : ℕ) (numbers : Vec ℕ Global) → IsLeafAt r.bounds.relations leaf n → slice_get kept n ≡ Some numbers → (numbers.items ≡ []) ⊎ AreOf r value matrices leaf numbers.items

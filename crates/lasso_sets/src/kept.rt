@@ -4,7 +4,7 @@ ghost use Rattle.std.specs.Prelude.{◌≡◌, ◌<◌, ◌⊎◌, [], ℕ, OnOk
 ghost use Rattle.gate_trait.specs.Built.{Keeps};
 ghost use Rattle.lasso_stack.specs.Rows.{Grows};
 ghost use Rattle.lasso_stack.specs.Stored.{AreStored};
-ghost use Rattle.lasso_sets.specs.Shown.{IsReading, AreOf};
+ghost use Rattle.lasso_sets.specs.Shown.{IsReading, Leaf, IsLeafAt, AreOf};
 ghost use Rattle.lasso_sets.specs.Relations.{reading_of};
 ghost use Rattle.lasso_sets.specs.Shown.{AreKept};
 
@@ -47,8 +47,8 @@ fn marked_sets<G: Gates>(
     ensures keeps { Keeps G.belongs G.node_value gates.old gates.new }
     ensures stored { OnOk result (AreStored (G.belongs gates.new) store.new) }
     ensures grows { OnOk result (Grows store.old store.new) }
-    ensures kept { IfOk result (λ v. (depth : ℕ) → IsReading (reading_of setting.now depth) → number < length setting.now.bounds.now.relations
-        → (v.items ≡ []) ⊎ AreOf (reading_of setting.now depth) (G.node_value gates.new) store.new.matrices.items number v.items) }
+    ensures kept { IfOk result (λ v. (depth : ℕ) (leaf : Leaf) → IsReading (reading_of setting.now depth) → IsLeafAt setting.now.bounds.now.relations leaf number
+        → (v.items ≡ []) ⊎ AreOf (reading_of setting.now depth) (G.node_value gates.new) store.new.matrices.items leaf v.items) }
 {
     if !is_marked {
         return Ok(Vec::new(alloc));
@@ -58,11 +58,16 @@ fn marked_sets<G: Gates>(
         let row = relation_sets(alloc, gates, store, setting, number)?;
         return Ok(row);
     }
-    match number - count {
-        0 => univ_sets(alloc, gates, store, setting),
-        1 => iden_sets(alloc, gates, store, setting),
-        _ => integer_sets(alloc, gates, store, setting),
+    if number == count {
+        let row = univ_sets(alloc, gates, store, setting)?;
+        return Ok(row);
     }
+    if number - count == 1 {
+        let row = iden_sets(alloc, gates, store, setting)?;
+        return Ok(row);
+    }
+    let row = integer_sets(alloc, gates, store, setting)?;
+    Ok(row)
 }
 
 /// The sets without parts that a formula names, by their numbers.

@@ -1,25 +1,29 @@
 // The sets of expressions without parts.
 
-ghost use Rattle.std.specs.Prelude.{◌≡◌, ◌<◌, ◌∷◌, [], ◌++◌, ℕ, Bool, true, OnOk, IfOk, Some, slice_get, length};
+ghost use Rattle.std.specs.Prelude.{◌≡◌, ◌<◌, ◌≤◌, ◌+◌, ◌^◌, ◌∷◌, [], ◌++◌, ℕ, Bool, true, OnOk, IfOk, Some, IsTrue, All, slice_get, length, map};
 ghost use Rattle.gate_trait.specs.Built.{Keeps};
 ghost use Rattle.bool_matrix.specs.Matrices.{MatrixEntries};
 ghost use Rattle.expr_encoder.specs.Sets.{MeansSet};
 ghost use Rattle.lasso_stack.specs.Rows.{Grows};
 ghost use Rattle.lasso_stack.specs.Stored.{AreStored};
-ghost use Rattle.core_tree.specs.Trees.{name as named};
-ghost use Rattle.lasso_sets.specs.Shown.{Atoms, atom_in, under, IsReading, AreOf, AreRight};
-ghost use Rattle.lasso_sets.specs.Relations.{AddsState, AtStates, AtShown, reading_of};
+ghost use Rattle.core_meaning.specs.declared.scopes.SigScope.{SigScope as ScopeOfSig};
+ghost use Rattle.core_meaning.specs.Kept.{world_of};
+ghost use Rattle.core_tree.specs.Trees.{name as named, empty as nothing};
+ghost use Rattle.lasso_sets.specs.Shown.{Atoms, atom_in, under, IsReading, HaveTuples, AreOf, of_relation, of_univ, of_iden, of_int, AreRight};
+ghost use Rattle.lasso_sets.specs.Relations.{AddsState, AtStates, AtShown, HasOneColumn, univ_below, reading_of};
 
 use crate::scopes::{cells_of, first_variable};
 use crate::setting::Setting;
 use bool_matrix::Matrix;
 use bounds_builder::{Bound, Cells};
+use core_meaning::SigScope;
 use core_tree::RelationOp;
 use gate_trait::Gates;
 use lasso_frame::{found_at, moved, repeated};
 use lasso_stack::{Operator, Store, add_matrix, combined, one_set};
 use set_circuits::{SetOperator, atom_matrix, range_matrix, relation_matrix};
 use std::alloc::{AllocError, Global};
+use tuple_sets::TupleSet;
 
 /// The empty set at each place.
 pub fn no_set<G: Gates>(
@@ -31,14 +35,12 @@ pub fn no_set<G: Gates>(
     requires { AreStored (G.belongs gates.now) store.old }
     ensures stored { OnOk result (AreStored (G.belongs gates.now) store.new) }
     ensures grows { OnOk result (Grows store.old store.new) }
+    ensures right { IfOk result (λ numbers. (depth : ℕ) (atoms : Atoms) → IsReading (reading_of setting.now depth)
+        → AreRight (under (reading_of setting.now depth) atoms) (G.node_value gates.now) store.new.matrices.items nothing numbers.items) }
 {
-    let row = one_set(
-        alloc,
-        gates,
-        store,
-        Matrix::empty(alloc, 1),
-        setting.frame.len(),
-    )?;
+    let matrix = Matrix::empty(alloc, 1);
+    let count = setting.frame.shown.len();
+    let row = one_set(alloc, gates, store, matrix, count)?;
     Ok(row)
 }
 
@@ -161,7 +163,7 @@ pub fn relation_sets<G: Gates>(
     ensures keeps { Keeps G.belongs G.node_value gates.old gates.new }
     ensures stored { OnOk result (AreStored (G.belongs gates.new) store.new) }
     ensures grows { OnOk result (Grows store.old store.new) }
-    ensures of { IfOk result (λ numbers. (depth : ℕ) → IsReading (reading_of setting.now depth) → AreOf (reading_of setting.now depth) (G.node_value gates.new) store.new.matrices.items number numbers.items) }
+    ensures of { IfOk result (λ numbers. (depth : ℕ) → IsReading (reading_of setting.now depth) → AreOf (reading_of setting.now depth) (G.node_value gates.new) store.new.matrices.items (of_relation number) numbers.items) }
 {
     let relations = setting.bounds.relations.as_slice();
     let cells = setting.layout.relations.as_slice();
@@ -194,25 +196,14 @@ pub fn name_sets<G: Gates>(
     Ok(row)
 }
 
-/// How many integers there are, at most 16,384.
-fn integer_count(bits: u32) -> u32 {
-    match bits {
-        0 => 1,
-        1 => 2,
-        2 => 4,
-        3 => 8,
-        4 => 16,
-        5 => 32,
-        6 => 64,
-        7 => 128,
-        8 => 256,
-        9 => 512,
-        10 => 1024,
-        11 => 2048,
-        12 => 4096,
-        13 => 8192,
-        _ => 16384,
+/// How many integers there are of a bitwidth, at most 16,384.
+fn integer_count(bits: u32) -> u32
+    ensures { bits ≤ 12 → result ≡ 2 ^ bits }
+{
+    if bits >= 14 {
+        return 16384;
     }
+    1u32 << bits
 }
 
 /// The integers.
@@ -225,35 +216,109 @@ pub fn integer_sets<G: Gates>(
     requires { AreStored (G.belongs gates.now) store.old }
     ensures stored { OnOk result (AreStored (G.belongs gates.now) store.new) }
     ensures grows { OnOk result (Grows store.old store.new) }
+    ensures of { IfOk result (λ numbers. (depth : ℕ) → IsReading (reading_of setting.now depth) → AreOf (reading_of setting.now depth) (G.node_value gates.now) store.new.matrices.items of_int numbers.items) }
 {
     let first = setting.universe.atoms;
-    let end = first.saturating_add(integer_count(setting.universe.bits));
+    let integers = integer_count(setting.universe.bits);
+    let end = first.saturating_add(integers);
     let matrix = range_matrix(alloc, gates, first, end)?;
-    let row = one_set(alloc, gates, store, matrix, setting.frame.len())?;
+    let count = setting.frame.shown.len();
+    let row = one_set(alloc, gates, store, matrix, count)?;
     Ok(row)
 }
 
-/// The tuples of a set and those of a relation.
-fn with_relation<G: Gates>(
+/// Whether all tuples of a set have one number.
+fn has_one_column(upper: &TupleSet) -> bool
+    ensures { IsTrue result → All (λ t. length t ≡ 1) upper.now.tuples }
+{
+    upper.arity() == 1
+}
+
+/// The tuples of the relation of a sig, which have one number each. Its error is want of memory, that there
+/// is no such relation, that it has other columns, or that a variable's number would be too great.
+fn sig_sets<G: Gates>(
     alloc: Global,
     gates: &mut G,
     store: &mut Store,
     setting: &Setting,
     number: usize,
-    is_there: bool,
-    all: Vec<usize>,
 ) -> Result<Vec<usize>, AllocError>
     requires { AreStored (G.belongs gates.old) store.old }
     ensures keeps { Keeps G.belongs G.node_value gates.old gates.new }
     ensures stored { OnOk result (AreStored (G.belongs gates.new) store.new) }
     ensures grows { OnOk result (Grows store.old store.new) }
+    ensures of { IfOk result (λ numbers. (depth : ℕ) → IsReading (reading_of setting.now depth) → AreOf (reading_of setting.now depth) (G.node_value gates.new) store.new.matrices.items (of_relation number) numbers.items) }
+    ensures column { OnOk result ((depth : ℕ) → IsReading (reading_of setting.now depth) → HasOneColumn (reading_of setting.now depth) number) }
 {
-    if !is_there {
+    let relations = setting.bounds.relations.as_slice();
+    let cells = setting.layout.relations.as_slice();
+    if number >= relations.len() || number >= cells.len() {
+        return Err(AllocError);
+    }
+    let bound = &relations[number];
+    let kept = cells_of(cells, number);
+    if !has_one_column(&bound.upper) {
+        return Err(AllocError);
+    }
+    let row = shown_sets(alloc, gates, store, setting, bound, kept)?;
+    Ok(row)
+}
+
+/// Whether the sig of this number is top-level.
+fn is_top(numbers: &[SigScope], number: usize) -> bool
+    requires { number < length numbers.now }
+    ensures { slice_get (map (λ (s : ScopeOfSig). s.top) numbers.now) number ≡ Some result }
+{
+    numbers[number].top
+}
+
+/// The tuples of a set and those of the sig of this number.
+fn with_sig<G: Gates>(
+    alloc: Global,
+    gates: &mut G,
+    store: &mut Store,
+    setting: &Setting,
+    number: usize,
+    all: &[usize],
+) -> Result<Vec<usize>, AllocError>
+    requires store { AreStored (G.belongs gates.old) store.old }
+    requires top { slice_get (map (λ (s : ScopeOfSig). s.top) setting.now.scopes.now.numbers) number ≡ Some true }
+    ensures keeps { Keeps G.belongs G.node_value gates.old gates.new }
+    ensures stored { OnOk result (AreStored (G.belongs gates.new) store.new) }
+    ensures grows { OnOk result (Grows store.old store.new) }
+    ensures more { IfOk result (λ row. (depth : ℕ) → IsReading (reading_of setting.now depth)
+        → HaveTuples (reading_of setting.now depth) (G.node_value gates.old) store.old.matrices.items (λ lasso k. univ_below (world_of setting.now.scopes.now lasso) number k) all.now
+        → HaveTuples (reading_of setting.now depth) (G.node_value gates.new) store.new.matrices.items (λ lasso k. univ_below (world_of setting.now.scopes.now lasso) (number + 1) k) row.items) }
+{
+    let more = sig_sets(alloc, gates, store, setting, number)?;
+    let union = Operator::OfSets(SetOperator::Combine(RelationOp::Union));
+    let row = combined(alloc, gates, store, setting.universe, union, all, &more)?;
+    Ok(row)
+}
+
+/// The tuples of a set, and those of the sig of this number where it is top-level.
+fn with_top<G: Gates>(
+    alloc: Global,
+    gates: &mut G,
+    store: &mut Store,
+    setting: &Setting,
+    number: usize,
+    all: Vec<usize>,
+) -> Result<Vec<usize>, AllocError>
+    requires store { AreStored (G.belongs gates.old) store.old }
+    requires number { number < length setting.now.scopes.now.numbers }
+    ensures keeps { Keeps G.belongs G.node_value gates.old gates.new }
+    ensures stored { OnOk result (AreStored (G.belongs gates.new) store.new) }
+    ensures grows { OnOk result (Grows store.old store.new) }
+    ensures more { IfOk result (λ row. (depth : ℕ) → IsReading (reading_of setting.now depth)
+        → HaveTuples (reading_of setting.now depth) (G.node_value gates.old) store.old.matrices.items (λ lasso k. univ_below (world_of setting.now.scopes.now lasso) number k) all.items
+        → HaveTuples (reading_of setting.now depth) (G.node_value gates.new) store.new.matrices.items (λ lasso k. univ_below (world_of setting.now.scopes.now lasso) (number + 1) k) row.items) }
+{
+    let numbers = setting.scopes.numbers.as_slice();
+    if !is_top(numbers, number) {
         return Ok(all);
     }
-    let more = relation_sets(alloc, gates, store, setting, number)?;
-    let union = Operator::OfSets(SetOperator::Combine(RelationOp::Union));
-    let row = combined(alloc, gates, store, setting.universe, union, &all, &more)?;
+    let row = with_sig(alloc, gates, store, setting, number, all.as_slice())?;
     Ok(row)
 }
 
@@ -268,10 +333,12 @@ pub fn univ_sets<G: Gates>(
     ensures keeps { Keeps G.belongs G.node_value gates.old gates.new }
     ensures stored { OnOk result (AreStored (G.belongs gates.new) store.new) }
     ensures grows { OnOk result (Grows store.old store.new) }
+    ensures of { IfOk result (λ numbers. (depth : ℕ) → IsReading (reading_of setting.now depth) → AreOf (reading_of setting.now depth) (G.node_value gates.new) store.new.matrices.items of_univ numbers.items) }
 {
     let mut all = integer_sets(alloc, gates, store, setting)?;
-    for (number, sig) in setting.scopes.numbers.as_slice().iter().enumerate() {
-        all = with_relation(alloc, gates, store, setting, number, sig.top, all)?;
+    let sigs = setting.scopes.numbers.as_slice();
+    for number in 0..sigs.len() {
+        all = with_top(alloc, gates, store, setting, number, all)?;
     }
     Ok(all)
 }
@@ -287,6 +354,7 @@ pub fn iden_sets<G: Gates>(
     ensures keeps { Keeps G.belongs G.node_value gates.old gates.new }
     ensures stored { OnOk result (AreStored (G.belongs gates.new) store.new) }
     ensures grows { OnOk result (Grows store.old store.new) }
+    ensures of { IfOk result (λ numbers. (depth : ℕ) → IsReading (reading_of setting.now depth) → AreOf (reading_of setting.now depth) (G.node_value gates.new) store.new.matrices.items of_iden numbers.items) }
 {
     let all = univ_sets(alloc, gates, store, setting)?;
     let identity = Operator::OfSets(SetOperator::Identity);

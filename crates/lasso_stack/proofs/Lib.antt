@@ -4,3 +4,4 @@ pub mod WindowLaws
 pub mod PlaceLaws
 pub mod LogicLaws
 pub mod MemberLaws
+pub mod TopLaws

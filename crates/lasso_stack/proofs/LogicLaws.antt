@@ -3,7 +3,7 @@ use Rattle.std.proofs.Common.{◌≡◌, ◌<◌, ◌+◌, ℕ, Bool, ◌&&◌, 
 use Rattle.gate_trait.specs.declared.node.Node.{Node}
 use Rattle.temporal_rows.specs.Rows.{row_value}
 use Rattle.lasso_stack.specs.Rows.{IsPart, IsNegated, AreBoth}
-use Rattle.lasso_stack.specs.Logic.{IsImplied, AreSame, IsHeldWhere, IsBothPart}
+use Rattle.lasso_stack.specs.Logic.{IsImplied, AreSame, IsChoice, IsHeldWhere, IsBothPart}
 
 and_both : {a b c d : Bool} → a ≡ b → c ≡ d → a && c ≡ b && d
 and_both e f = cc
@@ -29,6 +29,18 @@ same_law old mid last new f g a b r count keep_f keep_g keep_a ha hb hr = record
       hr.values x i at_a ∙ and_both
       (keep_a x i ∙ ha.values x i lt)
       (hb.values x i lt ∙ ap not (and_both (keep_g x i) (ap not (keep_f x i))));
+}
+
+pub choice_law : (old mid last new : (ℕ → Bool) → Node → Bool) (f g h a p n b r : List Node) (count : ℕ) → ((x : ℕ → Bool) (i : ℕ) → row_value (mid x) f i ≡ row_value (old x) f i) → ((x : ℕ → Bool) (i : ℕ) → row_value (mid x) h i ≡ row_value (old x) h i) → ((x : ℕ → Bool) (i : ℕ) → row_value (last x) a i ≡ row_value (mid x) a i) → IsImplied old mid f g count a → IsPart mid f 0 count p → IsNegated mid p n → IsImplied mid last n h count b → AreBoth last new a b r → IsChoice old new f g h count r
+choice_law old mid last new f g h a p n b r count keep_f keep_h keep_a ha hp hn hb hr = record {
+  long = hr.long ∙ ha.long;
+  values = λ x i lt.
+      let at_a : i < length a = (let e = ha.long in omega (arith, lt, e)) in
+      let at_p : i < length p = (let e = hp.long in omega (arith, lt, e)) in
+      let other = hn.values x i at_p ∙ ap not (first_places mid f p count hp x i lt ∙ keep_f x i) in
+      hr.values x i at_a ∙ and_both
+      (keep_a x i ∙ ha.values x i lt)
+      (hb.values x i lt ∙ ap not (and_both other (ap not (keep_h x i))));
 }
 
 pub held_law : (old mid new : (ℕ → Bool) → Node → Bool) (f g h n p m l r : List Node) (from count : ℕ) → ((x : ℕ → Bool) (i : ℕ) → row_value (mid x) f i ≡ row_value (old x) f i) → IsNegated old g n → IsPart old h from count p → AreBoth old mid n p m → IsNegated mid m l → AreBoth mid new f l r → IsHeldWhere old new f g h from r

@@ -13,6 +13,11 @@ pub record AreSame (old new : (ℕ → Bool) → Node → Bool) (f g : List Node
   pub long : length row ≡ count
   pub values : (x : ℕ → Bool) (i : ℕ) → i < count → row_value (new x) row i ≡ (not (row_value (old x) f i && not (row_value (old x) g i)) && not (row_value (old x) g i && not (row_value (old x) f i)))
 
+-- at each of so many places: the second where the first is true, else the third
+pub record IsChoice (old new : (ℕ → Bool) → Node → Bool) (f g h : List Node) (count : ℕ) (row : List Node) : Type 0 where
+  pub long : length row ≡ count
+  pub values : (x : ℕ → Bool) (i : ℕ) → i < count → row_value (new x) row i ≡ (not (row_value (old x) f i && not (row_value (old x) g i)) && not (not (row_value (old x) f i) && not (row_value (old x) h i)))
+
 -- at each place: the first, and the second where the third is true, whose places begin at `from`
 pub record IsHeldWhere (old new : (ℕ → Bool) → Node → Bool) (f g h : List Node) (from : ℕ) (row : List Node) : Type 0 where
   pub long : length row ≡ length f

@@ -5,7 +5,7 @@ ghost use Rattle.gate_trait.specs.declared.node.Node.{Node as CircuitNode};
 ghost use Rattle.gate_trait.specs.Built.{Keeps};
 ghost use Rattle.lasso_stack.specs.Stored.{AreStored};
 ghost use Rattle.lasso_stack.specs.Rows.{AreBeside, HasTop};
-ghost use Rattle.lasso_stack.specs.Logic.{IsImplied, IsHeldWhere, IsBothPart};
+ghost use Rattle.lasso_stack.specs.Logic.{IsImplied, AreSame, IsChoice, IsHeldWhere, IsBothPart};
 
 use crate::basics::drop_below;
 use crate::steps::{both_top, negate_top, push_copy, push_part};
@@ -48,6 +48,8 @@ pub fn same_top<G: Gates>(
     ensures keeps { Keeps G.belongs G.node_value gates.old gates.new }
     ensures stored { OnOk result (AreStored (G.belongs gates.new) store.new) }
     ensures beside { OnOk result (AreBeside store.old store.new) }
+    ensures rows { OnOk result ((rest : List (List CircuitNode)) (f g : List CircuitNode) → store.old.rows.items ≡ rest ++ f ∷ g ∷ []
+        → HasTop rest store.new.rows.items (AreSame (G.node_value gates.old) (G.node_value gates.new) f g count)) }
 {
     let second = store.top();
     let first = second.saturating_sub(1);
@@ -70,6 +72,8 @@ pub fn choose_top<G: Gates>(
     ensures keeps { Keeps G.belongs G.node_value gates.old gates.new }
     ensures stored { OnOk result (AreStored (G.belongs gates.new) store.new) }
     ensures beside { OnOk result (AreBeside store.old store.new) }
+    ensures rows { OnOk result ((rest : List (List CircuitNode)) (f g h : List CircuitNode) → store.old.rows.items ≡ rest ++ f ∷ g ∷ h ∷ []
+        → HasTop rest store.new.rows.items (IsChoice (G.node_value gates.old) (G.node_value gates.new) f g h count)) }
 {
     let third = store.top();
     let second = third.saturating_sub(1);

@@ -1,5 +1,5 @@
 -- Names, and the steps for all values of a variable, go on to the row of the root.
-use Rattle.std.proofs.Common.{◌≡◌, ◌≢◌, ◌⊎◌, ◌<◌, ◌≤◌, ◌+◌, ◌-◌, ◌*◌, ℕ, zero, suc, eqb, if◌then◌else◌, Bool, true, false, List, [], ◌∷◌, ◌++◌, length, get_or, take, Contains, Option, Some, None, slice_get, refl, sym, ap, ◌∙◌, subst, arith, inl, inr, Vec, Global, length-append}
+use Rattle.std.proofs.Common.{◌≡◌, ◌≢◌, ◌⊎◌, ◌<◌, ◌≤◌, ◌+◌, ◌-◌, ◌*◌, ℕ, zero, suc, eqb, if◌then◌else◌, Bool, true, false, List, [], ◌∷◌, ◌++◌, length, get_or, take, Option, Some, None, slice_get, refl, sym, ap, ◌∙◌, subst, arith, inl, inr, Vec, Global, length-append}
 use Rattle.std.specs.Borrow.{Bor}
 use Rattle.std.proofs.lemmas.Bool.{cases_lt}
 use Rattle.std.proofs.lemmas.Bool.Decides.{nat_tests}
@@ -28,11 +28,11 @@ use Rattle.lasso_steps.specs.declared.plan.Plan.{Plan}
 use Rattle.lasso_steps.specs.declared.plan.RowStep.TheVariants.{HeldWhere, DropBelow}
 use Rattle.lasso_steps.specs.declared.plan.Task.{Task}
 use Rattle.lasso_steps.specs.declared.plan.Task.TheVariants.{Sets, Holds, Rows, ForAll, Cut}
-use Rattle.lasso_steps.specs.Said.{IsScope, all_of, Said, claimed, members, held, Valued, valued, Aim, Side, side_of, IsKept, SaysMembers, SaysHeld, IsSaid}
-use Rattle.lasso_steps.specs.Leads.{IsRead, AreDone, Leads, RightRows, RightValues, IsOnTheWay}
+use Rattle.lasso_steps.specs.Said.{IsScope, all_of, Said, claimed, members, held, Valued, valued, Aim, Side, side_of, IsKept, SaysMembers}
+use Rattle.lasso_steps.specs.Leads.{AreDone, Leads, RightRows, RightValues, IsOnTheWay}
 use Rattle.lasso_steps.specs.Plans.{todo, ArePlanned, IsTaken, IsPut, IsNamed}
 use Rattle.lasso_steps.specs.Bound.{AreDoneBelow, LeadsOn, IsBegun, TakesAtom, TakesAtoms}
-use Rattle.lasso_steps.proofs.StackLaws.{said_kept, rows_kept, values_kept, is_kept, rows_long}
+use Rattle.lasso_steps.proofs.StackLaws.{values_kept, rows_long}
 use Rattle.lasso_steps.proofs.WayLaws.{moved_way, with_values, with_rows, one_over}
 use Rattle.lasso_steps.proofs.HeldLaws.{held_more, held_none, all_right, members_right, later, newest}
 

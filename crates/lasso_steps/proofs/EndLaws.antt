@@ -9,11 +9,10 @@ use Rattle.lasso_stack.specs.Rows.{HasTop}
 use Rattle.lasso_steps.specs.declared.plan.Task.{Task}
 use Rattle.lasso_steps.specs.declared.plan.Task.TheVariants.{Holds}
 use Rattle.lasso_steps.specs.declared.plan.Plan.{Plan}
-use Rattle.bool_matrix.specs.Matrices.{MatrixEntries}
-use Rattle.lasso_sets.specs.Shown.{Atoms, Reading, under, IsRight}
+use Rattle.lasso_sets.specs.Shown.{Reading, under, IsRight}
 use Rattle.lasso_steps.specs.declared.plan.Name.{Name}
 use Rattle.lasso_steps.specs.Said.{Said, claimed, Valued, Aim, aim_of, Side, side_of}
-use Rattle.lasso_steps.specs.Leads.{Leads, IsRead, RightRows, RightValues, IsOnTheWay}
+use Rattle.lasso_steps.specs.Leads.{Leads, IsRead, RightRows, IsOnTheWay}
 use Rattle.lasso_sets.specs.Shown.{AreKept}
 use Rattle.lasso_steps.specs.Plans.{todo, ArePlanned}
 use Rattle.lasso_steps.proofs.PlanLaws.{reverse_one}

@@ -1,5 +1,5 @@
 -- Where a formula holds for all values of a variable.
-use Rattle.std.proofs.Common.{◌≡◌, ◌↔◌, ◌⊎◌, ◌<◌, ◌≤◌, ◌+◌, ◌*◌, ◌&&◌, ℕ, zero, suc, Bool, true, false, not, IsTrue, List, [], ◌∷◌, ◌++◌, length, get_or, take, Contains, Some, slice_get, refl, sym, ap, ◌∙◌, subst, arith, inl, inr}
+use Rattle.std.proofs.Common.{◌≡◌, ◌↔◌, ◌⊎◌, ◌<◌, ◌+◌, ◌*◌, ◌&&◌, ℕ, zero, suc, Bool, true, false, not, IsTrue, List, [], ◌∷◌, length, get_or, Contains, Some, slice_get, refl, sym, ap, ◌∙◌, subst, arith, inl, inr}
 use Rattle.std.proofs.lemmas.Option.{slice_get-get_or}
 use Rattle.gate_trait.specs.declared.node.Node.{Node}
 use Rattle.core_tree.specs.Trees.{Term, Claim, Binder}
@@ -11,11 +11,10 @@ use Rattle.bool_matrix.specs.declared.entry.Entry.{Entry}
 use Rattle.bool_matrix.specs.Matrices.{MatrixEntries, tuples_of, truth}
 use Rattle.bool_matrix.specs.Found.{found_entry}
 use Rattle.temporal_rows.specs.Rows.{row_value}
-use Rattle.lasso_frame.specs.declared.frame.Stretch.{Stretch}
 use Rattle.lasso_stack.specs.Rows.{IsConstant}
 use Rattle.lasso_stack.specs.Logic.{IsHeldWhere}
 use Rattle.lasso_stack.specs.Members.{HasMembers, SayMembers}
-use Rattle.lasso_sets.specs.Shown.{Atoms, names_of, Reading, under, IsReading, HasPlace, Shows, IsRight, AreRight}
+use Rattle.lasso_sets.specs.Shown.{names_of, Reading, under, IsReading, IsRight, AreRight}
 use Rattle.lasso_sets.specs.PlaceLaws.{place_within}
 use Rattle.lasso_steps.specs.Said.{all_of, SaysMembers, HoldsFor, SaysHeld}
 use Rattle.lasso_steps.specs.Leads.{AreDone}

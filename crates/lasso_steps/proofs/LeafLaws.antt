@@ -1,52 +1,59 @@
 -- Relations, and what is looked into, go on to the row of the root.
-use Rattle.std.proofs.Common.{◌≡◌, ◌⊎◌, ◌<◌, ◌+◌, ℕ, Bool, true, false, List, [], ◌∷◌, ◌++◌, map, length, Option, Some, None, slice_get, refl, sym, ap, ◌∙◌, subst, arith, inl, inr, Vec, Global}
+use Rattle.std.proofs.Common.{◌≡◌, ◌+◌, ℕ, Bool, true, false, List, ◌∷◌, map, length, Option, Some, None, refl, sym, ap, ◌∙◌, subst, arith, inl, inr, Vec, Global}
 use Rattle.std.proofs.lemmas.List.{length-map}
 use Rattle.std.specs.Borrow.{Bor}
 use Rattle.gate_trait.specs.declared.node.Node.{Node}
 use Rattle.core_tree.specs.declared.tree.Expr.{Expr}
-use Rattle.core_tree.specs.declared.tree.Formula.{Formula}
-use Rattle.core_tree.specs.Trees.{Term, Claim, sig, field, every, no_claims, term_of, claim_of}
+use Rattle.core_tree.specs.Trees.{sig, field, univ, iden, int, every, no_claims, term_of}
 use Rattle.core_meaning.specs.declared.scopes.SigScope.{SigScope}
 use Rattle.bool_matrix.specs.Matrices.{MatrixEntries}
 use Rattle.lasso_stack.specs.declared.store.Store.{Store}
 use Rattle.lasso_stack.specs.Rows.{IsPushed, IsConstant}
 use Rattle.lasso_steps.specs.declared.plan.Task.{Task}
-use Rattle.lasso_steps.specs.declared.plan.Task.TheVariants.{Sets, Holds}
+use Rattle.lasso_steps.specs.declared.plan.Task.TheVariants.{Sets}
 use Rattle.lasso_steps.specs.declared.plan.Plan.{Plan}
-use Rattle.lasso_sets.specs.Shown.{Atoms, Reading, under, IsReading, AreRight, AreOf}
+use Rattle.lasso_sets.specs.Shown.{Atoms, Reading, under, IsReading, AreRight, AreOf, Leaf, IsLeafAt, of_relation, of_univ, of_iden, of_int}
 use Rattle.lasso_sets.specs.KeptLaws.{of_stays}
 use Rattle.lasso_steps.specs.Said.{Said, claimed, Valued, valued, Aim, Side, side_of, IsKept}
-use Rattle.lasso_steps.specs.Forms.{IsPlainTerm}
 use Rattle.lasso_steps.specs.Leads.{Leads, RightRows, RightValues, IsOnTheWay}
 use Rattle.lasso_sets.specs.Shown.{AreKept}
 use Rattle.lasso_steps.specs.Opened.{HoldsLeaf, IsOpenedWith, IsPutRow, opened_to}
 use Rattle.lasso_steps.specs.Plans.{todo, IsPut, IsOpened}
 use Rattle.lasso_sets.specs.RightLaws.{ok_under, nothing_right}
 
--- what is kept of a relation
-kept_of : (r : Reading) (value : (ℕ → Bool) → Node → Bool) (matrices : List MatrixEntries) (kept : List (Vec ℕ Global)) (number : ℕ) (v : List ℕ) → AreKept r value matrices kept → number < length r.bounds.relations → HoldsLeaf kept number v → AreOf r value matrices number v
-kept_of r value matrices kept number v have lt (n, at, is, some) = elim (have number n lt at) [
+-- what is kept of a set without parts
+kept_of : (r : Reading) (value : (ℕ → Bool) → Node → Bool) (matrices : List MatrixEntries) (kept : List (Vec ℕ Global)) (leaf : Leaf) (number : ℕ) (v : List ℕ) → AreKept r value matrices kept → IsLeafAt r.bounds.relations leaf number → HoldsLeaf kept number v → AreOf r value matrices leaf v
+kept_of r value matrices kept leaf number v have lt (n, at, is, some) = elim (have leaf number n lt at) [
   | inl none ↦ absurd (let e : length v ≡ 0 = ap (λ (s : List ℕ). length s) (is ∙ none) in omega (arith, e, some))
-  | inr of ↦ subst (λ (s : List ℕ). AreOf r value matrices number s) (sym is) of
+  | inr of ↦ subst (λ (s : List ℕ). AreOf r value matrices leaf s) (sym is) of
 ]
 
-pub sig_right : (r : Reading) (atoms : Atoms) (value : (ℕ → Bool) → Node → Bool) (matrices : List MatrixEntries) (s : ℕ) (v : List ℕ) → AreOf r value matrices s v → AreRight (under r atoms) value matrices (sig s) v
+pub sig_right : (r : Reading) (atoms : Atoms) (value : (ℕ → Bool) → Node → Bool) (matrices : List MatrixEntries) (s : ℕ) (v : List ℕ) → AreOf r value matrices (of_relation s) v → AreRight (under r atoms) value matrices (sig s) v
 sig_right r atoms value matrices s v of = record { sets = of.sets }
 
-pub field_right : (r : Reading) (atoms : Atoms) (value : (ℕ → Bool) → Node → Bool) (matrices : List MatrixEntries) (f n : ℕ) (v : List ℕ) → n ≡ length r.scopes.numbers + f → AreOf r value matrices n v → AreRight (under r atoms) value matrices (field f) v
+pub field_right : (r : Reading) (atoms : Atoms) (value : (ℕ → Bool) → Node → Bool) (matrices : List MatrixEntries) (f n : ℕ) (v : List ℕ) → n ≡ length r.scopes.numbers + f → AreOf r value matrices (of_relation n) v → AreRight (under r atoms) value matrices (field f) v
 field_right r atoms value matrices f n v is of =
     let same : n ≡ length (map (λ (s : SigScope). s.top) r.scopes.numbers) + f = is ∙ ap (λ (k : ℕ). k + f) (sym (length-map r.scopes.numbers (λ (s : SigScope). s.top))) in
-    let other = subst (λ (k : ℕ). AreOf r value matrices k v) same of in
+    let other = subst (λ (k : ℕ). AreOf r value matrices (of_relation k) v) same of in
     record { sets = other.sets }
 
--- a relation's sets are put on the stack
-pub relation_on : (r : Reading) (root : Aim) (value : (ℕ → Bool) → Node → Bool) (store : Store) (old new : Plan) (v : Vec ℕ Global) (number : ℕ) (e : Bor Expr) (scope : ℕ) → ((atoms : Atoms) (u : List ℕ) → AreOf r value store.matrices.items number u → AreRight (under r atoms) value store.matrices.items (term_of e.now) u) → number < length r.bounds.relations → IsPut old new v → HoldsLeaf old.kept.items number v.items
+pub univ_right : (r : Reading) (atoms : Atoms) (value : (ℕ → Bool) → Node → Bool) (matrices : List MatrixEntries) (v : List ℕ) → AreOf r value matrices of_univ v → AreRight (under r atoms) value matrices univ v
+univ_right r atoms value matrices v of = record { sets = of.sets }
+
+pub iden_right : (r : Reading) (atoms : Atoms) (value : (ℕ → Bool) → Node → Bool) (matrices : List MatrixEntries) (v : List ℕ) → AreOf r value matrices of_iden v → AreRight (under r atoms) value matrices iden v
+iden_right r atoms value matrices v of = record { sets = of.sets }
+
+pub int_right : (r : Reading) (atoms : Atoms) (value : (ℕ → Bool) → Node → Bool) (matrices : List MatrixEntries) (v : List ℕ) → AreOf r value matrices of_int v → AreRight (under r atoms) value matrices int v
+int_right r atoms value matrices v of = record { sets = of.sets }
+
+-- a set without parts is put on the stack
+pub leaf_on : (r : Reading) (root : Aim) (value : (ℕ → Bool) → Node → Bool) (store : Store) (old new : Plan) (v : Vec ℕ Global) (leaf : Leaf) (number : ℕ) (e : Bor Expr) (scope : ℕ) → ((atoms : Atoms) (u : List ℕ) → AreOf r value store.matrices.items leaf u → AreRight (under r atoms) value store.matrices.items (term_of e.now) u) → IsLeafAt r.bounds.relations leaf number → IsPut old new v → HoldsLeaf old.kept.items number v.items
     → IsOnTheWay r root (side_of old) value store old.values.items (Sets e scope ∷ todo old) → IsOnTheWay r root (side_of new) value store new.values.items (todo new)
-relation_on r root value store old new v number e scope right lt put holds way = record {
+leaf_on r root value store old new v leaf number e scope right lt put holds way = record {
   fs = way.fs;
   es = valued way.leads.0 (term_of e.now) ∷ way.es;
   rows_right = way.rows_right;
-  values_right = (old.values.items, v, put.values, right way.leads.0 v.items (of_stays r value root.first store.matrices.items number v.items way.kept_right.stay (kept_of r value root.first old.kept.items number v.items way.kept_right.right lt holds)), way.values_right);
+  values_right = (old.values.items, v, put.values, right way.leads.0 v.items (of_stays r value root.first store.matrices.items leaf v.items way.kept_right.stay (kept_of r value root.first old.kept.items leaf number v.items way.kept_right.right lt holds)), way.values_right);
   kept_right = subst (λ (ks : Side). IsKept r value root store.matrices.items ks) (sym put.kept) way.kept_right;
   leads = subst (λ (ts : List Task). Leads r.depth root (side_of new).names ts way.fs (valued way.leads.0 (term_of e.now) ∷ way.es)) (sym put.todo_is) (subst (λ (ks : Side). Leads r.depth root ks.names (todo old) way.fs (valued way.leads.0 (term_of e.now) ∷ way.es)) (sym put.kept) way.leads.3);
 }

@@ -1,5 +1,6 @@
 pub mod PlanLaws
 pub mod StackLaws
+pub mod ChoiceLaws
 pub mod WayLaws
 pub mod OpenLaws
 pub mod LeafLaws

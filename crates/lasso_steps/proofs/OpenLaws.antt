@@ -1,39 +1,37 @@
 -- What stands in place of an expression or a formula leads to the same.
-use Rattle.std.proofs.Common.{◌≡◌, ◌≢◌, ◌⊎◌, ◌≤◌, ◌<◌, ◌+◌, ◌-◌, ◌^◌, ℕ, zero, suc, max, eqb, if◌then◌else◌, Bool, true, false, IsTrue, List, [], ◌∷◌, ◌++◌, map, length, take, get_or, Option, Some, None, slice_get, refl, sym, ap, ◌∙◌, subst, arith, inl, inr, Vec, Box, Global}
+use Rattle.std.proofs.Common.{◌≡◌, ◌≢◌, ◌≤◌, ◌+◌, ◌-◌, ◌^◌, ℕ, zero, suc, max, eqb, if◌then◌else◌, Bool, true, false, List, [], ◌∷◌, ◌++◌, map, length, take, Option, Some, None, slice_get, refl, sym, ap, ◌∙◌, subst, arith, inl, inr}
 use Rattle.std.specs.Borrow.{Bor}
 use Rattle.std.proofs.lemmas.Bool.{cases_lt, cond_below, cond_above}
 use Rattle.std.proofs.Math.Nat.{le-max_left, le-max_right}
+use Rattle.core_tree.specs.declared.operators.Connective.TheVariants.{Iff}
 use Rattle.core_tree.specs.declared.operators.Multiplicity.{Multiplicity}
 use Rattle.core_tree.specs.declared.operators.Multiplicity.TheVariants.{Set}
 use Rattle.core_tree.specs.declared.operators.Quantity.{Quantity}
 use Rattle.core_tree.specs.declared.operators.RelationOp.{RelationOp}
 use Rattle.core_tree.specs.declared.operators.UnaryRelation.{UnaryRelation}
 use Rattle.core_tree.specs.declared.operators.UnaryRelation.TheVariants.{Transpose as TransposeOf, Closure as ClosureOf}
-use Rattle.core_tree.specs.declared.operators.TemporalUnary.{TemporalUnary}
 use Rattle.core_tree.specs.declared.operators.TemporalUnary.TheVariants.{After as AfterOf, Before as BeforeOf}
-use Rattle.core_tree.specs.declared.operators.TemporalBinary.{TemporalBinary}
 use Rattle.core_tree.specs.declared.operators.TemporalBinary.TheVariants.{Until as UntilOf, Since as SinceOf}
 use Rattle.core_tree.specs.declared.tree.Formula.{Formula}
 use Rattle.core_tree.specs.declared.tree.Expr.{Expr}
 use Rattle.core_tree.specs.declared.tree.Variable.{Variable}
 use Rattle.std.proofs.Math.Path.{fun_ext}
-use Rattle.core_tree.specs.Trees.{Term, Claim, Claims, combine, product, unary, prime, inside, equal, within, test, negation, every, temporal, temporal_pair, no_claims, more_claims, claim_list, variable_list, variable_of, term_of, claim_of}
+use Rattle.core_tree.specs.Trees.{Term, Claim, Claims, combine, product, unary, prime, inside, equal, within, test, negation, every, connect, choose_claim, temporal, temporal_pair, no_claims, more_claims, claim_list, variable_list, variable_of, term_of, claim_of}
 use Rattle.core_tree.specs.Past.{Depths, no_depths, with_depth, one_more, past_in, past_of, past_of_each}
 use Rattle.set_circuits.specs.declared.operators.SetOperator.{SetOperator}
-use Rattle.set_circuits.specs.declared.operators.SetOperator.TheVariants.{Combine, Product, Transpose, Closure}
+use Rattle.set_circuits.specs.declared.operators.SetOperator.TheVariants.{Combine, Product}
 use Rattle.set_circuits.specs.declared.questions.Question.TheVariants.{Inside}
 use Rattle.lasso_stack.specs.declared.numbers.Operator.TheVariants.{OfSets}
 use Rattle.lasso_stack.specs.declared.numbers.TestOperator.TheVariants.{OfSets as AskSets}
 use Rattle.lasso_stack.specs.declared.windows.TimeOperator.TheVariants.{Before, Since, Until}
 use Rattle.lasso_steps.specs.declared.plan.ValueStep.TheVariants.{Two, One, Next}
-use Rattle.lasso_steps.specs.declared.plan.RowStep.{RowStep}
-use Rattle.lasso_steps.specs.declared.plan.RowStep.TheVariants.{Asked, Equal, Tested, Lies, Negate, Both, After, Along}
+use Rattle.lasso_steps.specs.declared.plan.RowStep.TheVariants.{Asked, Equal, Tested, Lies, Negate, Both, Same, Choose, After, Along}
 use Rattle.lasso_steps.specs.declared.plan.Task.{Task}
 use Rattle.lasso_steps.specs.declared.plan.Task.TheVariants.{Sets, Holds, Values, Rows, ForAll}
 use Rattle.lasso_steps.specs.declared.plan.Plan.{Plan}
 use Rattle.lasso_sets.specs.Shown.{Atoms, none_nested}
 use Rattle.lasso_steps.specs.declared.plan.Name.{Name}
-use Rattle.lasso_steps.specs.Said.{IsScope, all_of, Said, claimed, Valued, valued, Aim, side_of}
+use Rattle.lasso_steps.specs.Said.{all_of, Said, claimed, Valued, valued, Aim, side_of}
 use Rattle.lasso_steps.specs.Forms.{IsPlain, IsPlainTerm, IsPlainBound, ArePlain}
 use Rattle.lasso_steps.specs.Opened.{turned_by, IsOpenedWith}
 use Rattle.lasso_steps.specs.Leads.{Leads, IsRead, IsReadTerm}
@@ -144,6 +142,19 @@ since_opened {a} {b} {old} {new} f scope is planned = with_none (Holds f scope) 
     let (plain, le) = subst (λ (t : Claim). IsRead depth t) is read in
     let rest = subst (λ (t : Claim). Leads depth root names (todo old) (claimed atoms t ∷ fs) es) is leads in
     (let less = one_less _ depth le in let one = max_left _ _ depth less in let two = max_right _ _ depth less in (atoms, scoped, none, (plain.1, one), (atoms, scoped, none, (plain.2, two), (refl, rest)))))
+
+pub iff_opened : {a b : Bor Formula} {old new : Plan} (f : Bor Formula) (scope : ℕ) → claim_of f.now ≡ connect Iff (claim_of a.now) (claim_of b.now) → ArePlanned old new (Holds a scope ∷ Holds b scope ∷ Rows Same ∷ []) → IsOpenedWith None (Holds f scope) old new
+iff_opened {a} {b} {old} {new} f scope is planned = with_none (Holds f scope) _ old new planned (λ depth root names fs es (atoms, scoped, none, read, leads).
+    let (plain, le) = subst (λ (t : Claim). IsRead depth t) is read in
+    let rest = subst (λ (t : Claim). Leads depth root names (todo old) (claimed atoms t ∷ fs) es) is leads in
+    (let one = max_left _ _ depth le in let two = max_right _ _ depth le in (atoms, scoped, none, (plain.1, one), (atoms, scoped, none, (plain.2, two), (refl, rest)))))
+
+pub choice_opened : {a b c : Bor Formula} {old new : Plan} (f : Bor Formula) (scope : ℕ) → claim_of f.now ≡ choose_claim (claim_of a.now) (claim_of b.now) (claim_of c.now) → ArePlanned old new (Holds a scope ∷ Holds b scope ∷ Holds c scope ∷ Rows Choose ∷ []) → IsOpenedWith None (Holds f scope) old new
+choice_opened {a} {b} {c} {old} {new} f scope is planned = with_none (Holds f scope) _ old new planned (λ depth root names fs es (atoms, scoped, none, read, leads).
+    let (plain, le) = subst (λ (t : Claim). IsRead depth t) is read in
+    let rest = subst (λ (t : Claim). Leads depth root names (todo old) (claimed atoms t ∷ fs) es) is leads in
+    (let one = max_left _ _ depth le in let others = max_right _ _ depth le in let two = max_left _ _ depth others in let three = max_right _ _ depth others in
+    (atoms, scoped, none, (plain.0, one), (atoms, scoped, none, (plain.1, two), (atoms, scoped, none, (plain.2, three), (refl, refl, rest))))))
 
 pub inside_opened : {a b : Bor Expr} {old new : Plan} (f : Bor Formula) (scope : ℕ) → claim_of f.now ≡ inside (term_of a.now) (term_of b.now) → ArePlanned old new (Sets a scope ∷ Sets b scope ∷ Rows (Asked (AskSets Inside)) ∷ []) → IsOpenedWith None (Holds f scope) old new
 inside_opened {a} {b} {old} {new} f scope is planned = with_none (Holds f scope) _ old new planned (λ depth root names fs es (atoms, scoped, none, read, leads).

@@ -1,12 +1,10 @@
 -- What stands on the stacks stays right while the circuit grows and sets are added.
-use Rattle.std.proofs.Common.{◌≡◌, ◌↔◌, ◌⊎◌, ◌<◌, ◌+◌, ◌*◌, ℕ, zero, suc, Bool, true, List, [], ◌∷◌, ◌++◌, length, get_or, All, Some, slice_get, refl, sym, ap, ◌∙◌, subst, arith, inl, inr, Vec, Global, length-append}
-use Rattle.std.proofs.lemmas.Option.{slice_get_within, get_or_from_slice_get}
+use Rattle.std.proofs.Common.{◌≡◌, ◌+◌, ◌*◌, ℕ, Bool, List, [], ◌∷◌, length, ap, ◌∙◌, subst, arith, Vec, Global, length-append}
 use Rattle.gate_trait.specs.declared.node.Node.{Node}
 use Rattle.gate_trait.specs.Built.{Keeps, AllIn}
-use Rattle.core_tree.specs.Trees.{Term, Claim}
-use Rattle.bool_matrix.specs.Matrices.{MatrixEntries, AllBelong, truth}
+use Rattle.bool_matrix.specs.Matrices.{MatrixEntries}
 use Rattle.set_circuits.specs.Belonging.{AllMatrices, AllLists}
-use Rattle.lasso_sets.specs.Shown.{Reading, under, IsRight, AreKept}
+use Rattle.lasso_sets.specs.Shown.{Reading, under}
 use Rattle.lasso_sets.specs.RowLaws.{row_kept}
 use Rattle.lasso_sets.specs.RightLaws.{true_same}
 use Rattle.lasso_steps.specs.Said.{Said, claimed, members, held, Valued, Aim, Side, IsKept, IsSaid}

@@ -1,9 +1,8 @@
 -- Each step goes on to the row of the root.
-use Rattle.std.proofs.Common.{◌≡◌, ◌↔◌, ◌≤◌, ◌<◌, ◌+◌, ℕ, Bool, true, List, [], ◌∷◌, ◌++◌, length, Some, slice_get, refl, sym, ap, ◌∙◌, subst, Vec, Global}
+use Rattle.std.proofs.Common.{◌≡◌, ℕ, Bool, List, [], ◌∷◌, ◌++◌, length, slice_get, refl, sym, ap, ◌∙◌, subst, Vec, Global}
 use Rattle.gate_trait.specs.declared.node.Node.{Node}
 use Rattle.gate_trait.specs.Built.{Keeps, AllIn}
-use Rattle.core_tree.specs.Trees.{Term, Claim, Claims, combine, product, unary, prime, inside, equal, within, test, negation, every, temporal, temporal_pair, no_claims, more_claims}
-use Rattle.core_tree.specs.Past.{no_depths, past_in, past_of}
+use Rattle.core_tree.specs.Trees.{Term, combine, product, unary, prime, inside, equal, within, test, negation, every, connect, choose_claim, temporal, temporal_pair, more_claims}
 use Rattle.core_tree.specs.declared.operators.Multiplicity.{Multiplicity}
 use Rattle.core_tree.specs.declared.operators.Multiplicity.TheVariants.{Set}
 use Rattle.lasso_sets.specs.Lying.{IsFree, AsksNothing}
@@ -12,8 +11,9 @@ use Rattle.core_tree.specs.declared.operators.TemporalUnary.TheVariants.{After a
 use Rattle.core_tree.specs.declared.operators.TemporalBinary.TheVariants.{Until as UntilOf, Since as SinceOf}
 use Rattle.core_tree.specs.declared.operators.UnaryRelation.TheVariants.{Transpose as TransposeOf, Closure as ClosureOf}
 use Rattle.core_tree.specs.declared.operators.Quantity.{Quantity}
+use Rattle.core_tree.specs.declared.operators.Connective.TheVariants.{Iff}
 use Rattle.bool_matrix.specs.Matrices.{MatrixEntries}
-use Rattle.set_circuits.specs.Belonging.{AllMatrices, AllLists}
+use Rattle.set_circuits.specs.Belonging.{AllLists}
 use Rattle.set_circuits.specs.declared.operators.SetOperator.{SetOperator}
 use Rattle.set_circuits.specs.declared.operators.SetOperator.TheVariants.{Combine, Product, Transpose, Closure, Identity}
 use Rattle.set_circuits.specs.declared.questions.Question.{Question}
@@ -27,17 +27,19 @@ use Rattle.lasso_stack.specs.declared.store.Store.{Store}
 use Rattle.lasso_stack.specs.declared.windows.TimeOperator.{TimeOperator}
 use Rattle.lasso_stack.specs.declared.windows.TimeOperator.TheVariants.{Before, Since, Until}
 use Rattle.lasso_stack.specs.Stored.{AreStored}
-use Rattle.lasso_stack.specs.Rows.{AreBeside, Grows, HasTop, IsPushed, IsConstant, IsNegated, AreBoth, IsSpread, IsAlong}
+use Rattle.lasso_stack.specs.Rows.{HasTop, IsNegated, AreBoth, IsSpread, IsAlong}
 use Rattle.lasso_stack.specs.Sets.{AreMade, AreAnswered}
+use Rattle.lasso_stack.specs.Logic.{AreSame, IsChoice}
+use Rattle.lasso_steps.proofs.ChoiceLaws.{same_right, choice_right}
 use Rattle.lasso_steps.specs.declared.plan.ValueStep.TheVariants.{Two, One, Next}
-use Rattle.lasso_steps.specs.declared.plan.RowStep.TheVariants.{Asked, Equal, Tested, Lies, Negate, Both, After, Along}
+use Rattle.lasso_steps.specs.declared.plan.RowStep.TheVariants.{Asked, Equal, Tested, Lies, Negate, Both, Same, Choose, After, Along}
 use Rattle.lasso_steps.specs.declared.plan.Task.{Task}
 use Rattle.lasso_steps.specs.declared.plan.Task.TheVariants.{Values, Rows}
-use Rattle.lasso_sets.specs.Shown.{Atoms, Reading, under, IsReading, IsRight, AreRight, none_nested}
-use Rattle.lasso_steps.specs.Said.{Said, claimed, members, held, Valued, valued, Aim, Side, IsKept, IsSaid}
+use Rattle.lasso_sets.specs.Shown.{Atoms, Reading, under, IsReading, IsRight, AreRight}
+use Rattle.lasso_steps.specs.Said.{Said, claimed, Valued, valued, Aim, Side, IsKept, IsSaid}
 use Rattle.lasso_steps.specs.Leads.{on_one, on_two, Leads, RightRows, RightValues, IsOnTheWay}
 use Rattle.lasso_sets.specs.RightLaws.{ok_under, negation_right, more_right, after_right, until_right, since_right, before_right, combine_right, product_right, closure_right, transpose_right, prime_right, inside_right}
-use Rattle.lasso_sets.specs.KeptLaws.{all_front, all_last, Stay, right_kept, tuples_kept}
+use Rattle.lasso_sets.specs.KeptLaws.{all_front, all_last, Stay, right_kept}
 use Rattle.lasso_steps.proofs.StackLaws.{rows_kept, values_kept, is_kept}
 use Rattle.lasso_sets.specs.KeptLaws.{two_tops}
 
@@ -48,6 +50,10 @@ Takes old new value = (rest : List (Vec ℕ Global)) (v : Vec ℕ Global) → ol
 none_one : {X : Type 0} (xs : List X) → on_one xs (λ (x : X) (rest : List X). ⊥) → ⊥
 none_one [] leads = leads
 none_one (x ∷ xs) leads = leads
+
+three_tops : {X : Type 0} (rest : List X) (f g h : X) → (rest ++ f ∷ g ∷ []) ++ h ∷ [] ≡ rest ++ f ∷ g ∷ h ∷ []
+three_tops [] f g h = refl
+three_tops (r ∷ rest) f g h = ap (λ rs. r ∷ rs) (three_tops rest f g h)
 
 none_two : {X : Type 0} (xs : List X) → on_two xs (λ (x y : X) (rest : List X). ⊥) → ⊥
 none_two [] leads = leads
@@ -254,3 +260,29 @@ module _ {S : Type 0} (belongs : S → Node → Type 0) (value : S → (ℕ → 
         let (new, top, along) = says more first second (two_over before.rows.items rest more first second is at) in
         with_rows values tasks (claimed atoms (temporal BeforeOf c) ∷ fs) es (one_over more fs (claimed atoms (temporal BeforeOf c)) (all_front (λ n. AllIn (belongs g) n) more first inner) others (new, top, before_right (under r atoms) (value g) (value h) c first second new (ok_under r atoms ok) right along)) have values_are leads.1
     along_on values tasks op says fs es rows values_are have leads = absurd leads
+
+    pub same_on : (values : List (Vec ℕ Global)) (tasks : List Task) → ((rest : List (List Node)) (f g' : List Node) → before.rows.items ≡ rest ++ f ∷ g' ∷ [] → HasTop rest after.rows.items (AreSame (value g) (value h) f g' (length r.frame.shown.items)))
+        → (fs : List Said) (es : List Valued) → RightRows r (value g) before.rows.items fs → RightValues r (value g) before.matrices.items values es → IsKept r (value g) root before.matrices.items kept → Leads r.depth root kept.names (Rows Same ∷ tasks) fs es → IsOnTheWay r root kept (value h) after values tasks
+    same_on values tasks says (claimed atoms c ∷ claimed other b ∷ fs) es (rest, second, is, right, (more, first, at, left_there, others)) values_are have leads =
+        let all = subst (λ (ns : List (List Node)). AllLists (belongs g) ns) is stored.rows in
+        let inner = subst (λ (ns : List (List Node)). AllLists (belongs g) ns) at (all_front (λ n. AllIn (belongs g) n) rest second all) in
+        let left = subst (λ (list : Atoms). IsRight (under r list) (value g) b first) leads.0 left_there in
+        let (new, top, same) = says more first second (two_over before.rows.items rest more first second is at) in
+        with_rows values tasks (claimed atoms (connect Iff b c) ∷ fs) es (one_over more fs (claimed atoms (connect Iff b c)) (all_front (λ n. AllIn (belongs g) n) more first inner) others (new, top, same_right (under r atoms) (value g) (value h) b c first second new (ok_under r atoms ok) left right same)) have values_are leads.1
+    same_on values tasks says fs es rows values_are have leads = absurd leads
+
+    -- a step on three rows
+    three_over : (rows rest more most : List (List Node)) (f g' c : List Node) → rows ≡ rest ++ c ∷ [] → rest ≡ more ++ g' ∷ [] → more ≡ most ++ f ∷ [] → rows ≡ most ++ f ∷ g' ∷ c ∷ []
+    three_over rows rest more most f g' c is at here = is ∙ ap (λ (ns : List (List Node)). ns ++ c ∷ []) (two_over rest more most f g' at here) ∙ three_tops most f g' c
+
+    pub choose_on : (values : List (Vec ℕ Global)) (tasks : List Task) → ((rest : List (List Node)) (f g' c : List Node) → before.rows.items ≡ rest ++ f ∷ g' ∷ c ∷ [] → HasTop rest after.rows.items (IsChoice (value g) (value h) f g' c (length r.frame.shown.items)))
+        → (fs : List Said) (es : List Valued) → RightRows r (value g) before.rows.items fs → RightValues r (value g) before.matrices.items values es → IsKept r (value g) root before.matrices.items kept → Leads r.depth root kept.names (Rows Choose ∷ tasks) fs es → IsOnTheWay r root kept (value h) after values tasks
+    choose_on values tasks says (claimed atoms c ∷ claimed other b ∷ claimed another a ∷ fs) es (rest, third, is, right_c, (more, second, at, second_there, (most, first, here, first_there, others))) values_are have leads =
+        let all = subst (λ (ns : List (List Node)). AllLists (belongs g) ns) is stored.rows in
+        let inner = subst (λ (ns : List (List Node)). AllLists (belongs g) ns) at (all_front (λ n. AllIn (belongs g) n) rest third all) in
+        let inmost = subst (λ (ns : List (List Node)). AllLists (belongs g) ns) here (all_front (λ n. AllIn (belongs g) n) more second inner) in
+        let right_b = subst (λ (list : Atoms). IsRight (under r list) (value g) b second) leads.0 second_there in
+        let right_a = subst (λ (list : Atoms). IsRight (under r list) (value g) a first) leads.1 first_there in
+        let (new, top, choice) = says most first second third (three_over before.rows.items rest more most first second third is at here) in
+        with_rows values tasks (claimed atoms (choose_claim a b c) ∷ fs) es (one_over most fs (claimed atoms (choose_claim a b c)) (all_front (λ n. AllIn (belongs g) n) most first inmost) others (new, top, choice_right (under r atoms) (value g) (value h) a b c first second third new (ok_under r atoms ok) right_a right_b right_c choice)) have values_are leads.2
+    choose_on values tasks says fs es rows values_are have leads = absurd leads

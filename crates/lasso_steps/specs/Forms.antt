@@ -1,4 +1,6 @@
 -- The forms of expressions and formulas whose circuits are exact.
+use Rattle.core_tree.specs.declared.operators.Connective.{Connective}
+use Rattle.core_tree.specs.declared.operators.Connective.TheVariants.{Iff}
 use Rattle.core_tree.specs.declared.operators.Multiplicity.{Multiplicity}
 use Rattle.core_tree.specs.declared.operators.Multiplicity.TheVariants.{Set}
 use Rattle.core_tree.specs.declared.operators.TemporalUnary.{TemporalUnary}
@@ -7,7 +9,7 @@ use Rattle.core_tree.specs.declared.operators.TemporalBinary.{TemporalBinary}
 use Rattle.core_tree.specs.declared.operators.TemporalBinary.TheVariants.{Until, Since}
 use Rattle.core_tree.specs.declared.operators.UnaryRelation.{UnaryRelation}
 use Rattle.core_tree.specs.declared.operators.UnaryRelation.TheVariants.{Transpose, Closure}
-use Rattle.core_tree.specs.Trees.{Term, Variables, Claim, Claims, sig, field, name, combine, product, unary, prime, inside, equal, within, test, negation, every, for_all, temporal, temporal_pair, no_variables, more_variables, no_claims, more_claims}
+use Rattle.core_tree.specs.Trees.{Term, Variables, Claim, Claims, sig, field, name, univ, iden, empty, int, combine, product, unary, prime, inside, equal, within, test, negation, every, connect, choose_claim, for_all, temporal, temporal_pair, no_variables, more_variables, no_claims, more_claims}
 
 abbrev pub IsTurning : UnaryRelation → Type 0
 IsTurning Transpose = Unit {0}
@@ -24,15 +26,23 @@ IsAlongTime Until = Unit {0}
 IsAlongTime Since = Unit {0}
 IsAlongTime op = ⊥
 
+abbrev pub IsKeptConnective : Connective → Type 0
+IsKeptConnective Iff = Unit {0}
+IsKeptConnective op = ⊥
+
 abbrev pub IsPlainArrow : Multiplicity → Type 0
 IsPlainArrow Set = Unit {0}
 IsPlainArrow m = ⊥
 
--- expressions of sigs, fields and names
+-- expressions of sigs, fields, names and constants
 abbrev pub IsPlainTerm : Term → Type 0
 IsPlainTerm (sig s) = Unit {0}
 IsPlainTerm (field f) = Unit {0}
 IsPlainTerm (name x) = Unit {0}
+IsPlainTerm univ = Unit {0}
+IsPlainTerm iden = Unit {0}
+IsPlainTerm empty = Unit {0}
+IsPlainTerm int = Unit {0}
 IsPlainTerm (combine op a b) = IsPlainTerm a × IsPlainTerm b
 IsPlainTerm (product a m n b) = IsPlainArrow m × IsPlainArrow n × IsPlainTerm a × IsPlainTerm b
 IsPlainTerm (unary op a) = IsTurning op × IsPlainTerm a
@@ -53,6 +63,8 @@ abbrev mutual
   IsPlain (test q a) = IsPlainTerm a
   IsPlain (negation f) = IsPlain f
   IsPlain (every fs) = ArePlain fs
+  IsPlain (connect op f g) = IsKeptConnective op × IsPlain f × IsPlain g
+  IsPlain (choose_claim f g h) = IsPlain f × IsPlain g × IsPlain h
   IsPlain (for_all vs f) = IsPlainBound vs × IsPlain f
   IsPlain (temporal op f) = IsNeighbour op × IsPlain f
   IsPlain (temporal_pair op f g) = IsAlongTime op × IsPlain f × IsPlain g

@@ -2,8 +2,9 @@
 use Rattle.std.specs.Prelude.{◌≡◌, ◌≤◌, ◌++◌, ℕ, Bool, List, [], ◌∷◌, Contains, length, take, slice_get, Some, Vec}
 use Rattle.std.specs.declared.alloc.Global.{Global}
 use Rattle.gate_trait.specs.declared.node.Node.{Node}
-use Rattle.core_tree.specs.Trees.{Term, Claim, combine, product, unary, prime, inside, equal, within, test, negation, every, temporal, temporal_pair, more_claims, Binder, term_of, claim_of, variable_of}
+use Rattle.core_tree.specs.Trees.{Term, Claim, combine, product, unary, prime, inside, equal, within, test, negation, every, connect, choose_claim, temporal, temporal_pair, more_claims, Binder, term_of, claim_of, variable_of}
 use Rattle.core_tree.specs.Past.{no_depths, past_in, past_of}
+use Rattle.core_tree.specs.declared.operators.Connective.TheVariants.{Iff}
 use Rattle.core_tree.specs.declared.operators.Multiplicity.TheVariants.{Set}
 use Rattle.core_tree.specs.declared.operators.TemporalUnary.TheVariants.{After as AfterOf, Before as BeforeOf}
 use Rattle.core_tree.specs.declared.operators.TemporalBinary.TheVariants.{Until as UntilOf, Since as SinceOf}
@@ -23,7 +24,7 @@ use Rattle.lasso_stack.specs.declared.store.Store.{Store}
 use Rattle.lasso_steps.specs.declared.plan.ValueStep.{ValueStep}
 use Rattle.lasso_steps.specs.declared.plan.ValueStep.TheVariants.{Two, One, Next}
 use Rattle.lasso_steps.specs.declared.plan.RowStep.{RowStep}
-use Rattle.lasso_steps.specs.declared.plan.RowStep.TheVariants.{Asked, Equal, Tested, Lies, Negate, Both, After, Along, HeldWhere, DropBelow}
+use Rattle.lasso_steps.specs.declared.plan.RowStep.TheVariants.{Asked, Equal, Tested, Lies, Negate, Both, Same, Choose, After, Along, HeldWhere, DropBelow}
 use Rattle.lasso_steps.specs.declared.plan.Task.{Task}
 use Rattle.lasso_steps.specs.declared.plan.Task.TheVariants.{Sets, Holds, Values, Rows, ForAll, Cut}
 use Rattle.lasso_steps.specs.Forms.{IsPlain, IsPlainTerm}
@@ -138,6 +139,8 @@ after_rows depth (Tested q) fs es K = on_one es (λ a rest. K (claimed a.atoms (
 after_rows depth (Lies word) fs es K = on_two es (λ b a rest. (b.atoms ≡ a.atoms) × IsPlainTerm b.term × K (claimed a.atoms (within a.term word b.term) ∷ fs) rest)
 after_rows depth Negate fs es K = on_claim fs (λ atoms f rest. K (claimed atoms (negation f) ∷ rest) es)
 after_rows depth Both fs es K = on_claims fs (λ atoms g others f rest. with_more g f (λ h. (others ≡ atoms) × K (claimed atoms h ∷ rest) es))
+after_rows depth Same fs es K = on_claims fs (λ atoms g others f rest. (others ≡ atoms) × K (claimed atoms (connect Iff f g) ∷ rest) es)
+after_rows depth Choose fs es K = on_claims fs (λ atoms h others g more. on_claim more (λ third f rest. (others ≡ atoms) × (third ≡ atoms) × K (claimed atoms (choose_claim f g h) ∷ rest) es))
 after_rows depth After fs es K = on_claim fs (λ atoms f rest. (past_of none_nested f no_depths ≤ depth) × K (claimed atoms (temporal AfterOf f) ∷ rest) es)
 after_rows depth (Along op) fs es K = on_claims fs (λ atoms g others f rest. along_time depth op f g (λ h. (others ≡ atoms) × K (claimed atoms h ∷ rest) es))
 after_rows depth (HeldWhere nodes number) fs es K = after_held nodes number fs (λ rest. K rest es)

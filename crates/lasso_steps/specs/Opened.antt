@@ -1,9 +1,9 @@
 -- What expressions and formulas are looked into.
-use Rattle.std.specs.Prelude.{◌≡◌, ◌<◌, ℕ, Bool, true, false, List, [], ◌∷◌, length, slice_get, Option, Some, None, Vec}
+use Rattle.std.specs.Prelude.{◌≡◌, ◌<◌, ℕ, Bool, true, false, List, ◌∷◌, length, slice_get, Option, Some, None, Vec}
 use Rattle.std.specs.declared.alloc.Global.{Global}
 use Rattle.core_tree.specs.declared.operators.UnaryRelation.{UnaryRelation}
 use Rattle.core_tree.specs.declared.operators.UnaryRelation.TheVariants.{Transpose as TransposeOf, Closure as ClosureOf, ReflexiveClosure as Reflexive}
-use Rattle.core_tree.specs.Trees.{Term, sig, field, name, every, no_claims}
+use Rattle.core_tree.specs.Trees.{Term, sig, field, name, univ, iden, empty, int, every, no_claims}
 use Rattle.set_circuits.specs.declared.operators.SetOperator.{SetOperator}
 use Rattle.set_circuits.specs.declared.operators.SetOperator.TheVariants.{Transpose, Closure}
 use Rattle.gate_trait.specs.declared.node.Node.{Node}
@@ -17,11 +17,15 @@ use Rattle.lasso_steps.specs.Said.{Said, claimed, Valued, Aim, side_of}
 use Rattle.lasso_steps.specs.Leads.{Leads}
 use Rattle.lasso_steps.specs.Plans.{todo}
 
--- an expression that is neither a sig nor a field nor a name
+-- an expression that is neither a sig nor a field nor a name nor a constant
 abbrev pub IsNoRelation : Term → Type 0
 IsNoRelation (sig s) = ⊥
 IsNoRelation (field f) = ⊥
 IsNoRelation (name x) = ⊥
+IsNoRelation univ = ⊥
+IsNoRelation iden = ⊥
+IsNoRelation empty = ⊥
+IsNoRelation int = ⊥
 IsNoRelation e = Unit {0}
 
 -- the operator on sets that stands for one of the language

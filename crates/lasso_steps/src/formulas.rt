@@ -3,7 +3,7 @@
 ghost use Rattle.std.specs.Prelude.{◌≡◌, ◌∷◌, [], Bool, false, map, length, OnOk, IfOk, None, Some};
 ghost use Rattle.std.specs.Borrow.{Bor};
 ghost use Rattle.core_tree.specs.declared.tree.Expr.{Expr as ExprTree};
-ghost use Rattle.core_tree.specs.Trees.{claim_of, term_of, claim_list, variable_of, variable_list, every, for_all, negation, temporal, temporal_pair, test as asks_for, inside as lies_in, within as lies_within, equal as equals};
+ghost use Rattle.core_tree.specs.Trees.{claim_of, term_of, claim_list, variable_of, variable_list, every, for_all, negation, connect, choose_claim, temporal, temporal_pair, test as asks_for, inside as lies_in, within as lies_within, equal as equals};
 ghost use Rattle.lasso_stack.specs.Stored.{AreStored};
 ghost use Rattle.lasso_steps.specs.Forms.{IsPlain, IsPlainTerm, IsPlainArrow};
 ghost use Rattle.lasso_steps.specs.Opened.{IsOpenedWith, IsAside, IsPutRow};
@@ -271,6 +271,65 @@ fn open_along<'a>(
     }
 }
 
+/// Looks into a connective. One that is no kernel formula holds nowhere.
+fn open_connect<'a>(
+    plan: &mut Plan<'a>,
+    formula: &Formula,
+    op: Connective,
+    f: &'a Formula,
+    g: &'a Formula,
+    scope: usize,
+) -> Result<Option<bool>, AllocError>
+    requires { claim_of formula.now ≡ connect op (claim_of f.now) (claim_of g.now) }
+    ensures { IfOk result (λ row. IsOpenedWith row (Task.Holds formula.entry scope) plan.old plan.new) }
+{
+    let _ = formula;
+    match op {
+        Connective::Iff => {
+            plan_two(plan, f, g, scope, RowStep::Same)?;
+            Ok(None)
+        }
+        _ => Ok(Some(false)),
+    }
+}
+
+/// Plans a choice between two formulas.
+fn plan_choice<'a>(
+    plan: &mut Plan<'a>,
+    f: &'a Formula,
+    g: &'a Formula,
+    h: &'a Formula,
+    scope: usize,
+) -> Result<(), AllocError>
+    ensures { OnOk result (ArePlanned plan.old plan.new (Task.Holds f.entry scope ∷ Task.Holds g.entry scope ∷ Task.Holds h.entry scope ∷ Task.Rows (RowStep.Choose) ∷ [])) }
+{
+    first(plan, Task::Rows(RowStep::Choose))?;
+    first_three(
+        plan,
+        Task::Holds(f, scope),
+        Task::Holds(g, scope),
+        Task::Holds(h, scope),
+    )?;
+    Ok(())
+}
+
+/// Looks into a choice between two formulas.
+fn open_choice<'a>(
+    plan: &mut Plan<'a>,
+    formula: &Formula,
+    f: &'a Formula,
+    g: &'a Formula,
+    h: &'a Formula,
+    scope: usize,
+) -> Result<Option<bool>, AllocError>
+    requires { claim_of formula.now ≡ choose_claim (claim_of f.now) (claim_of g.now) (claim_of h.now) }
+    ensures { IfOk result (λ row. IsOpenedWith row (Task.Holds formula.entry scope) plan.old plan.new) }
+{
+    plan_choice(plan, f, g, h, scope)?;
+    let _ = formula;
+    Ok(None)
+}
+
 /// Plans where a formula holds for all values of one variable.
 fn plan_all<'a>(
     plan: &mut Plan<'a>,
@@ -310,8 +369,7 @@ fn open_all<'a>(
     Ok(None)
 }
 
-/// Plans where a formula on integers, or a connective holds. One that is no
-/// kernel formula holds nowhere.
+/// Plans where a formula on integers holds. One that is no kernel formula holds nowhere.
 fn plan_rest<'a>(
     plan: &mut Plan<'a>,
     formula: &'a Formula,
@@ -330,14 +388,6 @@ fn plan_rest<'a>(
             )?;
             Ok(None)
         }
-        Formula::Connect(Connective::Iff, f, g) => {
-            plan_two(plan, f, g, scope, RowStep::Same)?;
-            Ok(None)
-        }
-        Formula::Choose(f, g, h) => {
-            plan_choice(plan, f, g, h, scope)?;
-            Ok(None)
-        }
         _ => Ok(Some(false)),
     }
 }
@@ -353,26 +403,6 @@ fn open_rest<'a>(
 {
     let row = plan_rest(plan, formula, scope)?;
     Ok(row)
-}
-
-/// Plans a choice between two formulas.
-fn plan_choice<'a>(
-    plan: &mut Plan<'a>,
-    f: &'a Formula,
-    g: &'a Formula,
-    h: &'a Formula,
-    scope: usize,
-) -> Result<(), AllocError>
-    ensures { OnOk result (IsAside plan.old plan.new) }
-{
-    first(plan, Task::Rows(RowStep::Choose))?;
-    first_three(
-        plan,
-        Task::Holds(f, scope),
-        Task::Holds(g, scope),
-        Task::Holds(h, scope),
-    )?;
-    Ok(())
 }
 
 /// Plans where a formula holds. The answer says which constant row is to be put on the stack first, if
@@ -394,8 +424,8 @@ fn plan_formula<'a>(
         Formula::TemporalPair(op, f, g) => open_along(plan, formula, *op, f, g, scope),
         Formula::Within(a, word, b) => open_within(plan, formula, a, *word, b, scope),
         Formula::Compare(_, _, _) => open_rest(plan, formula, scope),
-        Formula::Connect(_, _, _) => open_rest(plan, formula, scope),
-        Formula::Choose(_, _, _) => open_rest(plan, formula, scope),
+        Formula::Connect(op, f, g) => open_connect(plan, formula, *op, f, g, scope),
+        Formula::Choose(f, g, h) => open_choice(plan, formula, f, g, h, scope),
         Formula::ForAll(list, f) => open_all(plan, formula, list, f, scope),
         Formula::Counted(_, _, _) => open_rest(plan, formula, scope),
         Formula::Let(_, _, _) => open_rest(plan, formula, scope),

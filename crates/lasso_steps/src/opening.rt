@@ -2,7 +2,7 @@
 
 ghost use Rattle.std.specs.Prelude.{◌≡◌, ◌<◌, ◌+◌, ◌∷◌, [], ℕ, length, OnOk, IfOk, IsTrue, Vec};
 ghost use Rattle.std.specs.declared.alloc.Global.{Global as Heap};
-ghost use Rattle.core_tree.specs.Trees.{term_of, sig as sig_of, field as field_of, name as name_of, combine as combination, product as product_of, unary as turned, prime as at_next};
+ghost use Rattle.core_tree.specs.Trees.{term_of, sig as sig_of, field as field_of, name as name_of, univ as everything, iden as identity, int as integers, empty as nothing, combine as combination, product as product_of, unary as turned, prime as at_next};
 ghost use Rattle.lasso_stack.specs.Stored.{AreStored};
 ghost use Rattle.lasso_steps.specs.Forms.{IsPlainTerm};
 ghost use Rattle.lasso_steps.specs.Opened.{IsNoRelation, turned_by, HoldsLeaf, IsAside};
@@ -391,6 +391,104 @@ fn open_name<G: Gates>(
     Ok(())
 }
 
+/// The number of a constant, which stands so far behind those of the relations.
+fn constant_number(setting: &Setting, behind: usize) -> Result<usize, AllocError>
+    ensures { IfOk result (λ n. n ≡ length setting.now.bounds.now.relations + behind) }
+{
+    match setting.bounds.relations.len().checked_add(behind) {
+        Some(number) => Ok(number),
+        None => Err(AllocError),
+    }
+}
+
+/// Puts what a constant has on the stack of values: its number stands so far behind those of the relations.
+fn open_constant(
+    alloc: Global,
+    plan: &mut Plan,
+    setting: &Setting,
+    behind: usize,
+) -> Result<(), AllocError>
+    ensures { OnOk result ((v : Vec ℕ Heap) × (number : ℕ) × (number ≡ length setting.now.bounds.now.relations + behind) × IsPut plan.old plan.new v × HoldsLeaf plan.old.kept.items number v.items) }
+{
+    let number = constant_number(setting, behind)?;
+    let value = kept_value(alloc, plan, number)?;
+    push_value(plan, value)?;
+    Ok(())
+}
+
+/// Puts what `univ` has on the stack of values.
+fn open_univ(
+    alloc: Global,
+    plan: &mut Plan,
+    setting: &Setting,
+    expr: &Expr,
+    scope: usize,
+) -> Result<(), AllocError>
+    requires { term_of expr.now ≡ everything }
+    ensures { OnOk result (GoesAlone setting.now (Task.Sets expr.entry scope) plan.old plan.new) }
+{
+    open_constant(alloc, plan, setting, 0)?;
+    let _ = expr;
+    let _ = scope;
+    Ok(())
+}
+
+/// Puts what `iden` has on the stack of values.
+fn open_iden(
+    alloc: Global,
+    plan: &mut Plan,
+    setting: &Setting,
+    expr: &Expr,
+    scope: usize,
+) -> Result<(), AllocError>
+    requires { term_of expr.now ≡ identity }
+    ensures { OnOk result (GoesAlone setting.now (Task.Sets expr.entry scope) plan.old plan.new) }
+{
+    open_constant(alloc, plan, setting, 1)?;
+    let _ = expr;
+    let _ = scope;
+    Ok(())
+}
+
+/// Puts what `Int` has on the stack of values.
+fn open_int(
+    alloc: Global,
+    plan: &mut Plan,
+    setting: &Setting,
+    expr: &Expr,
+    scope: usize,
+) -> Result<(), AllocError>
+    requires { term_of expr.now ≡ integers }
+    ensures { OnOk result (GoesAlone setting.now (Task.Sets expr.entry scope) plan.old plan.new) }
+{
+    open_constant(alloc, plan, setting, 2)?;
+    let _ = expr;
+    let _ = scope;
+    Ok(())
+}
+
+/// Puts the empty set on the stack of values.
+fn open_empty<G: Gates>(
+    alloc: Global,
+    gates: &G,
+    store: &mut Store,
+    plan: &mut Plan,
+    setting: &Setting,
+    expr: &Expr,
+    scope: usize,
+) -> Result<(), AllocError>
+    requires store { AreStored (G.belongs gates.now) store.old }
+    requires none { term_of expr.now ≡ nothing }
+    ensures stored { OnOk result (AreStored (G.belongs gates.now) store.new) }
+    ensures goes { OnOk result (GoesOn setting.now (Task.Sets expr.entry scope) (G.node_value gates.now) (G.node_value gates.now) store.old store.new plan.old plan.new) }
+{
+    let value = no_set(alloc, gates, store, setting)?;
+    push_value(plan, value)?;
+    let _ = expr;
+    let _ = scope;
+    Ok(())
+}
+
 /// Looks into an expression that is no relation.
 fn open_others<'a, G: Gates>(
     alloc: Global,
@@ -440,6 +538,22 @@ pub fn open_sets<'a, G: Gates>(
         }
         Expr::Name(name) => {
             open_name(alloc, gates, store, plan, setting, expr, *name, scope)?;
+            Ok(())
+        }
+        Expr::Univ => {
+            open_univ(alloc, plan, setting, expr, scope)?;
+            Ok(())
+        }
+        Expr::Iden => {
+            open_iden(alloc, plan, setting, expr, scope)?;
+            Ok(())
+        }
+        Expr::Int => {
+            open_int(alloc, plan, setting, expr, scope)?;
+            Ok(())
+        }
+        Expr::Empty => {
+            open_empty(alloc, gates, store, plan, setting, expr, scope)?;
             Ok(())
         }
         Expr::Comprehension(list, f) => {

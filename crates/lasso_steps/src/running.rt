@@ -336,8 +336,14 @@ fn stack_step<G: Gates>(
             both_top(alloc, gates, store)?;
             Ok(())
         }
-        RowStep::Same => same_top(alloc, gates, store, count),
-        RowStep::Choose => choose_top(alloc, gates, store, count),
+        RowStep::Same => {
+            same_top(alloc, gates, store, count)?;
+            Ok(())
+        }
+        RowStep::Choose => {
+            choose_top(alloc, gates, store, count)?;
+            Ok(())
+        }
         RowStep::After => {
             after_top(alloc, gates, store, setting.frame)?;
             Ok(())

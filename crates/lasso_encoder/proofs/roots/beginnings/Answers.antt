@@ -1,4 +1,4 @@
-use Rattle.std.proofs.Common.{◌≡◌, ◌≤◌, ℕ, List, Some, slice_get, length, sym, subst, arith}
+use Rattle.std.proofs.Common.{◌≡◌, List, Some, slice_get, sym, subst, arith}
 use Rattle.gate_trait.specs.declared.node.Node.{Node}
 use Rattle.gate_trait.specs.Built.{AllIn}
 use Rattle.gate_trait.specs.Kept.{keeps_refl, all_more, all_none}

@@ -1,4 +1,4 @@
-use Rattle.std.proofs.Common.{◌≡◌, ◌∙◌, ◌+◌, ◌<◌, ℕ, Bool, length, ap, arith}
+use Rattle.std.proofs.Common.{◌≡◌, ◌∙◌, ◌+◌, ◌<◌, ℕ, length, ap, arith}
 use Rattle.gate_trait.specs.Kept.{keeps_trans, all_more}
 use Rattle.temporal_rows.specs.Rows.{row_value}
 use Rattle.lasso_sets.specs.RowLaws.{long_more, values_push, row_kept}

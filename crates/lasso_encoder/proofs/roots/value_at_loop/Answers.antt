@@ -1,4 +1,4 @@
-use Rattle.std.proofs.Common.{◌≡◌, ◌∙◌}
+use Rattle.std.proofs.Common.{◌∙◌}
 use Rattle.lasso_encoder.proofs.roots.value_at_loop.Goals as goal
 
 pub returns-clause-value : goal.returns-clause-value

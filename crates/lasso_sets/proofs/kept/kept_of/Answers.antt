@@ -20,5 +20,5 @@ loop-number-preserved g c =
       rows = step.grows.rows ∙ before.rows;
       long = ap (λ (s : List (Vec ℕ Global)). length s) c.in_ok-push.ensures.items ∙ length-append c.loop-number.kept.items (c.in_ok-value.value ∷ []) ∙ ap (λ (k : ℕ). k + 1) before.long;
       kept = λ depth ok. kept_more belongs value (reading_of c.args.setting.now depth) now later more c.loop-number.store.matrices.items c.marked_sets.new.store.matrices.items c.loop-number.kept.items c.push.new.self.items c.in_ok-value.value c.loop-number.number
-          before.stored.matrices step.grows.matrices before.long c.in_ok-push.ensures.items (before.kept depth ok) (step.kept depth ok);
+          before.stored.matrices step.grows.matrices before.long c.in_ok-push.ensures.items (before.kept depth ok) (λ leaf at. step.kept depth leaf ok at);
     }

@@ -1,6 +1,10 @@
+use Rattle.std.proofs.Common.{ℕ}
 use Rattle.gate_trait.specs.Built.{Keeps}
+use Rattle.core_meaning.specs.Kept.{world_of}
 use Rattle.lasso_stack.specs.Stored.{AreStored}
 use Rattle.lasso_stack.specs.Rows.{Grows}
+use Rattle.lasso_sets.specs.Shown.{IsReading, HaveTuples}
+use Rattle.lasso_sets.specs.Relations.{univ_below, reading_of}
 use Rattle.lasso_sets.proofs.leaves.univ_sets.Given as goal
 
 abbrev pub invariant-loop-number : goal.invariant-loop-number
@@ -11,4 +15,5 @@ invariant-loop-number g l =
       keeps : Keeps belongs value l.initial.gates l.gates;
       stored : AreStored (belongs l.gates) l.store;
       grows : Grows l.fn.store l.store;
+      all : (depth : ℕ) → IsReading (reading_of l.setting depth) → HaveTuples (reading_of l.setting depth) (value l.gates) l.store.matrices.items (λ lasso k. univ_below (world_of l.setting.scopes.now lasso) l.number k) l.all.items;
     }

@@ -1,4 +1,4 @@
-use Rattle.std.proofs.Common.{◌≡◌, sym, subst}
+use Rattle.std.proofs.Common.{sym, subst}
 use Rattle.core_tree.specs.declared.operators.Multiplicity.{Multiplicity}
 use Rattle.core_tree.specs.Trees.{within}
 use Rattle.lasso_stack.specs.Rows.{HasTop}

@@ -1,4 +1,4 @@
-use Rattle.std.proofs.Common.{◌≡◌, ◌∙◌, ℕ, Bool, true, List, length, sym, ap, subst, arith}
+use Rattle.std.proofs.Common.{◌≡◌, ℕ, true, List, length, subst, arith}
 use Rattle.core_tree.specs.Trees.{claim_of, variable_of}
 use Rattle.lasso_sets.specs.Relations.{reading_of}
 use Rattle.lasso_stack.specs.Members.{HasMembers, SayMembers}

@@ -1,4 +1,4 @@
-use Rattle.std.proofs.Common.{◌≡◌, ◌∙◌, ◌∷◌, [], ℕ, List, length, refl, sym, ap, arith}
+use Rattle.std.proofs.Common.{◌≡◌, ◌∙◌, ℕ, List, length, sym, ap, arith}
 use Rattle.core_tree.specs.Trees.{claim_of, variable_of}
 use Rattle.lasso_steps.proofs.BindLaws.{atom_taken, atom_left, one_only}
 use Rattle.lasso_steps.proofs.binding.plan_atom.Goals as goal

@@ -1,4 +1,4 @@
-use Rattle.std.proofs.Common.{◌≡◌, ◌∙◌, refl, ap, subst}
+use Rattle.std.proofs.Common.{◌∙◌, refl, ap, subst}
 use Rattle.core_tree.specs.declared.operators.TemporalBinary.{TemporalBinary}
 use Rattle.core_tree.specs.Trees.{Claim, temporal_pair, claim_of}
 use Rattle.lasso_steps.specs.Forms.{IsPlain}

@@ -1,4 +1,4 @@
-use Rattle.lasso_steps.proofs.OpenLaws.{within_opened, unread}
+use Rattle.lasso_steps.proofs.OpenLaws.{within_opened}
 use Rattle.lasso_steps.proofs.formulas.open_within.Goals as goal
 
 pub returns : goal.returns

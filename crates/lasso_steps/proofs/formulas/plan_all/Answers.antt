@@ -1,4 +1,4 @@
-use Rattle.std.proofs.Common.{◌≡◌, refl}
+use Rattle.std.proofs.Common.{refl}
 use Rattle.lasso_steps.proofs.formulas.plan_all.Goals as goal
 
 pub returns : goal.returns

@@ -1,6 +1,6 @@
-use Rattle.std.proofs.Common.{◌≡◌, ◌∙◌, ◌+◌, ◌++◌, ◌∷◌, [], ℕ, suc, List, Some, slice_get, length, map, take, refl, ap, arith}
+use Rattle.std.proofs.Common.{◌≡◌, ◌∙◌, ◌+◌, ℕ, suc, Some, slice_get, length, map, take, refl, ap, arith}
 use Rattle.std.proofs.lemmas.Option.{slice_get_read}
-use Rattle.core_tree.specs.Trees.{Claim, claim_of}
+use Rattle.core_tree.specs.Trees.{claim_of}
 use Rattle.lasso_steps.proofs.OpenLaws.{listed_none, listed_more, taken_more}
 use Rattle.lasso_steps.proofs.formulas.plan_every.Goals as goal
 

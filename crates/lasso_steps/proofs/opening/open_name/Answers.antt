@@ -1,7 +1,7 @@
-use Rattle.std.proofs.Common.{◌≡◌, ◌∙◌, ℕ, List, Option, sym, subst}
+use Rattle.std.proofs.Common.{◌≡◌, List, sym, subst}
 use Rattle.core_tree.specs.Trees.{Term}
 use Rattle.lasso_sets.specs.Relations.{reading_of}
-use Rattle.lasso_sets.specs.Shown.{atom_in, under, AreRight}
+use Rattle.lasso_sets.specs.Shown.{under, AreRight}
 use Rattle.lasso_steps.specs.declared.plan.Name.{Name}
 use Rattle.lasso_steps.specs.Said.{IsScope}
 use Rattle.lasso_steps.proofs.BindLaws.{name_on}

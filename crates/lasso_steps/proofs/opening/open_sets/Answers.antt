@@ -1,4 +1,4 @@
-use Rattle.std.proofs.Common.{◌≡◌, ◌∙◌, ap, subst}
+use Rattle.std.proofs.Common.{◌∙◌, ap, subst}
 use Rattle.core_tree.specs.Trees.{Term, term_of}
 use Rattle.core_tree.specs.Rows.{comprehension_is}
 use Rattle.lasso_steps.specs.declared.plan.Task.TheVariants.{Sets}
@@ -12,6 +12,15 @@ returns-in_ok-open_sig-in-Sig-clause-goes g c = c.in_ok-open_sig-in-Sig.ensures 
 
 pub returns-in_ok-open_field-in-Field-clause-goes : goal.returns-in_ok-open_field-in-Field-clause-goes
 returns-in_ok-open_field-in-Field-clause-goes g c = c.in_ok-open_field-in-Field.ensures (g.G.Gates.node_value c.args.gates.now) c.args.store.now
+
+pub returns-in_ok-open_univ-in-Univ-clause-goes : goal.returns-in_ok-open_univ-in-Univ-clause-goes
+returns-in_ok-open_univ-in-Univ-clause-goes g c = c.in_ok-open_univ-in-Univ.ensures (g.G.Gates.node_value c.args.gates.now) c.args.store.now
+
+pub returns-in_ok-open_iden-in-Iden-clause-goes : goal.returns-in_ok-open_iden-in-Iden-clause-goes
+returns-in_ok-open_iden-in-Iden-clause-goes g c = c.in_ok-open_iden-in-Iden.ensures (g.G.Gates.node_value c.args.gates.now) c.args.store.now
+
+pub returns-in_ok-open_int-in-Int-clause-goes : goal.returns-in_ok-open_int-in-Int-clause-goes
+returns-in_ok-open_int-in-Int-clause-goes g c = c.in_ok-open_int-in-Int.ensures (g.G.Gates.node_value c.args.gates.now) c.args.store.now
 
 pub returns-in_ok-plan_comprehension-in-Comprehension-clause-goes : goal.returns-in_ok-plan_comprehension-in-Comprehension-clause-goes
 returns-in_ok-plan_comprehension-in-Comprehension-clause-goes g c = λ depth root ok way.

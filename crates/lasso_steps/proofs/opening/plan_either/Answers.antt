@@ -1,4 +1,4 @@
-use Rattle.std.proofs.Common.{◌≡◌, ◌∙◌}
+use Rattle.std.proofs.Common.{◌∙◌}
 use Rattle.lasso_steps.proofs.opening.plan_either.Goals as goal
 
 pub returns : goal.returns

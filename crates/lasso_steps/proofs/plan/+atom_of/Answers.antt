@@ -1,4 +1,4 @@
-use Rattle.std.proofs.Common.{◌≡◌, ◌≢◌, ◌<◌, ◌-◌, ℕ, List, Some, slice_get, length, inl, inr, arith}
+use Rattle.std.proofs.Common.{◌≢◌, ◌-◌, inl, inr, arith}
 use Rattle.std.proofs.lemmas.Option.{slice_get-get_or}
 use Rattle.lasso_steps.specs.declared.plan.Name.{Name}
 use Rattle.lasso_steps.proofs.BindLaws.{atom_none, atom_here, atom_outer, outer_below}

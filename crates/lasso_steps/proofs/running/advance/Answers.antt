@@ -1,4 +1,4 @@
-use Rattle.std.proofs.Common.{◌≡◌, ◌++◌, ◌∷◌, [], List, arith}
+use Rattle.std.proofs.Common.{arith}
 use Rattle.lasso_sets.specs.Relations.{reading_of}
 use Rattle.lasso_steps.specs.Said.{side_of}
 use Rattle.lasso_steps.proofs.EndLaws.{no_items, popped, ends}

@@ -1,4 +1,4 @@
-use Rattle.std.proofs.Common.{◌≡◌, refl}
+use Rattle.std.proofs.Common.{refl}
 use Rattle.lasso_sets.specs.Relations.{reading_of}
 use Rattle.lasso_steps.proofs.BindLaws.{cut_on}
 use Rattle.lasso_steps.proofs.running.cut_all.Goals as goal

@@ -1,4 +1,4 @@
-use Rattle.std.proofs.Common.{◌≡◌, ◌∙◌, ◌++◌, ◌∷◌, [], ℕ, List, refl, sym, ap, subst, Vec, Global}
+use Rattle.std.proofs.Common.{◌∙◌, ℕ, List, sym, subst, Vec, Global}
 use Rattle.gate_trait.specs.Kept.{keeps_trans}
 use Rattle.core_tree.specs.Trees.{claim_of}
 use Rattle.lasso_sets.specs.Relations.{reading_of}

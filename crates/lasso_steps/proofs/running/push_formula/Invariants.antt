@@ -1,4 +1,4 @@
-use Rattle.std.proofs.Common.{◌≡◌, ℕ, List, [], ◌∷◌}
+use Rattle.std.proofs.Common.{◌≡◌, ℕ, List, []}
 use Rattle.gate_trait.specs.Built.{Keeps}
 use Rattle.core_tree.specs.Trees.{claim_of}
 use Rattle.bool_matrix.specs.Matrices.{MatrixEntries}

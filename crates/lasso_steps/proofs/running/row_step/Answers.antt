@@ -1,4 +1,4 @@
-use Rattle.std.proofs.Common.{◌≡◌, sym, subst}
+use Rattle.std.proofs.Common.{sym, subst}
 use Rattle.lasso_steps.specs.declared.plan.RowStep.{RowStep}
 use Rattle.lasso_steps.specs.declared.plan.Task.TheVariants.{Rows}
 use Rattle.lasso_steps.specs.Plans.{todo}

@@ -1,9 +1,12 @@
-use Rattle.std.proofs.Common.{◌≡◌, length, sym, subst, arith}
+use Rattle.std.proofs.Common.{◌≡◌, ◌++◌, ◌∷◌, [], ℕ, List, length, sym, subst, arith}
+use Rattle.gate_trait.specs.declared.node.Node.{Node}
+use Rattle.lasso_stack.specs.Rows.{HasTop}
+use Rattle.lasso_stack.specs.Logic.{AreSame, IsChoice}
 use Rattle.gate_trait.specs.Kept.{keeps_refl}
 use Rattle.lasso_steps.specs.declared.plan.RowStep.{RowStep}
 use Rattle.lasso_sets.specs.Relations.{reading_of}
 use Rattle.lasso_steps.specs.Ways.{RowsGoOn}
-use Rattle.lasso_steps.proofs.WayLaws.{negate_on, both_on, after_on, along_on}
+use Rattle.lasso_steps.proofs.WayLaws.{negate_on, both_on, same_on, choose_on, after_on, along_on}
 use Rattle.lasso_steps.proofs.BindLaws.{held_on, drop_on}
 use Rattle.lasso_steps.proofs.running.stack_step.Goals as goal
 
@@ -64,3 +67,31 @@ returns-in_ok-drop_below-in-DropBelow-clause-goes g c =
     subst (λ (s : RowStep). RowsGoOn c.args.setting.now s (value gates) (value gates) c.args.store.now c.drop_below.new.store) (sym c.in-DropBelow.is) (λ depth root kept values tasks ok own way.
     drop_on belongs value (reading_of c.args.setting.now depth) ok root kept gates gates (keeps_refl belongs value gates) c.args.store.now c.drop_below.new.store c.requires c.in_ok-drop_below-in-DropBelow.ensures.beside.matrices values tasks
     c.in_ok-drop_below-in-DropBelow.ensures.rows way.fs way.es way.rows_right way.values_right way.kept_right way.leads)
+
+pub returns-in_ok-same_top-in-Same-clause-goes : goal.returns-in_ok-same_top-in-Same-clause-goes
+returns-in_ok-same_top-in-Same-clause-goes g c =
+    let value = g.G.Gates.node_value in
+    let belongs = g.G.Gates.belongs in
+    let gates = c.args.gates.now in
+    let later = c.same_top.new.gates in
+    let before = c.args.store.now.rows.items in
+    let after = c.same_top.new.store.rows.items in
+    let count : c.len-count.result ≡ length c.args.setting.now.frame.now.shown.items = omega (arith, c.len-count.ensures, c.args.setting.now.frame.now.shown.ok.0) in
+    let rows = subst (λ (n : ℕ). (rest : List (List Node)) (f h : List Node) → before ≡ rest ++ f ∷ h ∷ [] → HasTop rest after (AreSame (value gates) (value later) f h n)) count c.in_ok-same_top-in-Same.ensures.rows in
+    subst (λ (s : RowStep). RowsGoOn c.args.setting.now s (value gates) (value later) c.args.store.now c.same_top.new.store) (sym c.in-Same.is) (λ depth root kept values tasks ok own way.
+    same_on belongs value (reading_of c.args.setting.now depth) ok root kept gates later c.same_top.ensures.keeps c.args.store.now c.same_top.new.store c.requires c.in_ok-same_top-in-Same.ensures.beside.matrices values tasks
+    rows way.fs way.es way.rows_right way.values_right way.kept_right way.leads)
+
+pub returns-in_ok-choose_top-in-Choose-clause-goes : goal.returns-in_ok-choose_top-in-Choose-clause-goes
+returns-in_ok-choose_top-in-Choose-clause-goes g c =
+    let value = g.G.Gates.node_value in
+    let belongs = g.G.Gates.belongs in
+    let gates = c.args.gates.now in
+    let later = c.choose_top.new.gates in
+    let before = c.args.store.now.rows.items in
+    let after = c.choose_top.new.store.rows.items in
+    let count : c.len-count.result ≡ length c.args.setting.now.frame.now.shown.items = omega (arith, c.len-count.ensures, c.args.setting.now.frame.now.shown.ok.0) in
+    let rows = subst (λ (n : ℕ). (rest : List (List Node)) (f h i : List Node) → before ≡ rest ++ f ∷ h ∷ i ∷ [] → HasTop rest after (IsChoice (value gates) (value later) f h i n)) count c.in_ok-choose_top-in-Choose.ensures.rows in
+    subst (λ (s : RowStep). RowsGoOn c.args.setting.now s (value gates) (value later) c.args.store.now c.choose_top.new.store) (sym c.in-Choose.is) (λ depth root kept values tasks ok own way.
+    choose_on belongs value (reading_of c.args.setting.now depth) ok root kept gates later c.choose_top.ensures.keeps c.args.store.now c.choose_top.new.store c.requires c.in_ok-choose_top-in-Choose.ensures.beside.matrices values tasks
+    rows way.fs way.es way.rows_right way.values_right way.kept_right way.leads)

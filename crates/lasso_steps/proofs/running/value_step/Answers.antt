@@ -1,4 +1,4 @@
-use Rattle.std.proofs.Common.{◌≡◌, sym, subst}
+use Rattle.std.proofs.Common.{sym, subst}
 use Rattle.lasso_steps.specs.declared.plan.ValueStep.{ValueStep}
 use Rattle.lasso_steps.specs.declared.plan.Task.TheVariants.{Values}
 use Rattle.lasso_steps.specs.Ways.{GoesOn}
