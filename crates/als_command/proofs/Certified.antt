@@ -1,8 +1,8 @@
 -- The answer that has the text of a certificate.
-use Rattle.std.proofs.Common.{ℕ, Option}
-use Rattle.analyser.specs.Found.{IsReady}
+use Rattle.std.proofs.Common.{ℕ, Option, subst}
+use Rattle.analyser.specs.Found.{IsReady, NoneWithin}
 use Rattle.analyser.specs.declared.ready.Prepared.{Prepared}
-use Rattle.certificate_search.specs.Certificate.{IsLeastText, IsCoreText}
+use Rattle.certificate_search.specs.Certificate.{ShowsNone, IsLeastText, IsCoreText}
 use Rattle.certificate_search.specs.declared.certificate.Certificate.{Certificate}
 use Rattle.certificate_search.specs.declared.certificate.Certificate.TheVariants.{Trace, Absent, Unknown}
 use Rattle.command_words.specs.declared.named.Mode.TheVariants.{Least, Core}
@@ -12,7 +12,9 @@ use Rattle.als_command.specs.Run.{IsFoundIn, answer_of}
 module _ (number : ℕ) (part : Part) (budget : Option ℕ) (prepared : Prepared) (ready : IsReady number prepared) where
   pub least_found : (found : Certificate) → IsLeastText prepared part budget found → IsFoundIn Least number part budget (answer_of found)
   least_found (Trace text) shows = (prepared, ready, shows)
-  least_found (Absent text) shows = shows
+  least_found (Absent text) (states, shows, none) =
+      let within = none number ready in
+      (prepared, ready, (subst (λ n. ShowsNone n part text) within.0 shows, subst (NoneWithin prepared) within.0 within.1))
   least_found (Unknown text) shows = shows
 
   pub core_found : (found : Certificate) → IsCoreText prepared part budget found → IsFoundIn Core number part budget (answer_of found)

@@ -6,7 +6,7 @@ use Rattle.alloy_base.specs.Texts as texts
 use Rattle.alloy_base.specs.Texts.{Texts}
 use Rattle.alloy_base.specs.declared.place.Refusal.{Refusal}
 use Rattle.alloy_base.specs.declared.place.Rule.{Rule}
-use Rattle.analyser.specs.Found.{IsReady, NoneSatisfies}
+use Rattle.analyser.specs.Found.{IsReady, NoneSatisfies, NoneWithin}
 use Rattle.analyser.specs.declared.ready.Prepared.{Prepared}
 use Rattle.alloy_base.specs.declared.limits.TheConstants.{FILE_BYTES}
 use Rattle.certificate_search.specs.Certificate.{ShowsTrace, ShowsOne, ShowsAbove, ShowsNone, ShowsCore, ShowsSpent}
@@ -108,7 +108,8 @@ abbrev pub OfModel : ℕ → (Prepared → Type 0) → Type 0
 OfModel number P = (prepared : Prepared) × IsReady number prepared × P prepared
 
 -- what is written of a trace, which satisfies the model and the command: the part that is asked for; in a search for the fewest
--- states with clauses of one state less and lines that refute them, or it has one state
+-- states with clauses of one state less and lines that refute them, and no lasso of fewer states satisfies them, if the target has
+-- plain forms alone; or it has one state
 abbrev pub ShownTrace : Mode → ℕ → Part → List ℕ → Type 0
 ShownTrace Least number part text = OfModel number (λ prepared. ShowsOne prepared part text ⊎ ShowsAbove prepared part text)
 ShownTrace _ number part text = OfModel number (λ prepared. ShowsTrace prepared part text)
@@ -119,6 +120,7 @@ ShownTrace _ number part text = OfModel number (λ prepared. ShowsTrace prepared
 abbrev pub ShownNone : Mode → ℕ → Part → List ℕ → Type 0
 ShownNone Core number part text = OfModel number (λ prepared. ShowsCore prepared part text)
 ShownNone Exec number part text = OfModel number (λ prepared. ShowsNone prepared.bounds.states part text × NoneSatisfies prepared)
+ShownNone Least number part text = OfModel number (λ prepared. ShowsNone prepared.scopes.states part text × NoneWithin prepared prepared.scopes.states)
 ShownNone _ number part text = (states : ℕ) × ShowsNone states part text
 
 -- what is said of the text of a trace in a mode: what a model and its command mean on it, or the tuples that some expression has

@@ -14,16 +14,20 @@ use Rattle.core_meaning.specs.declared.scopes.Scopes.{Scopes}
 use Rattle.scope_rules.specs.Limits.{AreScopes}
 use Rattle.scope_rules.specs.Numbers.{KeepsKind, IsSigScope}
 use Rattle.type_laws.specs.Typed.{AreScopesOf}
-use Rattle.candidate_laws.specs.Satisfying.{IsRight, SatisfyingAreCandidates}
+use Rattle.candidate_laws.specs.Satisfying.{AreBoundsOf, IsRight, SatisfyingAreCandidates}
 use Rattle.core_meaning.specs.Kept.{world_of}
 use Rattle.core_meaning.specs.Meaning.{no_names}
 use Rattle.core_meaning.specs.Satisfied.{HoldsAt}
 use Rattle.core_meaning.specs.Sequence.{LassoValue}
 use Rattle.target_forms.specs.declared.target.Part.{Part}
 use Rattle.target_forms.specs.Targets.{fact_claims, HoldsWith}
+use Rattle.bounds_builder.specs.declared.table.Bounds.{Bounds}
+use Rattle.bounds_builder.specs.Table.{IsTable}
+use Rattle.bounds_builder.specs.Uppers.{AreUppers}
 use Rattle.target_search.specs.Clauses.{Meets, IsRuledOut}
+use Rattle.target_search.specs.Limits.{IsRuledOutOver}
 use Rattle.analyser.specs.declared.ready.Prepared.{Prepared}
-use Rattle.analyser.specs.Found.{IsReady, IsTraceOf, IsUsual, NoneSatisfies}
+use Rattle.analyser.specs.Found.{IsReady, IsTraceOf, IsUsual, NoneWithin, NoneSatisfies, RuledOutMeansNone}
 
 -- two lists with one more at their ends have the same at their ends
 last_same : {X : Type 0} (xs ys : List X) (x y : X) → xs ++ x ∷ [] ≡ ys ++ y ∷ [] → x ≡ y
@@ -86,12 +90,19 @@ right_of prepared are usual = record {
   rightly = rightly_of prepared.model prepared.scopes are;
 }
 
+none_within : (number : ℕ) (prepared : Prepared) → IsReady number prepared → (bounds : Bounds) → AreBoundsOf prepared.model prepared.scopes bounds → IsTable bounds → IsRuledOut prepared.target bounds → SatisfyingAreCandidates → NoneWithin prepared bounds.states
+none_within number prepared ready bounds are table ruled law covered usual lasso over few trace =
+    let (other, same, candidate, satisfied) = law prepared.model prepared.scopes bounds lasso (claim_of trace.command.formula) (right_of prepared ready.scopes_are usual) are over few trace.satisfies in
+    let shown : IsTraceOf prepared other = record { facts = trace.facts; command = trace.command; parts_are = trace.parts_are; satisfies = satisfied } in
+    ruled table covered other candidate (meets number prepared ready other shown)
+
 pub none_satisfies : (number : ℕ) (prepared : Prepared) → IsReady number prepared → IsRuledOut prepared.target prepared.bounds → SatisfyingAreCandidates → NoneSatisfies prepared
 none_satisfies number prepared ready ruled law = record {
   candidates = λ covered lasso candidate trace. ruled ready.table covered lasso candidate (meets number prepared ready lasso trace);
-  lassos = λ covered usual lasso over few trace. (
-      let states = ready.states in
-      let (other, same, candidate, satisfied) = law prepared.model prepared.scopes prepared.bounds lasso (claim_of trace.command.formula) (right_of prepared ready.scopes_are usual) ready.bounds_are over (omega (arith, few, states)) trace.satisfies in
-      let shown : IsTraceOf prepared other = record { facts = trace.facts; command = trace.command; parts_are = trace.parts_are; satisfies = satisfied } in
-      ruled ready.table covered other candidate (meets number prepared ready other shown));
+  lassos = subst (NoneWithin prepared) ready.states (none_within number prepared ready prepared.bounds ready.bounds_are ready.table ruled law);
 }
+
+pub ruled_out : SatisfyingAreCandidates → RuledOutMeansNone
+ruled_out law number prepared states ready out =
+    let uppers = subst (λ (scopes : Scopes). AreUppers prepared.model scopes out.bounds.relations) ready.scoped out.uppers in
+    subst (NoneWithin prepared) out.count (none_within number prepared ready out.bounds (record { uppers = uppers; fixed = out.fixed }) out.table out.ruled law)

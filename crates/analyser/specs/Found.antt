@@ -16,6 +16,7 @@ use Rattle.type_laws.specs.Typed.{ExtendsPlain, BoundsNameOwned}
 use Rattle.target_forms.specs.Targets.{fact_claims, IsTargetOf}
 use Rattle.target_forms.specs.declared.target.Part.{Part}
 use Rattle.target_search.specs.Clauses.{IsCovered}
+use Rattle.target_search.specs.Limits.{IsRuledOutOver}
 use Rattle.trace_form.specs.Made.{AreRelationsOf, universe_texts}
 use Rattle.analyser.specs.declared.ready.Prepared.{Prepared}
 use Rattle.lrat_form.specs.Step.{State, start, Refutes}
@@ -26,7 +27,7 @@ use Rattle.analyser.specs.declared.fault.AnalyseFault.{AnalyseFault}
 use Rattle.analyser.specs.declared.fault.AnalyseFault.TheVariants.{Refused, Read, Memory}
 
 -- a model made ready for its command of this number: the model keeps what resolved models keep, the parts
--- are its facts and then that command, the target is that of the command, the scopes say what they are to say of each sig, the bounds
+-- are its facts and then that command, the target is that of the command under the scopes, these say what they are to say of each sig, the bounds
 -- are those of the model and the scopes and have a table, and the labels are those of its relations and of its universe
 pub record IsReady (number : ℕ) (prepared : Prepared) : Type 0 where
   pub kept : IsModelButTypes prepared.model
@@ -34,6 +35,7 @@ pub record IsReady (number : ℕ) (prepared : Prepared) : Type 0 where
   pub chosen : slice_get prepared.model.commands number ≡ Some command
   pub parts_are : map (λ (p : Part). claim_of p.formula) prepared.parts ≡ fact_claims prepared.model.facts ++ claim_of command.formula ∷ []
   pub target_is : IsTargetOf prepared.model prepared.scopes (claim_of command.formula) prepared.target prepared.first_fact
+  pub scoped : prepared.target.scopes ≡ prepared.scopes
   pub counted : length prepared.scopes.numbers ≡ length prepared.model.sigs
   pub scopes_are : AreScopes prepared.model prepared.scopes
   pub table : IsTable prepared.bounds
@@ -58,12 +60,21 @@ pub record IsUsual (model : Model) : Type 0 where
   pub named : BoundsNameOwned model
   pub owned : AreOwned model
 
+-- where all formulas that are searched have plain forms, and the model is usual, no lasso of at most so many states satisfies the
+-- model and its command
+abbrev pub NoneWithin : Prepared → ℕ → Type 0
+NoneWithin prepared most = All IsCovered prepared.target.formulas → IsUsual prepared.model → (lasso : LassoValue) → IsLassoOver prepared.model prepared.scopes lasso → length lasso.states ≤ most → IsTraceOf prepared lasso → ⊥
+
+-- what is ruled out over some number of states
+abbrev pub RuledOutMeansNone : Type 0
+RuledOutMeansNone = (number : ℕ) (prepared : Prepared) (states : ℕ) → IsReady number prepared → IsRuledOutOver prepared.model prepared.target states → NoneWithin prepared states
+
 -- where all formulas that are searched have plain forms
 pub record NoneSatisfies (prepared : Prepared) : Type 0 where
   -- no lasso within the bounds, of as many states as they have, satisfies the model and its command
   pub candidates : All IsCovered prepared.target.formulas → (lasso : LassoValue) → IsCandidate prepared.bounds lasso → IsTraceOf prepared lasso → ⊥
   -- and none at all of at most as many states as the scopes say
-  pub lassos : All IsCovered prepared.target.formulas → IsUsual prepared.model → (lasso : LassoValue) → IsLassoOver prepared.model prepared.scopes lasso → length lasso.states ≤ prepared.scopes.states → IsTraceOf prepared lasso → ⊥
+  pub lassos : NoneWithin prepared prepared.scopes.states
 
 -- A trace satisfies the model and the command, and has the fewest states that show its sequence. Where there is no lasso, the lines
 -- refute the clauses, and where all formulas that are searched have plain forms no lasso satisfies the model and the command, as

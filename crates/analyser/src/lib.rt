@@ -6,12 +6,14 @@
 
 mod answer;
 mod fault;
+mod laws;
 mod ready;
 mod search;
 mod settings;
 
 pub use answer::Answer;
 pub use fault::AnalyseFault;
+pub use laws::ruled_out_means_none;
 pub use ready::{Prepared, prepare, prepare_loaded};
 pub use search::{analyse, analyse_loaded, is_trace, search_prepared};
 pub use settings::{Root, Settings};

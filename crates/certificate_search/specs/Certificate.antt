@@ -2,7 +2,7 @@
 use Rattle.std.specs.Prelude.{◌≡◌, ◌⊎◌, ◌<◌, ◌-◌, ℕ, List, length, Option, Some}
 use Rattle.std.specs.List.{All}
 use Rattle.std.specs.List.Sorted.{IsStrictlyIncreasing}
-use Rattle.analyser.specs.Found.{IsTraceOf}
+use Rattle.analyser.specs.Found.{IsReady, IsTraceOf, NoneWithin}
 use Rattle.analyser.specs.declared.ready.Prepared.{Prepared}
 use Rattle.answer_texts.specs.Answers.{absent_text, unknown_text}
 use Rattle.cnf_form.specs.declared.cnf.Cnf.{Cnf}
@@ -31,11 +31,13 @@ pub record ShowsOne (prepared : Prepared) (part : Part) (text : List ℕ) : Type
   pub one : length lasso.states ≡ 1
   pub text_is : text ≡ trace_part part (trace_text prepared.labels lasso)
 
--- the part that is asked for of a trace of several states, and of clauses and lines that refute them
+-- the part that is asked for of a trace of several states, and of clauses and lines that refute them, where no lasso of fewer
+-- states satisfies the model and its command, as `NoneWithin` says it
 pub record ShowsAbove (prepared : Prepared) (part : Part) (text : List ℕ) : Type 0 where
   pub lasso : LassoValue
   pub trace : IsTraceOf prepared lasso
   pub more : 1 < length lasso.states
+  pub none : (number : ℕ) → IsReady number prepared → NoneWithin prepared (length lasso.states - 1)
   pub table : List (List ℕ)
   pub cnf : Cnf
   pub lines : List Line
@@ -78,10 +80,11 @@ pub record ShowsSpent (budget : Option ℕ) (text : List ℕ) : Type 0 where
   pub lemmas : (end : State) × AreLemmas (start cnf.clauses) lines end
   pub text_is : text ≡ unknown_text (length lines) table cnf lines
 
--- the answer of a search for a trace of the fewest states of a prepared model
+-- the answer of a search for a trace of the fewest states of a prepared model. Where there is no trace, no lasso of at most as many
+-- states as the scopes satisfies the model and its command, as `NoneWithin` says it
 abbrev pub IsLeastText : Prepared → Part → Option ℕ → Certificate → Type 0
 IsLeastText prepared part budget (Trace text) = ShowsOne prepared part text ⊎ ShowsAbove prepared part text
-IsLeastText prepared part budget (Absent text) = (states : ℕ) × ShowsNone states part text
+IsLeastText prepared part budget (Absent text) = (states : ℕ) × ShowsNone states part text × ((number : ℕ) → IsReady number prepared → (states ≡ prepared.scopes.states) × NoneWithin prepared states)
 IsLeastText prepared part budget (Unknown text) = ShowsSpent budget text
 
 -- the answer of a search for facts of a prepared model that rule out every trace

@@ -1,13 +1,13 @@
 // The search for a trace of the fewest states.
 
-ghost use Rattle.std.specs.Prelude.{◌≡◌, ◌⊎◌, ◌<◌, IfOk, length, None, Some};
-ghost use Rattle.analyser.specs.Found.{IsTraceOf};
+ghost use Rattle.std.specs.Prelude.{◌≡◌, ◌⊎◌, ◌<◌, ◌-◌, ℕ, IfOk, length, None, Some};
+ghost use Rattle.analyser.specs.Found.{IsReady, IsTraceOf, NoneWithin};
 ghost use Rattle.lrat_form.specs.Step.{Refutes};
 ghost use Rattle.certificate_search.specs.Certificate.{IsLeastText, ShowsOne, ShowsAbove, ShowsNone};
 
 use crate::certificate::{Certificate, lasso_part, spent_shown, test_trace};
 use alloy_base::Bytes;
-use analyser::{Prepared, table};
+use analyser::{Prepared, ruled_out_means_none, table};
 use answer_texts::absent_text;
 use bounds_builder::Bounds;
 use chooser_box::Chooser;
@@ -30,6 +30,7 @@ pub fn least_certificate<C: Chooser>(
 ) -> Result<Certificate, AllocError>
     ensures { IfOk result (IsLeastText prepared part budget) }
 {
+    ruled_out_means_none();
     match find_least(alloc, &prepared.model, &prepared.target, chooser, budget)? {
         Least::Trace { lasso, below } => {
             test_trace(alloc, &prepared, &lasso)?;
@@ -59,7 +60,7 @@ fn least_shown(
 ) -> Result<Bytes, AllocError>
     requires trace { IsTraceOf prepared lasso.now }
     requires none { below ≡ None → length lasso.now.states ≡ 1 }
-    requires some { (proof : _) → below ≡ Some proof → (1 < length lasso.now.states) × Refutes proof.cnf.clauses proof.lines }
+    requires some { (proof : _) → below ≡ Some proof → (1 < length lasso.now.states) × Refutes proof.cnf.clauses proof.lines × ((number : ℕ) → IsReady number prepared → NoneWithin prepared (length lasso.now.states - 1)) }
     ensures { IfOk result (λ text. ShowsOne prepared part text ⊎ ShowsAbove prepared part text) }
 {
     match below {
@@ -94,6 +95,7 @@ fn above_shown(
     requires trace { IsTraceOf prepared lasso.now }
     requires more { 1 < length lasso.now.states }
     requires refutes { Refutes proof.cnf.clauses proof.lines }
+    requires none { (number : ℕ) → IsReady number prepared → NoneWithin prepared (length lasso.now.states - 1) }
     ensures { IfOk result (λ text. ShowsAbove prepared part text) }
 {
     let trace = print_trace(alloc, &prepared.labels, lasso)?;

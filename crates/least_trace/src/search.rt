@@ -13,6 +13,9 @@ use target_search::{Found, limits_of, search_lasso};
 
 /// Looks for a lasso of the target with one state, then with two, up to as many as its scopes have, which `bounds` of the
 /// bounds' builder does not refuse. The budget counts for each search. The only error is want of memory.
+///
+/// What is refuted rules out every lasso within the model's bounds of so many states, if all formulas of the target have only the
+/// plain forms.
 pub fn find_least<C: Chooser>(
     alloc: Global,
     model: &Model,
@@ -20,7 +23,7 @@ pub fn find_least<C: Chooser>(
     chooser: &mut C,
     budget: Option<u64>,
 ) -> Result<Least, AllocError>
-    ensures { IfOk result (IsLeast target.now.scopes.states budget) }
+    ensures { IfOk result (IsLeast model.now target.now budget) }
 {
     let mut below: Option<Proof> = None;
     let mut limits = limits_of(alloc, model, &target.scopes)?;

@@ -121,6 +121,7 @@ pub fn target_of(
 ) -> Result<(Target, u32), AllocError>
     ensures forms { IfOk result (λ r. All (λ f. IsLeft (claim_of f)) r.0.formulas) }
     ensures target { IfOk result (λ r. IsTargetOf model.now scopes.now (claim_of command.now.formula) r.0 r.1) }
+    ensures scopes { IfOk result (λ r. r.0.scopes ≡ scopes.now) }
 {
     let declared = declarations(alloc, model)?;
     let Ok(first_fact) = u32::try_from(declared.len()) else {

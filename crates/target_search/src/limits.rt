@@ -1,6 +1,7 @@
 // The bounds of a target.
 
 ghost use Rattle.std.specs.Prelude.{◌≡◌, IfOk};
+ghost use Rattle.target_search.specs.Limits.{AreLimitsOf};
 
 use alloy_base::Place;
 use bounds_builder::{Bounds, bounds};
@@ -10,7 +11,8 @@ use std::alloc::{AllocError, Global};
 
 /// The bounds of a model under scopes that aren't refused. The only error is want of memory.
 pub fn limits_of(alloc: Global, model: &Model, scopes: &Scopes) -> Result<Bounds, AllocError>
-    ensures { IfOk result (λ bounds. bounds.states ≡ scopes.now.states) }
+    ensures states { IfOk result (λ bounds. bounds.states ≡ scopes.now.states) }
+    ensures limits { IfOk result (AreLimitsOf model.now scopes.now) }
 {
     let keyword = Place {
         module: 0,

@@ -8,6 +8,7 @@ returns-clause-ready c = record {
   chosen = c.get-chosen.ensures;
   parts_are = c.in_ok-parts.ensures;
   target_is = c.in_ok-target.ensures.target;
+  scoped = c.in_ok-target.ensures.scopes;
   counted = c.in_ok-labels.ensures.counted;
   scopes_are = c.in_ok-scopes.ensures.scopes;
   table = c.in_ok-bounds.ensures.table;

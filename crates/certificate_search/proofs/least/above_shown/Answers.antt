@@ -5,6 +5,7 @@ returns c = record {
   lasso = c.args.lasso.now;
   trace = c.requires.trace;
   more = c.requires.more;
+  none = c.requires.none;
   table = c.in_ok-rows.rows;
   cnf = c.args.proof.cnf;
   lines = c.args.proof.lines;

@@ -1,6 +1,10 @@
 use Rattle.std.proofs.Common.{◌+◌}
+use Rattle.target_search.specs.Limits.{AreLimitsOf}
 use Rattle.least_trace.specs.Least.{IsBelow}
 use Rattle.least_trace.proofs.search.find_least.Given as goal
 
 abbrev pub invariant-loop-fewer : goal.invariant-loop-fewer
-invariant-loop-fewer g l = IsBelow (l.fewer + 1) l.below
+invariant-loop-fewer g l = record {
+  below : IsBelow l.model l.target (l.fewer + 1) l.below;
+  limits : AreLimitsOf l.model l.target.scopes l.limits;
+}

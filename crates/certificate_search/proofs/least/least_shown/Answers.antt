@@ -1,0 +1,4 @@
+use Rattle.certificate_search.proofs.least.least_shown.Goals as goal
+
+pub above_shown-requires-clause-none : goal.above_shown-requires-clause-none
+above_shown-requires-clause-none c = (c.requires.some c.in-Some.proof c.in-Some.is).2
