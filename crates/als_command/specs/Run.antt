@@ -109,14 +109,15 @@ OfModel number P = (prepared : Prepared) × IsReady number prepared × P prepare
 
 -- what is written of a trace, which satisfies the model and the command: the part that is asked for; in a search for the fewest
 -- states with clauses of one state less and lines that refute them, and no lasso of fewer states satisfies them, if the target has
--- plain forms alone; or it has one state
+-- plain forms alone and the model is usual; or it has one state
 abbrev pub ShownTrace : Mode → ℕ → Part → List ℕ → Type 0
 ShownTrace Least number part text = OfModel number (λ prepared. ShowsOne prepared part text ⊎ ShowsAbove prepared part text)
 ShownTrace _ number part text = OfModel number (λ prepared. ShowsTrace prepared part text)
 
 -- what is written where there is no trace: the part that is asked for, of clauses and lines that refute them, where no lasso within
--- the bounds satisfies the model and the command, if the target has plain forms alone; in a search for facts that rule out every trace
--- with these facts
+-- the bounds satisfies the model and the command, if the target has plain forms alone; in a search for the fewest states, where none
+-- of at most as many states as the scopes does, if the model is usual too; in a search for facts that rule out every trace with these
+-- facts
 abbrev pub ShownNone : Mode → ℕ → Part → List ℕ → Type 0
 ShownNone Core number part text = OfModel number (λ prepared. ShowsCore prepared part text)
 ShownNone Exec number part text = OfModel number (λ prepared. ShowsNone prepared.bounds.states part text × NoneSatisfies prepared)

@@ -27,8 +27,9 @@ use Rattle.analyser.specs.declared.fault.AnalyseFault.{AnalyseFault}
 use Rattle.analyser.specs.declared.fault.AnalyseFault.TheVariants.{Refused, Read, Memory}
 
 -- a model made ready for its command of this number: the model keeps what resolved models keep, the parts
--- are its facts and then that command, the target is that of the command under the scopes, these say what they are to say of each sig, the bounds
--- are those of the model and the scopes and have a table, and the labels are those of its relations and of its universe
+-- are its facts and then that command, the target is that of the command under the scopes, these say what they are to say
+-- of each sig, the bounds are those of the model and the scopes and have a table, and the labels are those of its relations and of
+-- its universe
 pub record IsReady (number : ℕ) (prepared : Prepared) : Type 0 where
   pub kept : IsModelButTypes prepared.model
   pub command : Command
