@@ -1,5 +1,8 @@
 // What becomes of a part under a choice.
 
+ghost use Rattle.std.specs.Prelude.{◌≡◌, ◌++◌, ◌∷◌, [], IfOk};
+ghost use Rattle.root_drafts.specs.Calls.{call_of, IsGiven};
+
 use alloy_base::Place;
 use core_tree::{Expr, Formula};
 use std::alloc::{AllocError, Global};
@@ -33,7 +36,9 @@ pub enum Built {
 }
 
 /// The call once it waits for nothing.
-pub fn called(pending: Pending) -> Built {
+pub fn called(pending: Pending) -> Built
+    ensures { result ≡ call_of pending.body pending.left pending.is_function pending.arguments }
+{
     if pending.left > 0 {
         return Built::Waiting(pending);
     }
@@ -50,15 +55,26 @@ pub fn called(pending: Pending) -> Built {
     }
 }
 
-/// The call with one argument more.
-pub fn give(pending: Pending, argument: Expr) -> Result<Built, AllocError> {
+/// The arguments, and one more behind them.
+fn with_argument(arguments: Vec<Expr>, argument: Expr) -> Result<Vec<Expr>, AllocError>
+    ensures { IfOk result (λ all. all.items ≡ arguments.items ++ argument ∷ []) }
+{
+    let mut all = arguments;
+    all.push(argument)?;
+    Ok(all)
+}
+
+/// The call with one argument more, behind those that it has.
+pub fn give(pending: Pending, argument: Expr) -> Result<Built, AllocError>
+    ensures { IfOk result (IsGiven pending argument) }
+{
     let Pending {
         body,
         left,
         is_function,
-        mut arguments,
+        arguments,
     } = pending;
-    arguments.push(argument)?;
+    let arguments = with_argument(arguments, argument)?;
     Ok(called(Pending {
         body,
         left: left.saturating_sub(1),

@@ -1,5 +1,8 @@
 // Where a root stands, and what is gathered on the way.
 
+ghost use Rattle.std.specs.Prelude.{◌≡◌, Some, None};
+ghost use Rattle.alloy_base.specs.declared.place.Place.{Place};
+
 use crate::known::Known;
 use alloy_base::Place;
 use als_tree::Loaded;
@@ -67,7 +70,10 @@ pub fn new_root() -> Root {
 }
 
 /// A name, constant, number, literal or `this` of the root.
-pub fn see(root: &mut Root, place: Place) {
+pub fn see(root: &mut Root, place: Place)
+    ensures kept { (first : Place) → root.old.first ≡ Some first → root.new ≡ root.old }
+    ensures first { root.old.first ≡ None → root.new ≡ record { first = Some place; is_unknown = root.old.is_unknown; is_spoilt = root.old.is_spoilt } }
+{
     if root.first.is_none() {
         root.first = Some(place);
     }
