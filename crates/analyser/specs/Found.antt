@@ -1,5 +1,5 @@
 -- What a model is made ready with, and what an analysis may answer.
-use Rattle.std.specs.Prelude.{◌≡◌, ◌≤◌, ℕ, List, [], ◌∷◌, ◌++◌, length, map, All, ⊤, Option, Some, slice_get}
+use Rattle.std.specs.Prelude.{◌≡◌, ◌≤◌, ◌<◌, ◌^◌, ℕ, List, [], ◌∷◌, ◌++◌, length, map, All, ⊤, Option, Some, slice_get}
 use Rattle.bounds_builder.specs.Candidates.{IsCandidate}
 use Rattle.bounds_builder.specs.Shortest.{HasFewestStates}
 use Rattle.bounds_builder.specs.Table.{IsTable}
@@ -19,8 +19,8 @@ use Rattle.target_search.specs.Clauses.{IsCovered}
 use Rattle.target_search.specs.Limits.{IsRuledOutOver}
 use Rattle.trace_form.specs.Made.{AreRelationsOf, universe_texts}
 use Rattle.analyser.specs.declared.ready.Prepared.{Prepared}
-use Rattle.lrat_form.specs.Step.{State, start, Refutes}
-use Rattle.lemma_log.specs.Outcome.{AreLemmas}
+use Rattle.lrat_form.specs.Step.{Refutes}
+use Rattle.lrat_form.specs.Spent.{Spends}
 use Rattle.analyser.specs.declared.answer.Answer.{Answer}
 use Rattle.analyser.specs.declared.answer.Answer.TheVariants.{Trace, Absent, Unknown}
 use Rattle.analyser.specs.declared.fault.AnalyseFault.{AnalyseFault}
@@ -79,12 +79,12 @@ pub record NoneSatisfies (prepared : Prepared) : Type 0 where
 
 -- A trace satisfies the model and the command, and has the fewest states that show its sequence. Where there is no lasso, the lines
 -- refute the clauses, and where all formulas that are searched have plain forms no lasso satisfies the model and the command, as
--- `NoneSatisfies` says. Only a budget that is spent leaves it open: there are just as many lemmas, none of them empty, and each
--- passes.
+-- `NoneSatisfies` says. Only a budget that is spent leaves it open: there are just as many lemmas, each new and none empty, and one
+-- more would pass; and it is below 3 to the power of the number of variables.
 abbrev pub IsFoundIn : Prepared → Option ℕ → Answer → Type 0
 IsFoundIn prepared budget (Trace labels lasso) = (labels ≡ prepared.labels) × IsTraceOf prepared lasso × (length lasso.states ≤ prepared.bounds.states) × HasFewestStates lasso
 IsFoundIn prepared budget (Absent table states cnf lines) = (states ≡ prepared.bounds.states) × Refutes cnf.clauses lines × ((number : ℕ) → IsReady number prepared → NoneSatisfies prepared)
-IsFoundIn prepared budget (Unknown table cnf lines) = (budget ≡ Some (length lines)) × ((end : State) × AreLemmas (start cnf.clauses) lines end)
+IsFoundIn prepared budget (Unknown table cnf lines) = (budget ≡ Some (length lines)) × Spends cnf.clauses (length lines) lines × (length lines < 3 ^ cnf.variables)
 
 -- the same of a model that was made ready for its command of this number
 abbrev pub IsFound : ℕ → Option ℕ → Answer → Type 0

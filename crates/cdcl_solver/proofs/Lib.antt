@@ -1,1 +1,5 @@
 pub mod Sharing
+pub mod Wholeness
+pub mod News
+pub mod Counting
+pub mod Searching

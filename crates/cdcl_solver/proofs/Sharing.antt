@@ -56,7 +56,7 @@ shared_start s clauses k = record {
       numbered_at clauses map.empty 1 n (n + 1) (omega arith) within ∙ (slice_get-get_or clauses n [] within ∙ ap Some (sym (k.each n within)));
 }
 
-same_clause : (s t : Search) (n : ℕ) → t.literals ≡ s.literals → t.ends ≡ s.ends → clause_at t n ≡ clause_at s n
+pub same_clause : (s t : Search) (n : ℕ) → t.literals ≡ s.literals → t.ends ≡ s.ends → clause_at t n ≡ clause_at s n
 same_clause s t n literals ends =
     ap (λ (xs : List ℤ). take (get_or t.ends n 0 - start_of t.ends n) (drop (start_of t.ends n) xs)) literals
     ∙ ap (λ (es : List ℕ). take (get_or es n 0 - start_of es n) (drop (start_of es n) s.literals)) ends

@@ -1,7 +1,7 @@
 //! A conflict-driven search: an assignment that satisfies the clauses, or lemmas that refute them.
 //!
-//! Each lemma is taken through the checker's step as it is learnt, and passes. An assignment is tested at the end, and
-//! where the test fails the plain search answers. So the answers are right whatever the chooser does.
+//! Each lemma is taken through the checker's step as it is learnt, and passes. It contains no clause that is there
+//! before it, so the search goes on to something new, whatever the chooser does.
 #![tactic(auto)]
 
 mod lent;

@@ -1,6 +1,7 @@
-ghost use Rattle.std.specs.Prelude.{◌≡◌, ◌<◌, ◌≤◌, ◌^◌, ◌++◌, ◌∷◌, [], IsTrue, IfOk, OnOk, length};
+ghost use Rattle.std.specs.Prelude.{◌≡◌, ℕ, pos, ◌<◌, ◌≤◌, ◌^◌, ◌↔◌, ◌++◌, ◌∷◌, [], false, IsTrue, IfOk, OnOk, length, slice_index_or};
 ghost use Rattle.std.specs.List.{All};
 ghost use Rattle.trail_literals.specs.Literal.{IsLiteral};
+ghost use Rattle.solver_trail.specs.Assignment.{value_at};
 
 use cnf_form::Clause;
 use lrat_form::Hints;
@@ -80,11 +81,22 @@ pub(crate) fn hints_of(alloc: Global, numbers: &[u64]) -> Result<Hints, AllocErr
     Ok(hints)
 }
 
-/// The values of a full trail.
-pub(crate) fn values_of(alloc: Global, trail: &Trail) -> Result<Vec<bool>, AllocError> {
-    let mut values = Vec::new(alloc);
-    for value in trail.values() {
-        values.push(*value == 1)?;
+/// Whether a variable of this value is true.
+#[inline]
+fn is_true(value: &i8) -> bool
+    ensures { IsTrue result ↔ (value.now ≡ pos 1) }
+{
+    *value == 1
+}
+
+/// Whether each variable is true, by its value.
+pub(crate) fn truths_of(alloc: Global, values: &[i8]) -> Result<Vec<bool>, AllocError>
+    ensures count { IfOk result (λ truths. length truths.items ≡ length values.now) }
+    ensures truths { IfOk result (λ truths. (k : ℕ) → k < length values.now → IsTrue (slice_index_or truths.items k false) ↔ (value_at values.now k ≡ pos 1)) }
+{
+    let mut truths = Vec::new(alloc);
+    for place in 0..values.len() {
+        truths.push(is_true(&values[place]))?;
     }
-    Ok(values)
+    Ok(truths)
 }

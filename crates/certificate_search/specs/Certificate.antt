@@ -1,5 +1,5 @@
 -- The texts of searches, and what they show.
-use Rattle.std.specs.Prelude.{◌≡◌, ◌⊎◌, ◌<◌, ◌-◌, ℕ, List, length, Option, Some}
+use Rattle.std.specs.Prelude.{◌≡◌, ◌⊎◌, ◌<◌, ◌-◌, ◌^◌, ℕ, List, length, Option, Some}
 use Rattle.std.specs.List.{All}
 use Rattle.std.specs.List.Sorted.{IsStrictlyIncreasing}
 use Rattle.analyser.specs.Found.{IsReady, IsTraceOf, NoneWithin}
@@ -10,8 +10,8 @@ use Rattle.command_words.specs.declared.named.Part.{Part}
 use Rattle.core_meaning.specs.Sequence.{LassoValue}
 use Rattle.judgement_texts.specs.Certified.{trace_part, above_part, core_part}
 use Rattle.judgement_texts.specs.declared.fact.FactName.{FactName}
-use Rattle.lemma_log.specs.Outcome.{AreLemmas}
-use Rattle.lrat_form.specs.Step.{State, start, Refutes}
+use Rattle.lrat_form.specs.Step.{Refutes}
+use Rattle.lrat_form.specs.Spent.{Spends}
 use Rattle.lrat_form.specs.declared.line.Line.{Line}
 use Rattle.trace_form.specs.Text.{trace_text}
 use Rattle.certificate_search.specs.Kept.{AreNamed}
@@ -71,13 +71,15 @@ pub record ShowsCore (prepared : Prepared) (part : Part) (text : List ℕ) : Typ
   pub named : AreNamed prepared.loaded prepared.parts kept names
   pub shows : ShowsFacts part names text
 
--- clauses, and just as many lemmas as the budget has, none of them empty, each of which passes
+-- clauses, and just as many lemmas as the budget has, each new and none empty, behind which one more would pass; the budget is below 3
+-- to the power of the number of variables
 pub record ShowsSpent (budget : Option ℕ) (text : List ℕ) : Type 0 where
   pub table : List (List ℕ)
   pub cnf : Cnf
   pub lines : List Line
   pub spent : budget ≡ Some (length lines)
-  pub lemmas : (end : State) × AreLemmas (start cnf.clauses) lines end
+  pub lemmas : Spends cnf.clauses (length lines) lines
+  pub few : length lines < 3 ^ cnf.variables
   pub text_is : text ≡ unknown_text (length lines) table cnf lines
 
 -- the answer of a search for a trace of the fewest states of a prepared model. Where there is no trace, no lasso of at most as many

@@ -5,3 +5,4 @@ pub mod Parting
 pub mod Passing
 pub mod Gathering
 pub mod Taking
+pub mod Newness

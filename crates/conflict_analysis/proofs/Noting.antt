@@ -1,5 +1,5 @@
 -- Lists of literals of different variables, as they grow and are cut.
-use Rattle.std.proofs.Common.{ℕ, ◌+◌, ◌-◌, ◌<◌, ◌≤◌, ◌≡◌, ◌≢◌, ℤ, pos, Bool, true, false, List, [], ◌∷◌, ◌++◌, length, get_or, set, take, refl, sym, ap, subst, ◌∙◌, inl, inr, ◌⊎◌, ⊎_elim, arith, length-append, length-set, append-nil, append_assoc}
+use Rattle.std.proofs.Common.{ℕ, ◌+◌, ◌<◌, ◌≤◌, ◌≡◌, ℤ, pos, Bool, true, false, List, [], ◌∷◌, ◌++◌, length, get_or, set, take, refl, sym, ap, subst, ◌∙◌, inl, inr, ◌⊎◌, ⊎_elim, arith, length-append, length-set, append-nil, append_assoc}
 use Rattle.std.specs.List.{Contains}
 use Rattle.std.proofs.lemmas.List.{get_or-set_same, get_or-set_other, get_or-take, get_or_append_left, get_or_push, get_or_default, length-take-le}
 use Rattle.std.proofs.lemmas.Bool.{cases_eq, cases_lt, false≢true}
@@ -51,7 +51,7 @@ push_cases xs l v h = ⊎_elim
     (λ (new : length xs ≤ h.0). let is : length xs ≡ h.0 = omega (arith, h.1, length-append xs (l ∷ [])) in inr (ap index (sym (get_or_push xs l (pos 0) h.0 is)) ∙ h.2))
     (cases_lt h.0 (length xs))
 
-apart_push : (xs : List ℤ) (l : ℤ) → AreApart xs → (HasVariable xs (index l) → ⊥) → AreApart (xs ++ l ∷ [])
+pub apart_push : (xs : List ℤ) (l : ℤ) → AreApart xs → (HasVariable xs (index l) → ⊥) → AreApart (xs ++ l ∷ [])
 apart_push xs l a fresh j k hj hk e =
     let size = length-append xs (l ∷ []) in
     ⊎_elim

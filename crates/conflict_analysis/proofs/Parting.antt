@@ -1,5 +1,5 @@
 -- The noted literals below the last level are parted, and what is left is analysed.
-use Rattle.std.proofs.Common.{ℕ, ◌+◌, ◌-◌, ◌<◌, ◌≤◌, ◌≡◌, ℤ, pos, neg_ℤ, List, [], ◌∷◌, ◌++◌, Option, Some, None, IfSome, length, refl, sym, ap, subst, ◌∙◌, inl, inr, ◌⊎◌, ⊎_elim, arith, length-append, true≢false}
+use Rattle.std.proofs.Common.{ℕ, ◌+◌, ◌<◌, ◌≤◌, ◌≡◌, ℤ, pos, neg_ℤ, List, [], ◌∷◌, ◌++◌, Option, Some, None, IfSome, length, get_or, refl, sym, ap, subst, ◌∙◌, inl, inr, ◌⊎◌, ⊎_elim, arith, length-append, true≢false}
 use Rattle.std.specs.List.{All, Contains}
 use Rattle.std.proofs.lemmas.List.{get_or_append_left, get_or_push, nil_from_length}
 use Rattle.std.proofs.lemmas.List.Elements.{Contains-append_left, Contains-push, Contains-push_cases, Contains-get_or, All-from_get_or}
@@ -11,7 +11,7 @@ use Rattle.solver_trail.specs.Reasons.{AreApart, level_of}
 use Rattle.conflict_analysis.specs.Resolved.{Stands, Fails, level, base, AllFail, IsMet, IsFound, IsPoint, IsGone, IsSpread, IsParted, IsExplained, IsClosed}
 use Rattle.conflict_analysis.specs.Hints.{IsAnalysed, IsPlaced}
 use Rattle.conflict_analysis.specs.Learnt.{IsAsserting}
-use Rattle.conflict_analysis.proofs.Noting.{longer_length, longer_at, covered_longer, contains_at}
+use Rattle.conflict_analysis.proofs.Noting.{longer_length, longer_at, covered_longer, contains_at, apart_push}
 use Rattle.conflict_analysis.proofs.Trailing.{neg-neg, fails_place, fails_literal, place_fails, index_at, index-neg, level_place, low_level, high_level, base_within}
 use Rattle.conflict_analysis.proofs.Stepping.{gone_longer, explained_longer}
 
@@ -23,6 +23,7 @@ parted_none s first noted learnt dropped all none empty fails = record {
   behind = λ q a b. absurd (omega (arith, all, a, b));
   each = λ q a. absurd (omega (arith, a));
   apart = λ l c d. omega (arith, c.1, ap length none);
+  different = λ j k a b e. absurd (omega (arith, a, ap length none));
 }
 
 -- a literal of the last level is left
@@ -37,6 +38,7 @@ parted_high s first p noted learnt dropped high h = record {
       (λ (n : p ≤ q). let is : q ≡ p = omega (arith, n, a) in absurd (omega (arith, high, low, ap (λ (m : ℕ). level s (value_at noted m)) is)))
       (cases_lt q p);
   apart = h.apart;
+  different = h.different;
 }
 
 -- a literal is learnt
@@ -65,6 +67,9 @@ parted_kept s first p noted learnt learnt' dropped apart within low pushed h =
           (λ (e : x ≡ l). let k = (h.lost l d).0 in
           let is : k.0 ≡ p = apart k.0 p (omega (arith, k.1, within)) within (ap index (k.2 ∙ sym e)) in omega (arith, is, k.1))
           (split l c);
+      different = subst AreApart (sym pushed) (apart_push learnt x h.different (λ v.
+          let k = h.kept (value_at learnt v.0) (Contains-get_or learnt v.0 (pos 0) v.1) in
+          let is : k.0 ≡ p = apart k.0 p (omega (arith, k.1, within)) within (ap index k.2 ∙ v.2) in omega (arith, is, k.1)));
     }
 
 -- a literal is dropped
@@ -100,6 +105,7 @@ parted_lost s first p old new learnt dropped dropped' apart before all spread pu
           (λ (e : x ≡ l). let k = h.kept l c in
           let is : k.0 ≡ p = apart k.0 p (omega (arith, k.1, before, all)) (omega (arith, before, all)) (ap index (k.2 ∙ sym e)) in omega (arith, is, k.1))
           (split l d);
+      different = h.different;
     }
 
 -- ---- the places of what is resolved away
@@ -285,6 +291,19 @@ asserts s clause old noted learnt dropped literals steps (Some j) first t found 
       one = λ whole some. (length learnt, omega (arith, size), ap (level s) (ap (λ (xs : List ℤ). value_at xs (length learnt)) closed ∙ get_or_push learnt x (pos 0) (length learnt) refl) ∙ high);
       only = λ p q a b e f. here p a e ∙ sym (here q b f);
     }
+
+-- no variable is learnt twice
+pub closed_apart : (s : Search) (clause old noted learnt dropped literals : List ℤ) (steps : List ℕ) (point : Option ℕ) (first : ℕ) → Stands s → IsFound s clause old steps point → IsParted s first first noted learnt dropped → IsClosed s point learnt literals
+    → AreApart literals
+closed_apart s clause old noted learnt dropped literals steps None first t found parted closed = subst AreApart (sym closed) parted.different
+closed_apart s clause old noted learnt dropped literals steps (Some j) first t found parted closed =
+    let x = neg_ℤ (value_at s.assignment.trail j) in
+    let is = found.point_is in
+    let high : level s x ≡ length s.limits = sym (level_place s x j (sym (neg-neg (value_at s.assignment.trail j)))) ∙ high_level s j t is.within.1 is.within.0 in
+    subst AreApart (sym closed) (apart_push learnt x parted.different (λ v.
+    let low = learnt_low s first first noted learnt dropped v.0 parted v.1 in
+    let same : level s (value_at learnt v.0) ≡ level s x = ap (λ (i : ℕ). get_or s.assignment.levels i 0) v.2 in
+    omega (arith, low, same, high)))
 
 pub all_literals : (s : Search) (clause noted literals : List ℤ) (places : List ℕ) → Stands s → IsAnalysed s clause noted literals places → All (IsLiteral s.variables) literals
 all_literals s clause noted literals places t h = All-from_get_or (IsLiteral s.variables) literals (pos 0) (λ q b. fails_literal s (value_at literals q) t (h.fails (value_at literals q) (Contains-get_or literals q (pos 0) b)))

@@ -1,5 +1,5 @@
 -- Steps of the analysis, in the words of what it calls.
-use Rattle.std.proofs.Common.{ℕ, ◌+◌, ◌-◌, ◌<◌, ◌≤◌, ◌≡◌, ℤ, pos, neg_ℤ, Bool, true, false, List, [], ◌∷◌, ◌++◌, Option, Some, length, take, slice_get, refl, sym, ap, subst, ◌∙◌, ◌⊎◌, ⊎_elim, ◌↔◌, arith, append-nil}
+use Rattle.std.proofs.Common.{ℕ, ◌+◌, ◌-◌, ◌<◌, ◌≤◌, ◌≡◌, ℤ, pos, neg_ℤ, Bool, true, false, List, [], ◌∷◌, ◌++◌, Option, Some, length, take, slice_get, refl, sym, ap, subst, ◌∙◌, ⊎_elim, ◌↔◌, arith, append-nil}
 use Rattle.std.specs.List.{All, Contains}
 use Rattle.std.proofs.lemmas.List.{take_all, take-append-le}
 use Rattle.std.proofs.lemmas.List.Elements.{All-from_get_or, Contains-get_or}

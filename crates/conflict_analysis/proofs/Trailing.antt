@@ -106,13 +106,13 @@ false_member s i y f c = let p = clause_member s i y c in subst (Fails s) p.2 (f
 
 -- ---- reasons
 
-front_member : (trail : List ℤ) (j : ℕ) (x : ℤ) → Contains (take j trail) x → (k : ℕ) × (k < j) × (k < length trail) × (value_at trail k ≡ x)
+pub front_member : (trail : List ℤ) (j : ℕ) (x : ℤ) → Contains (take j trail) x → (k : ℕ) × (k < j) × (k < length trail) × (value_at trail k ≡ x)
 front_member trail j x c =
     let size = length-take j trail in
     let below : c.0 < j = omega (arith, c.1, size) in
     (c.0, below, omega (arith, c.1, size), sym (get_or-take j trail c.0 (pos 0) below) ∙ contains_at (take j trail) x c)
 
-member_front : (trail : List ℤ) (j k : ℕ) (x : ℤ) → k < j → k < length trail → value_at trail k ≡ x → Contains (take j trail) x
+pub member_front : (trail : List ℤ) (j k : ℕ) (x : ℤ) → k < j → k < length trail → value_at trail k ≡ x → Contains (take j trail) x
 member_front trail j k x h i e = at_contains (take j trail) x k (omega (arith, length-take j trail, h, i)) (get_or-take j trail k (pos 0) h ∙ e)
 
 pub reason_stands : (s : Search) (j : ℕ) → Stands s → j < length s.assignment.trail → (Contains s.limits j → ⊥) → IsReason s.literals s.ends s.assignment.trail j (reason_of s.assignment j)

@@ -1,5 +1,5 @@
 -- The hints of a learnt clause.
-use Rattle.std.specs.Prelude.{ℕ, ◌+◌, ◌-◌, ◌<◌, ◌≤◌, ◌≡◌, ◌⊎◌, ℤ, neg_ℤ, List, [], ◌∷◌, Option, Some, None, length, nat_le, if◌then◌else◌}
+use Rattle.std.specs.Prelude.{ℕ, ◌+◌, ◌<◌, ◌≤◌, ◌≡◌, ◌⊎◌, ℤ, neg_ℤ, List, [], ◌∷◌, Option, Some, None, length, nat_le, if◌then◌else◌}
 use Rattle.std.specs.List.{Contains}
 use Rattle.lrat_form.specs.Step.{walk, among}
 use Rattle.solver_trail.specs.Assignment.{value_at}

@@ -1,5 +1,5 @@
 -- What stands while a false clause is resolved with the reasons of its literals.
-use Rattle.std.specs.Prelude.{ℕ, ◌+◌, ◌-◌, ◌<◌, ◌≤◌, ◌≡◌, ◌⊎◌, ℤ, neg_ℤ, List, [], ◌∷◌, ◌++◌, Option, Some, None, IsSome, IfSome, length, take, slice_index}
+use Rattle.std.specs.Prelude.{ℕ, ◌-◌, ◌<◌, ◌≤◌, ◌≡◌, ◌⊎◌, ℤ, neg_ℤ, List, [], ◌∷◌, ◌++◌, Option, Some, None, IsSome, IfSome, length, take, slice_index}
 use Rattle.std.specs.List.{All, Contains}
 use Rattle.trail_literals.specs.Literal.{index, IsLiteral}
 use Rattle.solver_trail.specs.Assignment.{value_at}
@@ -129,6 +129,7 @@ pub record IsParted (s : Search) (first p : ℕ) (noted learnt dropped : List �
   pub behind : (q : ℕ) → first ≤ q → q < length noted → IsGone s noted (value_at noted q)
   pub each : (q : ℕ) → q < p → level s (value_at noted q) < length s.limits → Contains learnt (value_at noted q) ⊎ Contains dropped (value_at noted q)
   pub apart : (l : ℤ) → Contains learnt l → Contains dropped l → ⊥
+  pub different : AreApart learnt
 
 -- a clause with the negation of the point's literal behind, if there is a point
 abbrev pub IsClosed : Search → Option ℕ → List ℤ → List ℤ → Type 0

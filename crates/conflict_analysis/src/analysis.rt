@@ -4,6 +4,7 @@ ghost use Rattle.trail_literals.specs.Literal.{IsLiteral};
 ghost use Rattle.solver_trail.specs.Assignment.{value_at};
 ghost use Rattle.solver_trail.specs.Watched.{IsFalseIn};
 ghost use Rattle.solver_trail.specs.State.{clause_at};
+ghost use Rattle.solver_trail.specs.Reasons.{AreApart};
 ghost use Rattle.conflict_analysis.specs.Resolved.{Stands, AllFail, IsClosed};
 ghost use Rattle.conflict_analysis.specs.Hints.{IsAnalysed};
 ghost use Rattle.conflict_analysis.specs.Learnt.{IsAsserting, IsLevelBelow, IsSecond, IsLearnt};
@@ -67,7 +68,8 @@ impl Analysis {
     ///
     /// `literals`, `hints` and `back_to` then tell what was learnt. Every literal is false on the trail, and the hints
     /// show the clause. It is empty at level 0. Above, one literal is of the last level, where every level below was
-    /// propagated to its end. The only error is want of memory.
+    /// propagated to its end; and then it contains no clause of the trail, if none of these is empty. The only error is
+    /// want of memory.
     pub fn learn(&mut self, trail: &Trail, conflict: u64) -> Result<(), AllocError>
         requires variables { self.old.variables ≡ trail.now.variables }
         requires conflict { (0 < conflict) × (conflict ≤ length trail.now.ends) × IsFalseIn trail.now.literals trail.now.ends trail.now.assignment.trail (conflict - 1) }
@@ -124,6 +126,7 @@ fn resolve_all(
     ensures literals { OnOk result (All (IsLiteral trail.now.variables) learnt.new.items) }
     ensures analysed { OnOk result (IsAnalysed trail.now (clause_at trail.now (conflict - 1)) noted.new.literals learnt.new.items places.new.items) }
     ensures asserting { OnOk result (IsAsserting trail.now learnt.new.items) }
+    ensures apart { OnOk result (AreApart learnt.new.items) }
 {
     let point = find_point(trail, noted, places, conflict)?;
     let met = noted.len();

@@ -1,15 +1,14 @@
 -- Levels and reasons stay right as literals are put, levels are opened and gone back to, and clauses are added.
-use Rattle.std.proofs.Common.{ℕ, zero, suc, ◌+◌, ◌-◌, ◌<◌, ◌≤◌, ◌≡◌, ◌≢◌, ℤ, pos, neg_ℤ, List, [], ◌∷◌, ◌++◌, length, get_or, set, take, refl, sym, ap, subst, ◌∙◌, inl, inr, ◌⊎◌, ⊎_elim, ◌↔◌, arith, length-append}
+use Rattle.std.proofs.Common.{ℕ, zero, suc, ◌+◌, ◌-◌, ◌<◌, ◌≤◌, ◌≡◌, ◌≢◌, ℤ, pos, neg_ℤ, List, [], ◌∷◌, ◌++◌, length, get_or, take, refl, sym, ap, subst, ◌∙◌, inl, inr, ◌⊎◌, ⊎_elim, ◌↔◌, arith, length-append}
 use Rattle.std.specs.List.{Contains}
 use Rattle.std.proofs.lemmas.List.{get_or-set_same, get_or-set_other, get_or-take, get_or_default, get_or_append_left, get_or_at, append-nil, take-append-le, take-take, take_all, length-take-le}
 use Rattle.std.proofs.lemmas.Bool.{cases_eq, cases_lt}
-use Rattle.trail_literals.specs.Literal.{index, IsLiteral}
-use Rattle.solver_trail.specs.Assignment.{Assignment, assignment, value_at, IsAssigned}
+use Rattle.trail_literals.specs.Literal.{index, sign}
+use Rattle.solver_trail.specs.Assignment.{Assignment, value_at, IsAssigned, IsTold}
 use Rattle.solver_trail.specs.Watched.{InClause, IsArena}
 use Rattle.solver_trail.specs.Sound.{IsFree}
 use Rattle.solver_trail.specs.State.{Search}
 use Rattle.solver_trail.specs.Reasons.{level_of, reason_of, IsReason, IsForced, ForcesMore, AreReasoned, AreApart, IsPut}
-use Rattle.solver_trail.proofs.Assigning.{apart_from}
 use Rattle.solver_trail.proofs.Adding.{in_more, in_less, in_literals, lit_more}
 use Rattle.solver_trail.proofs.Weaving.{longer-trans, longer-length}
 
@@ -296,6 +295,21 @@ apart_by_places trail len values places a j k h i e =
     let two : value_at (take len trail) k ≡ value_at trail k = get_or-take len trail k (pos 0) there in
     let same : index (value_at trail j) ≡ index (value_at trail k) = sym (ap index one) ∙ (e ∙ ap index two) in
     sym (a.place j here) ∙ (ap (λ (v : ℕ). get_or places v 0) same ∙ a.place k there)
+
+-- the values tell the literals that are true
+pub told_by_places : (trail : List ℤ) (len : ℕ) (values : List ℤ) (places : List ℕ) → IsAssigned trail len values places → IsTold (take len trail) values
+told_by_places trail len values places a =
+    let whole : length (take len trail) ≡ len = length-take-le len trail (omega (arith, a.fits, a.same_trail)) in
+    record {
+      value = λ j h.
+          let here : j < len = omega (arith, h, whole) in
+          let at : value_at (take len trail) j ≡ value_at trail j = get_or-take len trail j (pos 0) here in
+          ap (λ (x : ℤ). value_at values (index x)) at ∙ (a.value j here ∙ ap sign (sym at));
+      only = λ i h. ⊎_elim
+          (λ (free : value_at values i ≡ pos 0). inl free)
+          (λ (at : (get_or places i 0 < len) × (index (value_at trail (get_or places i 0)) ≡ i)). inr (get_or places i 0, omega (arith, at.0, whole), ap index (get_or-take len trail (get_or places i 0) (pos 0) at.0) ∙ at.1))
+          (a.only i h);
+    }
 
 -- where the last of some levels begins
 pub last_of_front : (xs : List ℕ) (n : ℕ) → n ≤ length xs → 0 < n → get_or (take n xs) (length (take n xs) - 1) 0 ≡ get_or xs (n - 1) 0

@@ -2,7 +2,7 @@ ghost use Rattle.std.specs.Prelude.{◌≡◌, ℕ, neg_ℤ, unsigned_abs, ◌+�
 ghost use Rattle.std.specs.List.{All, Contains};
 ghost use Rattle.trail_literals.specs.Literal.{IsLiteral};
 ghost use Rattle.trail_literals.specs.Literal as spec;
-ghost use Rattle.solver_trail.specs.Assignment.{value_at};
+ghost use Rattle.solver_trail.specs.Assignment.{value_at, IsTold};
 ghost use Rattle.solver_trail.specs.Reasons.{IsPut, AreApart};
 
 use std::alloc::{AllocError, Global};
@@ -75,7 +75,8 @@ impl Assigned {
     /// The value of each variable.
     #[inline]
     pub fn values(&self) -> &[i8]
-        ensures { result.now ≡ self.now.values }
+        ensures values { result.now ≡ self.now.values }
+        ensures told { IsTold self.now.trail result.now }
     {
         self.values.as_slice()
     }
@@ -86,6 +87,7 @@ impl Assigned {
         ensures trail { result.now ≡ self.now.trail }
         ensures literals { All (IsLiteral (length self.now.values)) result.now }
         ensures apart { AreApart result.now }
+        ensures fits { length result.now ≤ length self.now.values }
     {
         &self.trail[..self.len]
     }

@@ -3,8 +3,8 @@ ghost use Rattle.std.specs.List.{Contains, All};
 ghost use Rattle.trail_literals.specs.Literal.{IsLiteral};
 ghost use Rattle.trail_literals.specs.Literal as spec;
 ghost use Rattle.cnf_form.specs.Literal.{IsWithin};
-ghost use Rattle.solver_trail.specs.Assignment.{value_at};
-ghost use Rattle.solver_trail.specs.Watched.{IsTrueIn, IsFalseIn};
+ghost use Rattle.solver_trail.specs.Assignment.{value_at, IsTold};
+ghost use Rattle.solver_trail.specs.Watched.{IsTrueIn, IsFalseIn, IsArena};
 ghost use Rattle.solver_trail.specs.Sound.{IsFree, IsOpen};
 ghost use Rattle.solver_trail.specs.State.{clause_at, Keeps, Adds};
 ghost use Rattle.solver_trail.specs.Reasons.{ForcesMore, AreReasoned, AreApart, IsPut};
@@ -258,18 +258,21 @@ impl Trail {
     pub fn values(&self) -> &[i8]
         ensures values { result.now ≡ self.now.assignment.values }
         ensures variables { length result.now ≡ self.now.variables }
+        ensures told { IsTold self.now.assignment.trail result.now }
     {
         self.assigned.values()
     }
 
     /// The true literals in the order in which they were put, at most one of each variable. Each has its level and,
-    /// unless it opened one, its reason.
+    /// unless it opened one, its reason. The clauses lie one after another.
     #[inline]
     pub fn trail(&self) -> &[i64]
         ensures trail { result.now ≡ self.now.assignment.trail }
         ensures literals { All (IsLiteral self.now.variables) result.now }
         ensures apart { AreApart result.now }
+        ensures fits { length result.now ≤ self.now.variables }
         ensures reasoned { AreReasoned self.now }
+        ensures arena { IsArena self.now.literals self.now.ends self.now.variables }
     {
         self.assigned.trail()
     }

@@ -1,8 +1,8 @@
 -- What a search may come to.
-use Rattle.std.specs.Prelude.{◌≡◌, ◌≤◌, ℕ, length, Option, Some}
-use Rattle.lrat_form.specs.Step.{State, start, Refutes}
+use Rattle.std.specs.Prelude.{◌≡◌, ◌≤◌, ◌<◌, ◌^◌, ℕ, length, Option, Some}
+use Rattle.lrat_form.specs.Step.{Refutes}
+use Rattle.lrat_form.specs.Spent as spent
 use Rattle.lrat_form.specs.declared.line.Proof.{Proof}
-use Rattle.lemma_log.specs.Outcome.{AreLemmas}
 use Rattle.bounds_builder.specs.Shortest.{HasFewestStates}
 use Rattle.target_search.specs.declared.found.Found.{Found}
 use Rattle.target_search.specs.declared.found.Found.TheVariants.{Lasso, Refuted, Spent}
@@ -11,9 +11,10 @@ use Rattle.target_search.specs.declared.found.Found.TheVariants.{Lasso, Refuted,
 abbrev pub IsRefuted : ℕ → Proof → Type 0
 IsRefuted states proof = (proof.states ≡ states) × Refutes proof.cnf.clauses proof.lines
 
--- just as many lemmas as the budget has, none of them empty, and each passes
+-- The lines have just as many lemmas as the budget, each new and none empty, and one more would pass. A budget that is spent is
+-- below 3 to the power of the number of variables.
 abbrev pub Spends : Option ℕ → Proof → Type 0
-Spends budget proof = (budget ≡ Some (length proof.lines)) × (end : State) × AreLemmas (start proof.cnf.clauses) proof.lines end
+Spends budget proof = (budget ≡ Some (length proof.lines)) × spent.Spends proof.cnf.clauses (length proof.lines) proof.lines × (length proof.lines < 3 ^ proof.cnf.variables)
 
 -- lemmas that spend a budget on clauses over so many states
 abbrev pub IsSpent : ℕ → Option ℕ → Proof → Type 0

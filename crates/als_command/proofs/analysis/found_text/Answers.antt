@@ -33,5 +33,6 @@ returns-in_ok-copy-in-Unknown c =
       lines = c.in-Unknown.lines;
       spent = found.0;
       lemmas = found.1;
+      few = found.2;
       text_is = cc (c.in_ok-copy-in-Unknown.ensures, c.deref-in-Unknown.ensures.value, c.in_ok-text-in-Unknown.ensures (length c.in-Unknown.lines) found.0);
     }

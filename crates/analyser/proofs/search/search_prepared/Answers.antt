@@ -11,7 +11,7 @@ pub returns-in_ok-table-in-Spent : goal.returns-in_ok-table-in-Spent
 returns-in_ok-table-in-Spent g c =
     let spent = subst (target.IsFoundWithin c.args.prepared.bounds.states c.args.budget) c.in-Spent.is c.in_ok-lasso.ensures.found in
     let spends = spent.1 in
-    (spends.0, (spends.1, spends.2))
+    (spends.0, spends.1, spends.2)
 
 pub returns-in_ok-table-in-Refuted : goal.returns-in_ok-table-in-Refuted
 returns-in_ok-table-in-Refuted g c =

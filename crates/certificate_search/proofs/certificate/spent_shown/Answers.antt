@@ -7,6 +7,7 @@ returns c = record {
   cnf = c.args.proof.cnf;
   lines = c.args.proof.lines;
   spent = c.requires.0;
-  lemmas = (c.requires.1, c.requires.2);
+  lemmas = c.requires.1;
+  few = c.requires.2;
   text_is = cc (c.in_ok-shown.ensures, c.deref.ensures.value, c.in_ok-text.ensures, c.in-Some.is, c.requires.0);
 }

@@ -4,7 +4,7 @@ use Rattle.trail_literals.specs.Literal.{IsLiteral}
 use Rattle.conflict_analysis.specs.Resolved.{AllFail}
 use Rattle.conflict_analysis.proofs.Noting.{longer_length}
 use Rattle.conflict_analysis.proofs.Trailing.{false_member}
-use Rattle.conflict_analysis.proofs.Parting.{asserts, all_literals, point_within}
+use Rattle.conflict_analysis.proofs.Parting.{asserts, closed_apart, all_literals, point_within}
 use Rattle.conflict_analysis.proofs.Taking.{all_fail_literals, dropped_fail, analysed_step}
 use Rattle.conflict_analysis.proofs.analysis.resolve_all.Goals as goal
 
@@ -49,3 +49,6 @@ returns-clause-asserting c = asserts c.args.trail.now _ _ _ _ _ _ _ _ _ c.requir
 
 pub returns-clause-literals : goal.returns-clause-literals
 returns-clause-literals c = all_literals c.args.trail.now _ _ _ _ c.requires.trail (returns-clause-analysed c)
+
+pub returns-clause-apart : goal.returns-clause-apart
+returns-clause-apart c = closed_apart c.args.trail.now _ _ _ _ _ _ _ _ _ c.requires.trail c.in_ok-point.ensures.found c.in_ok-part.ensures.parted c.in_ok-close.ensures

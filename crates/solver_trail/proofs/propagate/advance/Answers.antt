@@ -1,6 +1,6 @@
 use Rattle.std.proofs.Common.{◌∙◌, arith}
 use Rattle.solver_trail.proofs.Weaving.{IsKept-trans, kept_watched, longer-length}
-use Rattle.solver_trail.proofs.Reasoning.{forces_none, forces_trans}
+use Rattle.solver_trail.proofs.Reasoning.{forces_trans}
 use Rattle.solver_trail.proofs.propagate.advance.Goals as goal
 
 pub returns-in-Some-clause-kept : goal.returns-in-Some-clause-kept

@@ -1,4 +1,4 @@
-use Rattle.std.proofs.Common.{ℕ, ◌≡◌, ◌<◌, ◌-◌, ◌⊎◌, inl, inr, ap, subst, ◌∙◌, length, slice_index, arith}
+use Rattle.std.proofs.Common.{ℕ, ◌≡◌, ◌<◌, ◌-◌, ◌⊎◌, inl, inr, subst, length, arith}
 use Rattle.std.specs.List.{Contains}
 use Rattle.trail_literals.specs.Literal.{index}
 use Rattle.solver_trail.specs.Assignment.{value_at}

@@ -1,7 +1,7 @@
 use Rattle.std.proofs.Common.{◌≡◌, ◌+◌, ◌-◌, ◌/◌, ◌∙◌, ap, refl, neg_ℤ, arith}
 use Rattle.solver_trail.specs.Assignment.{Assignment}
 use Rattle.solver_trail.proofs.Weaving.{IsKept-trans, kept_true}
-use Rattle.solver_trail.proofs.Reasoning.{forces_none, forces_trans}
+use Rattle.solver_trail.proofs.Reasoning.{forces_trans}
 use Rattle.solver_trail.proofs.watches.Watches.visit.Goals as goal
 
 pub returns-then-not-take-clause-false_clause : goal.returns-then-not-take-clause-false_clause
