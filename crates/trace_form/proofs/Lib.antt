@@ -1,4 +1,6 @@
+pub mod Links
 pub mod Columns
+pub mod Counted
 pub mod Places
 pub mod Tuples
 pub mod Lines

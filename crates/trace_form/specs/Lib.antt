@@ -1,4 +1,5 @@
 pub mod Text
+pub mod Owners
 pub mod Made
 pub mod Unread
 pub mod Reading

@@ -29,7 +29,7 @@ pub struct RelationLabel {
 }
 
 /// The labels of relations, in the order in which they are written: each sig and then its fields,
-/// `String`, the sigs of literals, and fields without owner.
+/// `String`, the sigs of literals, and last the fields that no sig owns.
 pub type RelationLabelList = ItemList<RelationLabel>;
 
 /// The texts of the numbers of a universe, in order.

@@ -5,6 +5,7 @@ pub mod atom_index;
 pub mod label;
 pub mod left;
 pub mod make;
+pub mod owners;
 pub mod print;
 pub mod read;
 pub mod row;

@@ -1,9 +1,11 @@
 // The labels of a model.
 
-ghost use Rattle.std.specs.Prelude.{◌≡◌, ◌++◌, ◌+◌, ◌<◌, ◌≤◌, ◌^◌, length, All, IfOk, OnOk, codes, decimal};
-ghost use Rattle.trace_form.specs.Made.{IsFieldOf, IsRelationOf, AreRelationsOf, naming_of, numbered_texts, sig_texts, texts_before, integer_text, integer_texts, universe_texts};
+ghost use Rattle.std.specs.Prelude.{◌≡◌, ◌++◌, ◌+◌, ◌<◌, ◌≤◌, ◌^◌, ℕ, ◌∷◌, [], length, IfOk, OnOk, codes, decimal, slice_get, slice_index};
+ghost use Rattle.trace_form.specs.Owners.{owned, walk, IsLinked};
+ghost use Rattle.trace_form.specs.Made.{AreRelationsOf, naming_of, numbered_texts, sig_texts, texts_before, integer_text, integer_texts, universe_texts, shown_as, sig_label_at, field_label_at, field_labels, labels_before, relation_labels_of};
 
 use crate::label::{Labels, RelationLabel, RelationLabelList, Shown, TextList};
+use crate::owners::Owners;
 use alloy_base::Name;
 use core_meaning::{Scopes, SigScope};
 use core_tree::{Model, Sig, SigKind};
@@ -100,211 +102,151 @@ fn push_integers(alloc: Global, bits: u32, atoms: &mut TextList) -> Result<(), A
     Ok(())
 }
 
-/// The texts of the atoms that sigs name, and for each sig how many texts stand before its own.
-fn sig_atoms(
-    alloc: Global,
-    model: &Model,
-    scopes: &Scopes,
-    firsts: &mut Vec<u32>,
-) -> Result<TextList, AllocError>
-    requires { length scopes.now.numbers ≡ length model.now.sigs }
-    ensures { IfOk result (λ l. l ≡ texts_before model.now.sigs scopes.now.numbers (length model.now.sigs)) }
+/// A number in 32 bits. The only error is want of memory, which is also that it doesn't fit.
+fn short(number: usize) -> Result<u32, AllocError>
+    ensures { IfOk result (λ n. n ≡ number) }
 {
-    let mut atoms = TextList::new(alloc);
-    for place in 0..model.sigs.len() {
-        firsts.push(short(atoms.len()))?;
-        push_sig(
-            alloc,
-            model.sigs.get(place),
-            scopes.numbers.get(place),
-            &mut atoms,
-        )?;
+    match u32::try_from(number) {
+        Ok(short) => Ok(short),
+        Err(_) => Err(AllocError),
     }
-    Ok(atoms)
 }
 
-/// Whether a sig has a line: `String` has none where no literal's sig follows it.
-fn shown_of(model: &Model, place: usize, first: u32) -> Shown
-    requires { place < length model.now.sigs }
+/// Whether a sig has a line, and what it holds where it has none.
+fn shown_of(naming: Naming, last: bool, first: u32) -> Shown
+    ensures { result ≡ shown_as naming last first }
 {
-    match sig_naming(model.sigs.get(place)) {
+    match naming {
         Naming::Numbered => Shown::Line,
         Naming::Literal => Shown::Just(first),
-        Naming::Strings => {
-            if place == model.sigs.len() - 1 {
-                Shown::Nothing
-            } else {
-                Shown::Line
-            }
-        }
+        Naming::Strings => { if last { Shown::Nothing } else { Shown::Line } }
     }
 }
 
-/// The label of a sig.
-#[tactic(auto, using(crate::proofs::Columns::sig_column))]
+/// The label of a sig, before whose atoms so many others stand.
 fn sig_label(
     alloc: Global,
     model: &Model,
     place: usize,
-    firsts: &[u32],
+    first: u32,
 ) -> Result<RelationLabel, AllocError>
     requires few { length model.now.sigs + length model.now.fields < 2 ^ 32 }
     requires place { place < length model.now.sigs }
-    ensures { IfOk result (IsRelationOf model.now) }
+    ensures { IfOk result (λ r. r ∷ [] ≡ sig_label_at model.now first place (slice_get model.now.sigs place)) }
 {
     let sig = model.sigs.get(place);
-    let first = if place < firsts.len() {
-        firsts[place]
-    } else {
-        0
-    };
+    let label = Name::copy(alloc, sig.label.text())?;
+    let last = place + 1 == model.sigs.len();
     Ok(RelationLabel {
-        label: Name::copy(alloc, sig.label.text())?,
+        label,
         columns: 1,
         place: place as u32,
-        shown: shown_of(model, place, first),
+        shown: shown_of(sig_naming(sig), last, first),
     })
 }
 
 /// The label of a field.
-#[tactic(auto, using(crate::proofs::Columns::field_column))]
 fn field_label(alloc: Global, model: &Model, place: usize) -> Result<RelationLabel, AllocError>
     requires few { length model.now.sigs + length model.now.fields < 2 ^ 32 }
     requires place { place < length model.now.fields }
-    ensures { IfOk result (IsRelationOf model.now) }
+    ensures { IfOk result (λ r. r ∷ [] ≡ field_label_at model.now place (slice_get model.now.fields place)) }
 {
     let field = model.fields.get(place);
+    let label = Name::copy(alloc, field.label.text())?;
     Ok(RelationLabel {
-        label: Name::copy(alloc, field.label.text())?,
+        label,
         columns: field.columns,
         place: (model.sigs.len() + place) as u32,
         shown: Shown::Line,
     })
 }
 
-/// The owner of a field, or the greatest number where it has none.
-fn owner_of(model: &Model, field: usize) -> u32 {
-    if field < model.fields.len() {
-        if let Some(owner) = model.fields.get(field).owner {
-            return owner;
-        }
-    }
-    u32::MAX
-}
-
-/// A field and its owner.
-#[derive(Clone, Copy, Debug, Drop)]
-pub struct Owned {
-    pub owner: u32,
-    pub field: usize,
-}
-
-/// Each field with its owner, in the model's order.
-fn fields_with_owners(alloc: Global, model: &Model) -> Result<Vec<Owned>, AllocError>
-    ensures count { IfOk result (λ v. length v.items ≡ length model.now.fields) }
-    ensures range { IfOk result (λ v. All (IsFieldOf model.now) v.items) }
-{
-    let mut owned: Vec<Owned> = Vec::new(alloc);
-    for field in 0..model.fields.len() {
-        owned.push(Owned {
-            owner: owner_of(model, field),
-            field,
-        })?;
-    }
-    Ok(owned)
-}
-
-/// The fields by their owners, those without one last; fields of one owner are in the model's order.
-fn owned_fields(alloc: Global, model: &Model) -> Result<Vec<Owned>, AllocError>
-    ensures count { IfOk result (λ v. length v.items ≡ length model.now.fields) }
-    ensures range { IfOk result (λ v. All (IsFieldOf model.now) v.items) }
-{
-    let mut owned = fields_with_owners(alloc, model)?;
-    owned.sort_by_key(|owned: &Owned| owned.owner)?;
-    Ok(owned)
-}
-
-/// The place from which on the fields have another owner.
-fn owned_end(owned: &[Owned], owner: u32, from: usize) -> usize
-    requires { from ≤ length owned.now }
-    ensures from { from ≤ result }
-    ensures to { result ≤ length owned.now }
-{
-    for next in from..owned.len() {
-        if owned[next].owner != owner {
-            return next;
-        }
-    }
-    owned.len()
-}
-
-/// Adds the labels of fields.
+/// Adds the labels of the fields along links.
 fn push_fields(
     alloc: Global,
     model: &Model,
-    owned: &[Owned],
+    next: &[u32],
+    first: u32,
     relations: &mut RelationLabelList,
 ) -> Result<(), AllocError>
     requires few { length model.now.sigs + length model.now.fields < 2 ^ 32 }
-    requires range { All (IsFieldOf model.now) owned.now }
-    ensures count { OnOk result (length relations.new ≡ length relations.old + length owned.now) }
-    ensures labels { OnOk result (All (IsRelationOf model.now) relations.old → All (IsRelationOf model.now) relations.new) }
+    requires count { length next.now ≡ length model.now.fields }
+    requires inside { (k : ℕ) → slice_index next.now k ≤ length model.now.fields }
+    requires first { first ≤ length model.now.fields }
+    ensures { OnOk result (relations.new ≡ relations.old ++ field_labels model.now (walk (length model.now.fields) next.now (length model.now.fields) first)) }
 {
-    for next in owned {
-        relations.push(field_label(alloc, model, next.field)?)?;
+    let fields = next.len();
+    let mut link = first as usize;
+    for _step in 0..fields {
+        if link == 0 {
+            return Ok(());
+        }
+        relations.push(field_label(alloc, model, fields - link)?)?;
+        link = next[link - 1] as usize;
     }
     Ok(())
 }
 
-/// A number in 32 bits, or 0 where it doesn't fit.
-fn short(number: usize) -> u32 {
-    u32::try_from(number).unwrap_or(0)
-}
-
-/// Adds the label of a sig.
-fn push_sig_label(
+/// Adds the labels of the fields of an owner.
+fn push_owned(
     alloc: Global,
     model: &Model,
-    place: usize,
-    firsts: &[u32],
+    owners: &Owners,
+    owner: usize,
     relations: &mut RelationLabelList,
 ) -> Result<(), AllocError>
     requires few { length model.now.sigs + length model.now.fields < 2 ^ 32 }
-    requires place { place < length model.now.sigs }
-    ensures count { OnOk result (length relations.new ≡ length relations.old + 1) }
-    ensures labels { OnOk result (All (IsRelationOf model.now) relations.old → All (IsRelationOf model.now) relations.new) }
+    requires linked { IsLinked model.now owners.now.heads.items owners.now.next.items (length model.now.fields) }
+    requires owner { owner ≤ length model.now.sigs }
+    ensures { OnOk result (relations.new ≡ relations.old ++ field_labels model.now (owned model.now owner)) }
 {
-    relations.push(sig_label(alloc, model, place, firsts)?)
+    push_fields(
+        alloc,
+        model,
+        owners.next.as_slice(),
+        owners.heads[owner],
+        relations,
+    )
 }
 
-/// The labels of the relations: each sig and then its fields, and last the fields without owner.
-fn relation_labels(
+/// Adds the labels of the sigs, each followed by those of its fields, and the texts of the atoms that the sigs name.
+fn push_sigs(
     alloc: Global,
     model: &Model,
-    firsts: &[u32],
-) -> Result<RelationLabelList, AllocError>
-    requires { length model.now.sigs + length model.now.fields < 2 ^ 32 }
-    ensures count { IfOk result (λ l. length l ≡ length model.now.sigs + length model.now.fields) }
-    ensures labels { IfOk result (λ l. All (IsRelationOf model.now) l) }
+    scopes: &Scopes,
+    owners: &Owners,
+    relations: &mut RelationLabelList,
+    atoms: &mut TextList,
+) -> Result<(), AllocError>
+    requires sigs { length scopes.now.numbers ≡ length model.now.sigs }
+    requires few { length model.now.sigs + length model.now.fields < 2 ^ 32 }
+    requires linked { IsLinked model.now owners.now.heads.items owners.now.next.items (length model.now.fields) }
+    requires no_relations { relations.old ≡ [] }
+    requires no_atoms { atoms.old ≡ [] }
+    ensures relations { OnOk result (relations.new ≡ labels_before model.now scopes.now (length model.now.sigs)) }
+    ensures atoms { OnOk result (atoms.new ≡ texts_before model.now.sigs scopes.now.numbers (length model.now.sigs)) }
 {
-    let owned = owned_fields(alloc, model)?;
-    let mut relations = RelationLabelList::new(alloc);
-    let mut next = 0;
     for place in 0..model.sigs.len() {
-        push_sig_label(alloc, model, place, firsts, &mut relations)?;
-        let end = owned_end(&owned, short(place), next);
-        push_fields(alloc, model, &owned[next..end], &mut relations)?;
-        next = end;
+        let first = short(atoms.len())?;
+        relations.push(sig_label(alloc, model, place, first)?)?;
+        push_owned(alloc, model, owners, place, relations)?;
+        push_sig(
+            alloc,
+            model.sigs.get(place),
+            scopes.numbers.get(place),
+            atoms,
+        )?;
     }
-    push_fields(alloc, model, &owned[next..], &mut relations)?;
-    Ok(relations)
+    Ok(())
 }
 
 /// The labels of a model's relations and of the numbers of its universe.
 ///
-/// The scopes have an entry for each sig and a bitwidth from 1 to 12. There are as many labels as
+/// The scopes have an entry for each sig and a bitwidth from 1 to 12. The labels of relations are exactly those that the
+/// definition gives, in order: each sig and then its fields, and last the fields that no sig owns. There are as many as
 /// relations; each is that of a relation of the model, with its columns and its place in a state; the texts are those of the
-/// universe: the atoms of the top-level sigs, the literals, and the integers.
+/// universe: the atoms of the top-level sigs, the literals, and the integers. The only error is want of memory, which is
+/// also that there are 2^32 atoms of sigs or more.
 pub fn make_labels(alloc: Global, model: &Model, scopes: &Scopes) -> Result<Labels, AllocError>
     requires sigs { length scopes.now.numbers ≡ length model.now.sigs }
     requires few { length model.now.sigs + length model.now.fields < 2 ^ 32 }
@@ -312,11 +254,14 @@ pub fn make_labels(alloc: Global, model: &Model, scopes: &Scopes) -> Result<Labe
     requires most { scopes.now.bits ≤ 12 }
     ensures count { IfOk result (λ l. length l.relations ≡ length model.now.sigs + length model.now.fields) }
     ensures relations { IfOk result (λ l. AreRelationsOf model.now l) }
+    ensures labels { IfOk result (λ l. l.relations ≡ relation_labels_of model.now scopes.now) }
     ensures atoms { IfOk result (λ l. l.atoms ≡ universe_texts model.now scopes.now) }
 {
-    let mut firsts: Vec<u32> = Vec::new(alloc);
-    let mut atoms = sig_atoms(alloc, model, scopes, &mut firsts)?;
+    let owners = Owners::new(alloc, model)?;
+    let mut relations = RelationLabelList::new(alloc);
+    let mut atoms = TextList::new(alloc);
+    push_sigs(alloc, model, scopes, &owners, &mut relations, &mut atoms)?;
+    push_owned(alloc, model, &owners, model.sigs.len(), &mut relations)?;
     push_integers(alloc, scopes.bits, &mut atoms)?;
-    let relations = relation_labels(alloc, model, &firsts)?;
     Ok(Labels { relations, atoms })
 }

@@ -123,6 +123,128 @@ fn labels_are_made(rt: HostRuntime) -> Result<(), Fail> {
     Ok(())
 }
 
+/// Adds a sig that no text has.
+fn add_hidden(
+    alloc: Global,
+    sigs: &mut SigList,
+    label: &str,
+    kind: SigKind,
+) -> Result<(), AllocError> {
+    let mut sig = sig_of(alloc, label)?;
+    sig.origin = None;
+    sig.kind = kind;
+    sigs.push(sig)
+}
+
+/// Two sigs, `String` and a literal.
+fn many_sigs(alloc: Global) -> Result<SigList, AllocError> {
+    let mut sigs = SigList::new(alloc);
+    sigs.push(sig_of(alloc, "A")?)?;
+    sigs.push(sig_of(alloc, "B")?)?;
+    add_hidden(alloc, &mut sigs, "String", SigKind::Top)?;
+    add_hidden(alloc, &mut sigs, "\"x\"", SigKind::Extends(2))?;
+    Ok(sigs)
+}
+
+/// Adds a field of two columns.
+fn add_field(
+    alloc: Global,
+    fields: &mut FieldList,
+    label: &str,
+    owner: Option<u32>,
+) -> Result<(), AllocError> {
+    fields.push(Field {
+        label: Name::copy(alloc, label)?,
+        columns: 2,
+        rows: RowList::new(alloc),
+        is_var: false,
+        owner,
+        declared: None,
+    })
+}
+
+/// Four sigs and four fields, not in the order of their owners.
+fn many_relations(alloc: Global) -> Result<Model, AllocError> {
+    let sigs = many_sigs(alloc)?;
+    let mut fields = FieldList::new(alloc);
+    add_field(alloc, &mut fields, "B.g", Some(1))?;
+    add_field(alloc, &mut fields, "$r", None)?;
+    add_field(alloc, &mut fields, "A.f", Some(0))?;
+    add_field(alloc, &mut fields, "B.h", Some(1))?;
+    Ok(Model {
+        sigs,
+        fields,
+        facts: FactList::new(alloc),
+        asserts: AssertList::new(alloc),
+        bodies: BodyList::new(alloc),
+        commands: CommandList::new(alloc),
+    })
+}
+
+/// An atom of each sig.
+fn many_scopes(alloc: Global) -> Result<Scopes, AllocError>
+    ensures { IfOk result (λ s. s.bits ≡ 1) }
+{
+    let mut numbers = SigScopeList::new(alloc);
+    for _sig in 0..4u32 {
+        numbers.push(SigScope {
+            number: Some(1),
+            exact: true,
+            top: true,
+        })?;
+    }
+    Ok(Scopes {
+        numbers,
+        bits: 1,
+        states: 1,
+    })
+}
+
+/// Whether relations have these labels, in order, and these places.
+fn are_relations(relations: &RelationLabelList, expected: &[(&str, u32)]) -> bool {
+    for at in 0..expected.len() {
+        if at >= relations.len() {
+            return false;
+        }
+        let relation = relations.get(at);
+        if relation.label.text() != expected[at].0 || relation.place != expected[at].1 {
+            return false;
+        }
+    }
+    relations.len() == expected.len()
+}
+
+/// Whether the relations stand in their order: each sig and then its fields, and last what no sig owns.
+fn are_in_order(alloc: Global) -> Result<bool, AllocError> {
+    let model = many_relations(alloc)?;
+    let scopes = many_scopes(alloc)?;
+    if scopes.numbers.len() != model.sigs.len()
+        || model.sigs.len() > 100
+        || model.fields.len() > 100
+    {
+        return Ok(false);
+    }
+    let labels = make_labels(alloc, &model, &scopes)?;
+    let expected = [
+        ("A", 0u32),
+        ("A.f", 6),
+        ("B", 1),
+        ("B.g", 4),
+        ("B.h", 7),
+        ("String", 2),
+        ("\"x\"", 3),
+        ("$r", 5),
+    ];
+    let shown = labels.relations.len() > 6 && labels.relations.get(6).shown == Shown::Just(2);
+    Ok(shown && are_relations(&labels.relations, expected.as_slice()))
+}
+
+#[test]
+fn fields_follow_their_sigs(rt: HostRuntime) -> Result<(), Fail> {
+    assert!(rt; are_in_order(rt.alloc())?);
+    Ok(())
+}
+
 /// Adds the label of a relation of one column with a line.
 fn add(
     alloc: Global,

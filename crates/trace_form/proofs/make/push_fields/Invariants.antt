@@ -1,10 +1,11 @@
-use Rattle.std.proofs.Common.{◌≡◌, ◌+◌, All, length}
-use Rattle.trace_form.specs.Made.{IsRelationOf}
+use Rattle.std.proofs.Common.{◌≡◌, ◌++◌, ◌-◌, ◌≤◌, length}
+use Rattle.trace_form.specs.Owners.{walk}
+use Rattle.trace_form.specs.Made.{field_labels}
 use Rattle.trace_form.proofs.make.push_fields.Given as goal
 
-abbrev pub invariant-loop-next : goal.invariant-loop-next
-invariant-loop-next l =
+abbrev pub invariant-loop-step : goal.invariant-loop-step
+invariant-loop-step l =
     record {
-      count : length l.relations ≡ length l.initial.relations + l.next-index;
-      labels : All (IsRelationOf l.model) l.initial.relations → All (IsRelationOf l.model) l.relations;
+      inside : l.link ≤ length l.model.fields;
+      rest : l.relations ++ field_labels l.model (walk (length l.model.fields) l.next (length l.model.fields - l._step) l.link) ≡ l.initial.relations ++ field_labels l.model (walk (length l.model.fields) l.next (length l.model.fields) l.first);
     }
