@@ -6,6 +6,11 @@ use Rattle.target_search.proofs.search.search_lasso.Goals as goal
 pub returns-in-Spent-clause-found : goal.returns-in-Spent-clause-found
 returns-in-Spent-clause-found g c = (refl, subst (IsAnswer c.in_ok-cnf.cnf.variables c.in_ok-cnf.cnf.clauses c.args.budget) c.in-Spent.is c.in_ok-assignment.ensures)
 
+pub returns-in-Refutation-clause-found : goal.returns-in-Refutation-clause-found
+returns-in-Refutation-clause-found g c =
+    let refutes = subst (IsAnswer c.in_ok-cnf.cnf.variables c.in_ok-cnf.cnf.clauses c.args.budget) c.in-Refutation.is c.in_ok-assignment.ensures in
+    (refl, c.in_ok-rest.ensures.refutes refutes)
+
 pub returns-in-Refutation-clause-none : goal.returns-in-Refutation-clause-none
 returns-in-Refutation-clause-none g c =
     let refutes = subst (IsAnswer c.in_ok-cnf.cnf.variables c.in_ok-cnf.cnf.clauses c.args.budget) c.in-Refutation.is c.in_ok-assignment.ensures in
