@@ -11,6 +11,7 @@ use bounds_builder::{Bounds, decode, shortest};
 use cdcl_solver::solve_with;
 use chooser_box::Chooser;
 use core_meaning::{Lasso, Target};
+use lemma_trim::trim;
 use lrat_form::{Outcome, Proof, refutation_is_sound};
 use std::alloc::{AllocError, Global};
 use table_laws::candidates_are_told;
@@ -40,7 +41,12 @@ pub fn search_lasso<C: Chooser>(
         Outcome::Refutation(lines) => {
             refutation_is_sound();
             candidates_are_told();
-            Ok(Found::Refuted(Proof { states, cnf, lines }))
+            let rest = trim(alloc, &cnf, lines)?;
+            Ok(Found::Refuted(Proof {
+                states,
+                cnf,
+                lines: rest,
+            }))
         }
         Outcome::Spent(lines) => Ok(Found::Spent(Proof { states, cnf, lines })),
     }

@@ -16,6 +16,11 @@ returns-in-Spent-clause-found g c =
     let both : Some spends.0 ≡ Some (length lines) = sym spends.1 ∙ lemmas.0 in
     let same : spends.0 ≡ length lines = cc in (refl, (lemmas.0, subst (λ (n : ℕ). Spends cnf.clauses n lines) same spends.2, few))
 
+pub returns-in-Refutation-clause-found : goal.returns-in-Refutation-clause-found
+returns-in-Refutation-clause-found g c =
+    let refutes = subst (IsAnswer c.in_ok-cnf.cnf.variables c.in_ok-cnf.cnf.clauses c.args.budget) c.in-Refutation.is c.in_ok-assignment.ensures in
+    (refl, c.in_ok-rest.ensures.refutes refutes)
+
 pub returns-in-Refutation-clause-none : goal.returns-in-Refutation-clause-none
 returns-in-Refutation-clause-none g c =
     let refutes = subst (IsAnswer c.in_ok-cnf.cnf.variables c.in_ok-cnf.cnf.clauses c.args.budget) c.in-Refutation.is c.in_ok-assignment.ensures.answer in
