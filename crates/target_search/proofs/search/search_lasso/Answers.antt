@@ -18,7 +18,7 @@ returns-in-Spent-clause-found g c =
 
 pub returns-in-Refutation-clause-found : goal.returns-in-Refutation-clause-found
 returns-in-Refutation-clause-found g c =
-    let refutes = subst (IsAnswer c.in_ok-cnf.cnf.variables c.in_ok-cnf.cnf.clauses c.args.budget) c.in-Refutation.is c.in_ok-assignment.ensures in
+    let refutes = subst (IsAnswer c.in_ok-cnf.cnf.variables c.in_ok-cnf.cnf.clauses c.args.budget) c.in-Refutation.is c.in_ok-assignment.ensures.answer in
     (refl, c.in_ok-rest.ensures.refutes refutes)
 
 pub returns-in-Refutation-clause-none : goal.returns-in-Refutation-clause-none
