@@ -17,7 +17,7 @@ use Rattle.target_forms.specs.Targets.{fact_claims, IsTargetOf}
 use Rattle.target_forms.specs.declared.target.Part.{Part}
 use Rattle.target_search.specs.Clauses.{IsCovered}
 use Rattle.target_search.specs.Limits.{IsRuledOutOver}
-use Rattle.trace_form.specs.Made.{AreRelationsOf, universe_texts}
+use Rattle.trace_form.specs.Made.{AreRelationsOf, relation_labels_of, universe_texts}
 use Rattle.analyser.specs.declared.ready.Prepared.{Prepared}
 use Rattle.lrat_form.specs.Step.{Refutes}
 use Rattle.lrat_form.specs.Spent.{Spends}
@@ -28,8 +28,8 @@ use Rattle.analyser.specs.declared.fault.AnalyseFault.TheVariants.{Refused, Read
 
 -- a model made ready for its command of this number: the model keeps what resolved models keep, the parts
 -- are its facts and then that command, the target is that of the command under the scopes, these say what they are to say
--- of each sig, the bounds are those of the model and the scopes and have a table, and the labels are those of its relations and of
--- its universe
+-- of each sig, the bounds are those of the model and the scopes and have a table, and the labels are exactly those of its
+-- relations and of its universe
 pub record IsReady (number : ℕ) (prepared : Prepared) : Type 0 where
   pub kept : IsModelButTypes prepared.model
   pub command : Command
@@ -43,6 +43,7 @@ pub record IsReady (number : ℕ) (prepared : Prepared) : Type 0 where
   pub bounds_are : AreBoundsOf prepared.model prepared.scopes prepared.bounds
   pub states : prepared.bounds.states ≡ prepared.scopes.states
   pub relations_are : AreRelationsOf prepared.model prepared.labels
+  pub labels_are : prepared.labels.relations ≡ relation_labels_of prepared.model prepared.scopes
   pub atoms_are : prepared.labels.atoms ≡ universe_texts prepared.model prepared.scopes
 
 -- a lasso satisfies a model that was made ready and its command, which is the last part

@@ -7,7 +7,7 @@ ghost use Rattle.bounds_builder.specs.Uppers.{AreUppers};
 ghost use Rattle.analyser.specs.Found.{IsLoadedFault, IsReady};
 ghost use Rattle.model_test.specs.Kept.{IsModelButTypes};
 ghost use Rattle.scope_rules.specs.Limits.{AreScopes};
-ghost use Rattle.trace_form.specs.Made.{AreRelationsOf, universe_texts};
+ghost use Rattle.trace_form.specs.Made.{AreRelationsOf, relation_labels_of, universe_texts};
 
 use crate::fault::{AnalyseFault, of_loading, refused_in};
 use crate::settings::{Root, Settings};
@@ -119,6 +119,7 @@ fn bounds_of(
 /// The labels of the model's relations and atoms.
 fn labels_of(alloc: Global, model: &Model, scopes: &Scopes) -> Result<Labels, AllocError>
     ensures relations { IfOk result (λ labels. AreRelationsOf model.now labels) }
+    ensures labels { IfOk result (λ labels. labels.relations ≡ relation_labels_of model.now scopes.now) }
     ensures atoms { IfOk result (λ labels. labels.atoms ≡ universe_texts model.now scopes.now) }
     ensures counted { IfOk result (λ labels. length scopes.now.numbers ≡ length model.now.sigs) }
 {

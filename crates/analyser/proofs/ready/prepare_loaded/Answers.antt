@@ -15,5 +15,6 @@ returns-clause-ready c = record {
   bounds_are = record { uppers = c.in_ok-bounds.ensures.uppers; fixed = c.in_ok-bounds.ensures.fixed };
   states = (let some = c.in_ok-scopes.ensures.scopes.states.0 in c.in_ok-bounds.ensures.states (omega (arith, some)));
   relations_are = c.in_ok-labels.ensures.relations;
+  labels_are = c.in_ok-labels.ensures.labels;
   atoms_are = c.in_ok-labels.ensures.atoms;
 }
