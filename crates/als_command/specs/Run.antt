@@ -9,7 +9,7 @@ use Rattle.alloy_base.specs.declared.place.Rule.{Rule}
 use Rattle.analyser.specs.Found.{IsReady, NoneSatisfies, NoneWithin}
 use Rattle.analyser.specs.declared.ready.Prepared.{Prepared}
 use Rattle.alloy_base.specs.declared.limits.TheConstants.{FILE_BYTES}
-use Rattle.certificate_search.specs.Certificate.{ShowsTrace, ShowsOne, ShowsAbove, ShowsNone, ShowsCore, ShowsSpent}
+use Rattle.certificate_search.specs.Certificate.{ShowsTrace, ShowsOne, ShowsAbove, ShowsNone, ShowsNoneOf, ShowsCore, ShowsSpent, ShowsSpentOf}
 use Rattle.certificate_search.specs.declared.certificate.Certificate.{Certificate}
 use Rattle.certificate_search.specs.declared.certificate.Certificate.TheVariants as certificate
 use Rattle.core_tree.specs.Trees.{Term}
@@ -114,15 +114,21 @@ abbrev pub ShownTrace : Mode → ℕ → Part → List ℕ → Type 0
 ShownTrace Least number part text = OfModel number (λ prepared. ShowsOne prepared part text ⊎ ShowsAbove prepared part text)
 ShownTrace _ number part text = OfModel number (λ prepared. ShowsTrace prepared part text)
 
--- what is written where there is no trace: the part that is asked for, of clauses and lines that refute them, where no lasso within
--- the bounds satisfies the model and the command, if the target has plain forms alone; in a search for the fewest states, where none
--- of at most as many states as the scopes does, if the model is usual too; in a search for facts that rule out every trace with these
--- facts
+-- what is written where there is no trace: the part that is asked for, of clauses that say what the target of the model does and of
+-- lines that refute them, where no lasso within the bounds satisfies the model and the command, if the target has plain forms alone;
+-- in a search for the fewest states, where none of at most as many states as the scopes does, if the model is usual too; in a search
+-- for facts that rule out every trace with these facts
 abbrev pub ShownNone : Mode → ℕ → Part → List ℕ → Type 0
 ShownNone Core number part text = OfModel number (λ prepared. ShowsCore prepared part text)
-ShownNone Exec number part text = OfModel number (λ prepared. ShowsNone prepared.bounds.states part text × NoneSatisfies prepared)
+ShownNone Exec number part text = OfModel number (λ prepared. ShowsNoneOf prepared part text × NoneSatisfies prepared)
 ShownNone Least number part text = OfModel number (λ prepared. ShowsNone prepared.scopes.states part text × NoneWithin prepared prepared.scopes.states)
 ShownNone _ number part text = (states : ℕ) × ShowsNone states part text
+
+-- what is written where a budget is spent: clauses and a derivation that spends it; in a search for any trace the clauses say what
+-- the target of the model does
+abbrev pub ShownSpent : Mode → ℕ → Option ℕ → List ℕ → Type 0
+ShownSpent Exec number budget text = OfModel number (λ prepared. ShowsSpentOf prepared budget text)
+ShownSpent _ number budget text = ShowsSpent budget text
 
 -- what is said of the text of a trace in a mode: what a model and its command mean on it, or the tuples that some expression has
 -- there at the position of the settings
@@ -177,7 +183,7 @@ AllowsFiles files settings held before now (Refused refusal name) = (now ≡ bef
 AllowsFiles files settings held before now (ReadFault name) = IsSought settings name files × SomeRose before now
 AllowsFiles files settings held before now (Trace text) = (now ≡ before) × IsSearched held files settings × ShownTrace settings.mode settings.command settings.part text
 AllowsFiles files settings held before now (Absent text) = (now ≡ before) × IsSearched held files settings × ShownNone settings.mode settings.command settings.part text
-AllowsFiles files settings held before now (Unknown text) = (now ≡ before) × IsSearched held files settings × ShowsSpent settings.conflicts text
+AllowsFiles files settings held before now (Unknown text) = (now ≡ before) × IsSearched held files settings × ShownSpent settings.mode settings.command settings.conflicts text
 AllowsFiles files settings held before now (Made text) = (now ≡ before) × (settings.mode ≡ Make)
 AllowsFiles files settings held before now (Listed list) = (now ≡ before) × IsListed held files settings list
 AllowsFiles files settings held before now (Checked verdict clauses lines) = (now ≡ before) × IsProof held files settings verdict clauses lines
@@ -195,7 +201,7 @@ IsOnModel settings held text before now (Refused refusal name) = (now ≡ before
 IsOnModel settings held text before now (ReadFault name) = IsOpened settings name × SomeRose before now
 IsOnModel settings held text before now (Trace bytes) = (now ≡ before) × IsTrue (looks settings.mode) × SpellsModule (Some text) × ShownTrace settings.mode settings.command settings.part bytes
 IsOnModel settings held text before now (Absent bytes) = (now ≡ before) × IsTrue (looks settings.mode) × SpellsModule (Some text) × ShownNone settings.mode settings.command settings.part bytes
-IsOnModel settings held text before now (Unknown bytes) = (now ≡ before) × IsTrue (looks settings.mode) × SpellsModule (Some text) × ShowsSpent settings.conflicts bytes
+IsOnModel settings held text before now (Unknown bytes) = (now ≡ before) × IsTrue (looks settings.mode) × SpellsModule (Some text) × ShownSpent settings.mode settings.command settings.conflicts bytes
 IsOnModel settings held text before now (Made bytes) = ⊥
 IsOnModel settings held text before now (Listed list) = (now ≡ before) × (settings.mode ≡ Commands) × ListsModule (Some text) list
 IsOnModel settings held text before now (Checked verdict clauses lines) = ⊥
@@ -214,7 +220,7 @@ IsFoundIn mode number part budget (Refused refusal name) = ⊤
 IsFoundIn mode number part budget (ReadFault name) = ⊥
 IsFoundIn mode number part budget (Trace bytes) = ShownTrace mode number part bytes
 IsFoundIn mode number part budget (Absent bytes) = ShownNone mode number part bytes
-IsFoundIn mode number part budget (Unknown bytes) = ShowsSpent budget bytes
+IsFoundIn mode number part budget (Unknown bytes) = ShownSpent mode number budget bytes
 IsFoundIn mode number part budget (Made bytes) = ⊥
 IsFoundIn mode number part budget (Listed list) = ⊥
 IsFoundIn mode number part budget (Checked verdict clauses lines) = ⊥
@@ -396,7 +402,7 @@ pub record LeavesOpen (given : Option Settings) (held : List (Option Texts)) (ol
   pub text : List ℕ
   pub fit : given ≡ Some settings
   pub searched : IsSearched held (asked settings) settings
-  pub open_at : ShowsSpent settings.conflicts text
+  pub open_at : ShownSpent settings.mode settings.command settings.conflicts text
   pub line : Written old new text
 
 -- the run made a model and analysed it

@@ -15,7 +15,7 @@ use Rattle.scope_rules.specs.Limits.{AreScopes}
 use Rattle.type_laws.specs.Typed.{ExtendsPlain, BoundsNameOwned}
 use Rattle.target_forms.specs.Targets.{fact_claims, IsTargetOf}
 use Rattle.target_forms.specs.declared.target.Part.{Part}
-use Rattle.target_search.specs.Clauses.{IsCovered}
+use Rattle.target_search.specs.Clauses.{IsCovered, SayTarget}
 use Rattle.target_search.specs.Limits.{IsRuledOutOver}
 use Rattle.trace_form.specs.Made.{AreRelationsOf, relation_labels_of, universe_texts}
 use Rattle.analyser.specs.declared.ready.Prepared.{Prepared}
@@ -81,11 +81,12 @@ pub record NoneSatisfies (prepared : Prepared) : Type 0 where
 -- A trace satisfies the model and the command, and has the fewest states that show its sequence. Where there is no lasso, the lines
 -- refute the clauses, and where all formulas that are searched have plain forms no lasso satisfies the model and the command, as
 -- `NoneSatisfies` says. Only a budget that is spent leaves it open: there are just as many lemmas, each new and none empty, and one
--- more would pass; and it is below 3 to the power of the number of variables.
+-- more would pass; and it is below 3 to the power of the number of variables. The clauses say what the target does, as `SayTarget`
+-- tells.
 abbrev pub IsFoundIn : Prepared → Option ℕ → Answer → Type 0
 IsFoundIn prepared budget (Trace labels lasso) = (labels ≡ prepared.labels) × IsTraceOf prepared lasso × (length lasso.states ≤ prepared.bounds.states) × HasFewestStates lasso
-IsFoundIn prepared budget (Absent table states cnf lines) = (states ≡ prepared.bounds.states) × Refutes cnf.clauses lines × ((number : ℕ) → IsReady number prepared → NoneSatisfies prepared)
-IsFoundIn prepared budget (Unknown table cnf lines) = (budget ≡ Some (length lines)) × Spends cnf.clauses (length lines) lines × (length lines < 3 ^ cnf.variables)
+IsFoundIn prepared budget (Absent table states cnf lines) = (states ≡ prepared.bounds.states) × Refutes cnf.clauses lines × ((number : ℕ) → IsReady number prepared → NoneSatisfies prepared) × SayTarget prepared.target prepared.bounds cnf.clauses
+IsFoundIn prepared budget (Unknown table cnf lines) = (budget ≡ Some (length lines)) × Spends cnf.clauses (length lines) lines × (length lines < 3 ^ cnf.variables) × SayTarget prepared.target prepared.bounds cnf.clauses
 
 -- the same of a model that was made ready for its command of this number
 abbrev pub IsFound : ℕ → Option ℕ → Answer → Type 0

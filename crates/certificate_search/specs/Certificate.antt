@@ -13,6 +13,7 @@ use Rattle.judgement_texts.specs.declared.fact.FactName.{FactName}
 use Rattle.lrat_form.specs.Step.{Refutes}
 use Rattle.lrat_form.specs.Spent.{Spends}
 use Rattle.lrat_form.specs.declared.line.Line.{Line}
+use Rattle.target_search.specs.Clauses.{SayTarget}
 use Rattle.trace_form.specs.Text.{trace_text}
 use Rattle.certificate_search.specs.Kept.{AreNamed}
 use Rattle.certificate_search.specs.declared.certificate.Certificate.{Certificate}
@@ -52,6 +53,15 @@ pub record ShowsNone (states : ℕ) (part : Part) (text : List ℕ) : Type 0 whe
   pub refutes : Refutes cnf.clauses lines
   pub text_is : text ≡ absent_text part states table cnf lines
 
+-- the same of a prepared model: the clauses say what its target does, over as many states as its bounds have
+pub record ShowsNoneOf (prepared : Prepared) (part : Part) (text : List ℕ) : Type 0 where
+  pub table : List (List ℕ)
+  pub cnf : Cnf
+  pub lines : List Line
+  pub says : SayTarget prepared.target prepared.bounds cnf.clauses
+  pub refutes : Refutes cnf.clauses lines
+  pub text_is : text ≡ absent_text part prepared.bounds.states table cnf lines
+
 -- the part that is asked for of these facts, of clauses over so many states, and of lines that refute them
 pub record ShowsFacts (part : Part) (facts : List FactName) (text : List ℕ) : Type 0 where
   pub states : ℕ
@@ -77,6 +87,17 @@ pub record ShowsSpent (budget : Option ℕ) (text : List ℕ) : Type 0 where
   pub table : List (List ℕ)
   pub cnf : Cnf
   pub lines : List Line
+  pub spent : budget ≡ Some (length lines)
+  pub lemmas : Spends cnf.clauses (length lines) lines
+  pub few : length lines < 3 ^ cnf.variables
+  pub text_is : text ≡ unknown_text (length lines) table cnf lines
+
+-- the same of a prepared model: the clauses say what its target does
+pub record ShowsSpentOf (prepared : Prepared) (budget : Option ℕ) (text : List ℕ) : Type 0 where
+  pub table : List (List ℕ)
+  pub cnf : Cnf
+  pub lines : List Line
+  pub says : SayTarget prepared.target prepared.bounds cnf.clauses
   pub spent : budget ≡ Some (length lines)
   pub lemmas : Spends cnf.clauses (length lines) lines
   pub few : length lines < 3 ^ cnf.variables

@@ -49,6 +49,12 @@ pub record SayTarget (target : Target) (bounds : Bounds) (clauses : List (List �
 abbrev pub IsRuledOut : Target → Bounds → Type 0
 IsRuledOut target bounds = IsTable bounds → All IsCovered target.formulas → (lasso : LassoValue) → IsCandidate bounds lasso → Meets target lasso → ⊥
 
+-- the clauses of what is refuted, or left open, say what the target does
+abbrev pub SaysTarget : Target → Bounds → Found → Type 0
+SaysTarget target bounds (Lasso lasso) = Unit {0}
+SaysTarget target bounds (Refuted proof) = SayTarget target bounds proof.cnf.clauses
+SaysTarget target bounds (Spent proof) = SayTarget target bounds proof.cnf.clauses
+
 -- what is refuted rules the target out
 abbrev pub RulesOut : Target → Bounds → Found → Type 0
 RulesOut target bounds (Lasso lasso) = Unit {0}

@@ -1,7 +1,7 @@
 // The search for a lasso.
 
 ghost use Rattle.std.specs.Prelude.{◌≡◌, IfOk, length};
-ghost use Rattle.target_search.specs.Clauses.{RulesOut};
+ghost use Rattle.target_search.specs.Clauses.{RulesOut, SaysTarget};
 ghost use Rattle.target_search.specs.Found.{IsFound, IsFoundWithin};
 
 use crate::found::Found;
@@ -29,6 +29,7 @@ pub fn search_lasso<C: Chooser>(
     budget: Option<u64>,
 ) -> Result<Found, AllocError>
     ensures found { IfOk result (IsFound bounds.now.states budget) }
+    ensures says { IfOk result (SaysTarget target.now bounds.now) }
     ensures none { IfOk result (RulesOut target.now bounds.now) }
 {
     let states = bounds.states;
@@ -62,6 +63,7 @@ pub fn search_target<C: Chooser>(
     budget: Option<u64>,
 ) -> Result<Found, AllocError>
     ensures found { IfOk result (IsFoundWithin bounds.now.states budget) }
+    ensures says { IfOk result (SaysTarget target.now bounds.now) }
     ensures none { IfOk result (RulesOut target.now bounds.now) }
 {
     match search_lasso(alloc, target, bounds, chooser, budget)? {

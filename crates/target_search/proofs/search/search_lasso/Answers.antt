@@ -16,12 +16,18 @@ returns-in-Spent-clause-found g c =
     let both : Some spends.0 ≡ Some (length lines) = sym spends.1 ∙ lemmas.0 in
     let same : spends.0 ≡ length lines = cc in (refl, (lemmas.0, subst (λ (n : ℕ). Spends cnf.clauses n lines) same spends.2, few))
 
-pub returns-in-Refutation-clause-found : goal.returns-in-Refutation-clause-found
-returns-in-Refutation-clause-found g c =
-    let refutes = subst (IsAnswer c.in_ok-cnf.cnf.variables c.in_ok-cnf.cnf.clauses c.args.budget) c.in-Refutation.is c.in_ok-assignment.ensures.answer in
-    (refl, c.in_ok-rest.ensures.refutes refutes)
+pub returns-in-Spent-clause-says : goal.returns-in-Spent-clause-says
+returns-in-Spent-clause-says g c = c.in_ok-cnf.ensures
 
-pub returns-in-Refutation-clause-none : goal.returns-in-Refutation-clause-none
-returns-in-Refutation-clause-none g c =
+pub returns-in_ok-rest-in-Refutation-clause-says : goal.returns-in_ok-rest-in-Refutation-clause-says
+returns-in_ok-rest-in-Refutation-clause-says g c = c.in_ok-cnf.ensures
+
+pub returns-in_ok-rest-in-Refutation-clause-found : goal.returns-in_ok-rest-in-Refutation-clause-found
+returns-in_ok-rest-in-Refutation-clause-found g c =
+    let refutes = subst (IsAnswer c.in_ok-cnf.cnf.variables c.in_ok-cnf.cnf.clauses c.args.budget) c.in-Refutation.is c.in_ok-assignment.ensures.answer in
+    (refl, c.in_ok-rest-in-Refutation.ensures.refutes refutes)
+
+pub returns-in_ok-rest-in-Refutation-clause-none : goal.returns-in_ok-rest-in-Refutation-clause-none
+returns-in_ok-rest-in-Refutation-clause-none g c =
     let refutes = subst (IsAnswer c.in_ok-cnf.cnf.variables c.in_ok-cnf.cnf.clauses c.args.budget) c.in-Refutation.is c.in_ok-assignment.ensures.answer in
     ruled_out c.args.target.now c.args.bounds.now c.in_ok-cnf.cnf.clauses c.in-Refutation.lines c.refutation_is_sound.ensures c.candidates_are_told.ensures c.in_ok-cnf.ensures refutes
