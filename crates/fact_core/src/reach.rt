@@ -36,10 +36,19 @@ fn mark_sources(marks: &mut [bool], line: &Line)
     }
 }
 
+/// The number of the last lemma, or of the last clause where there is none.
+fn last_number(proof: &Proof) -> usize {
+    let clauses = proof.cnf.clauses.len();
+    match proof.lines.lines().last() {
+        Some(Line::Lemma { id, .. }) => clauses.max(*id as usize),
+        _ => clauses,
+    }
+}
+
 /// For each number of a clause or a lemma whether the refutation is drawn from it.
 fn reached(alloc: Global, proof: &Proof) -> Result<Vec<bool>, AllocError> {
     let lines = proof.lines.lines();
-    let count = proof.cnf.clauses.len().saturating_add(lines.len());
+    let count = last_number(proof);
     let mut marks = vec![in alloc; false; count.saturating_add(1)]?;
     for line in lines.iter().rev() {
         mark_sources(&mut marks, line);
