@@ -1,6 +1,6 @@
 pub mod Links
 pub mod Columns
-pub mod Counted
+pub mod Labelled
 pub mod Places
 pub mod Tuples
 pub mod Lines

@@ -1,7 +1,8 @@
 use Rattle.std.proofs.Common.{◌≡◌, List, length, ap, sym, subst, ◌∙◌, All, rules}
 use Rattle.trace_form.specs.declared.label.RelationLabel.{RelationLabel}
 use Rattle.trace_form.specs.Made.{IsRelationOf, relation_labels_of}
-use Rattle.trace_form.proofs.Counted.{labels_are, labels_count}
+use Rattle.trace_form.specs.CountLaws.{labels_count}
+use Rattle.trace_form.proofs.Labelled.{labels_are}
 use Rattle.trace_form.proofs.make.make_labels.Goals as goal
 
 pub returns-clause-count : goal.returns-clause-count

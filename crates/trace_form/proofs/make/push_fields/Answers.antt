@@ -1,7 +1,7 @@
 use Rattle.std.proofs.Common.{◌≡◌, ◌++◌, ◌+◌, ◌-◌, ℕ, length, ap, ◌∙◌, suc, arith, slice_get}
 use Rattle.trace_form.specs.Owners.{walk}
 use Rattle.trace_form.specs.Made.{field_labels, field_label_at}
-use Rattle.trace_form.proofs.Counted.{walk_step}
+use Rattle.trace_form.proofs.Labelled.{walk_step}
 use Rattle.trace_form.proofs.make.push_fields.Goals as goal
 
 pub loop-step-preserved : goal.loop-step-preserved
