@@ -7,7 +7,9 @@ use Rattle.analyser.specs.declared.ready.Prepared.{Prepared}
 use Rattle.answer_texts.specs.Answers.{absent_text, unknown_text}
 use Rattle.cnf_form.specs.declared.cnf.Cnf.{Cnf}
 use Rattle.command_words.specs.declared.named.Part.{Part}
+use Rattle.core_laws.specs.Kept.{NoneKeeps}
 use Rattle.core_meaning.specs.Sequence.{LassoValue}
+use Rattle.fact_core.specs.Parts.{RuleOut}
 use Rattle.judgement_texts.specs.Certified.{trace_part, above_part, core_part}
 use Rattle.judgement_texts.specs.declared.fact.FactName.{FactName}
 use Rattle.lrat_form.specs.Step.{Refutes}
@@ -62,24 +64,27 @@ pub record ShowsNoneOf (prepared : Prepared) (part : Part) (text : List ℕ) : T
   pub refutes : Refutes cnf.clauses lines
   pub text_is : text ≡ absent_text part prepared.bounds.states table cnf lines
 
--- the part that is asked for of these facts, of clauses over so many states, and of lines that refute them
-pub record ShowsFacts (part : Part) (facts : List FactName) (text : List ℕ) : Type 0 where
+-- the part that is asked for of these facts, of these clauses over so many states, and of lines that refute them
+pub record ShowsFacts (cnf : Cnf) (part : Part) (facts : List FactName) (text : List ℕ) : Type 0 where
   pub states : ℕ
   pub table : List (List ℕ)
-  pub cnf : Cnf
   pub lines : List Line
   pub refutes : Refutes cnf.clauses lines
   pub text_is : text ≡ core_part part states facts table cnf lines
 
 -- the part that is asked for of facts of a prepared model, each at most once and in order, none of them the last part, which is
--- the command; of clauses; and of lines that refute them
+-- the command; of clauses that say what the model's target does with these facts alone; and of lines that refute them, so that within
+-- the bounds no lasso satisfies the declarations, these facts and the command, as `NoneKeeps` says it
 pub record ShowsCore (prepared : Prepared) (part : Part) (text : List ℕ) : Type 0 where
   pub kept : List ℕ
   pub names : List FactName
   pub rising : IsStrictlyIncreasing kept
   pub facts : All (λ number. number < length prepared.parts - 1) kept
   pub named : AreNamed prepared.loaded prepared.parts kept names
-  pub shows : ShowsFacts part names text
+  pub cnf : Cnf
+  pub ruled : RuleOut prepared.model prepared.target prepared.first_fact (length prepared.parts - 1) kept cnf.clauses
+  pub none : (number : ℕ) → IsReady number prepared → NoneKeeps prepared ruled.limits kept
+  pub shows : ShowsFacts cnf part names text
 
 -- clauses, and just as many lemmas as the budget has, each new and none empty, behind which one more would pass; the budget is below 3
 -- to the power of the number of variables

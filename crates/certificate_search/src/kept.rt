@@ -12,6 +12,7 @@ use analyser::{PartList, Prepared, table};
 use bounds_builder::Bounds;
 use chooser_box::Chooser;
 use command_words::Part;
+use core_laws::kept_facts_rule_out;
 use fact_core::{Core, NumberList, find_core};
 use judgement_texts::{FactNameList, core_part, fact_name};
 use lrat_form::Proof;
@@ -39,6 +40,7 @@ pub fn core_certificate<C: Chooser>(
             Ok(Certificate::Trace(text))
         }
         Core::Facts { kept, proof } => {
+            kept_facts_rule_out();
             let names = kept_names(alloc, &prepared.loaded, &prepared.parts, &kept)?;
             let bounds = prepared.bounds;
             let text = core_shown(alloc, &prepared.labels, bounds, &names, proof, part)?;
@@ -94,7 +96,7 @@ fn core_shown(
     part: Part,
 ) -> Result<Bytes, AllocError>
     requires { Refutes proof.cnf.clauses proof.lines }
-    ensures { IfOk result (λ text. ShowsFacts part facts.now text) }
+    ensures { IfOk result (λ text. ShowsFacts proof.cnf part facts.now text) }
 {
     bounds.states = proof.states;
     let rows = table(alloc, labels, &bounds)?;

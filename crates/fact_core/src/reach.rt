@@ -2,7 +2,7 @@
 
 ghost use Rattle.std.specs.Prelude.{◌≡◌, length};
 
-use crate::part::{is_dropped, set_dropped};
+use crate::part::{drop_fact, is_dropped};
 use lrat_form::{Line, Proof};
 use std::alloc::{AllocError, Global};
 
@@ -73,7 +73,7 @@ pub fn drop_unreached(
         if !is_dropped(dropped, fact) {
             number = number.saturating_sub(1);
             if !is_marked(&marks, number) {
-                set_dropped(dropped, fact, true);
+                drop_fact(dropped, fact);
                 is_less = true;
             }
         }

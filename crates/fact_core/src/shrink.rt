@@ -1,11 +1,12 @@
 // Facts are left out one after the other.
 
-ghost use Rattle.std.specs.Prelude.{IfOk};
+ghost use Rattle.std.specs.Prelude.{◌≡◌, length, IfOk};
+ghost use Rattle.target_search.specs.Clauses.{SayTarget, IsRuledOut};
 ghost use Rattle.target_search.specs.Found.{IsRefuted, IsFoundWithin};
-ghost use Rattle.fact_core.specs.Core.{IsCore, IsTried};
+ghost use Rattle.fact_core.specs.Core.{IsCore, IsLeft, IsSearchedFor, IsShrunk, IsTried};
 
 use crate::answer::Core;
-use crate::part::{is_dropped, kept_facts, part_of, set_dropped};
+use crate::part::{drop_fact, is_dropped, kept_facts, part_of};
 use crate::reach::drop_unreached;
 use bounds_builder::Bounds;
 use chooser_box::Chooser;
@@ -33,10 +34,12 @@ fn search<C: Chooser>(
     dropped: &[bool],
     chooser: &mut C,
 ) -> Result<Found, AllocError>
-    ensures { IfOk result (IsFoundWithin question.now.limits.now.states question.now.budget) }
+    ensures found { IfOk result (IsFoundWithin question.now.limits.now.states question.now.budget) }
+    ensures part { IfOk result (IsSearchedFor question.now.target.now question.now.first question.now.limits.now dropped.now) }
 {
     let part = part_of(alloc, question.target, question.first, dropped)?;
-    search_target(alloc, &part, question.limits, chooser, question.budget)
+    let found = search_target(alloc, &part, question.limits, chooser, question.budget)?;
+    Ok(found)
 }
 
 /// Facts that are left out, with a refutation of the clauses for the others.
@@ -53,6 +56,17 @@ enum Tried {
     Spent(Proof),
 }
 
+/// What is left where no fact is left out.
+fn all_kept(alloc: Global, question: &Question, proof: Proof) -> Result<Left, AllocError>
+    requires refuted { IsRefuted question.now.limits.now.states proof }
+    requires says { SayTarget question.now.target.now question.now.limits.now proof.cnf.clauses }
+    requires ruled { IsRuledOut question.now.target.now question.now.limits.now }
+    ensures { IfOk result (IsLeft question.now.target.now question.now.first question.now.facts question.now.limits.now) }
+{
+    let dropped = vec![in alloc; false; question.facts as usize]?;
+    Ok(Left { dropped, proof })
+}
+
 /// Leaves out at once what the first refutation isn't drawn from.
 fn trim<C: Chooser>(
     alloc: Global,
@@ -60,22 +74,72 @@ fn trim<C: Chooser>(
     proof: Proof,
     chooser: &mut C,
 ) -> Result<Tried, AllocError>
-    requires { IsRefuted question.now.limits.now.states proof }
-    ensures { IfOk result (IsTried question.now.limits.now.states question.now.budget) }
+    requires refuted { IsRefuted question.now.limits.now.states proof }
+    requires says { SayTarget question.now.target.now question.now.limits.now proof.cnf.clauses }
+    requires ruled { IsRuledOut question.now.target.now question.now.limits.now }
+    ensures { IfOk result (IsTried question.now.target.now question.now.first question.now.facts question.now.limits.now question.now.budget) }
 {
     let mut dropped = vec![in alloc; false; question.facts as usize]?;
-    if !drop_unreached(alloc, &proof, &mut dropped)? {
-        return Ok(Tried::Left(Left { dropped, proof }));
+    let is_less = drop_unreached(alloc, &proof, &mut dropped)?;
+    if !is_less {
+        let left = all_kept(alloc, question, proof)?;
+        return Ok(Tried::Left(left));
     }
+    match search(alloc, question, &dropped, chooser)? {
+        Found::Refuted(smaller) => Ok(Tried::Left(Left {
+            dropped,
+            proof: smaller,
+        })),
+        Found::Spent(spent) => Ok(Tried::Spent(spent)),
+        Found::Lasso(_) => {
+            // A part that holds all that a refutation is drawn from has none.
+            let left = all_kept(alloc, question, proof)?;
+            Ok(Tried::Left(left))
+        }
+    }
+}
+
+/// The flags, with one fact more that is left out.
+fn without(alloc: Global, dropped: &[bool], fact: usize) -> Result<Vec<bool>, AllocError>
+    ensures { IfOk result (λ flags. length flags.items ≡ length dropped.now) }
+{
+    let mut flags = dropped.to_vec(alloc)?;
+    drop_fact(&mut flags, fact);
+    Ok(flags)
+}
+
+/// Leaves out a fact without which the others still rule out every lasso.
+fn leave_out<C: Chooser>(
+    alloc: Global,
+    question: &Question,
+    left: Left,
+    fact: usize,
+    chooser: &mut C,
+) -> Result<Tried, AllocError>
+    requires { IsLeft question.now.target.now question.now.first question.now.facts question.now.limits.now left }
+    ensures { IfOk result (IsTried question.now.target.now question.now.first question.now.facts question.now.limits.now question.now.budget) }
+{
+    if is_dropped(&left.dropped, fact) {
+        return Ok(Tried::Left(left));
+    }
+    let dropped = without(alloc, &left.dropped, fact)?;
     match search(alloc, question, &dropped, chooser)? {
         Found::Refuted(proof) => Ok(Tried::Left(Left { dropped, proof })),
         Found::Spent(proof) => Ok(Tried::Spent(proof)),
-        Found::Lasso(_) => {
-            // A part that holds all that a refutation is drawn from has none.
-            let dropped = vec![in alloc; false; question.facts as usize]?;
-            Ok(Tried::Left(Left { dropped, proof }))
-        }
+        Found::Lasso(_) => Ok(Tried::Left(left)),
     }
+}
+
+/// The facts that are kept.
+fn facts_of(alloc: Global, question: &Question, left: Left) -> Result<Core, AllocError>
+    requires { IsLeft question.now.target.now question.now.first question.now.facts question.now.limits.now left }
+    ensures { IfOk result (IsShrunk question.now.target.now question.now.first question.now.facts question.now.limits.now question.now.budget) }
+{
+    let kept = kept_facts(alloc, question.facts, &left.dropped)?;
+    Ok(Core::Facts {
+        kept,
+        proof: left.proof,
+    })
 }
 
 /// Leaves out each fact without which the others still rule out every lasso.
@@ -85,25 +149,18 @@ fn shrink<C: Chooser>(
     left: Left,
     chooser: &mut C,
 ) -> Result<Core, AllocError>
-    requires { IsRefuted question.now.limits.now.states left.proof }
-    ensures { IfOk result (IsCore question.now.limits.now.states question.now.facts question.now.budget) }
+    requires { IsLeft question.now.target.now question.now.first question.now.facts question.now.limits.now left }
+    ensures { IfOk result (IsShrunk question.now.target.now question.now.first question.now.facts question.now.limits.now question.now.budget) }
 {
-    let Left {
-        mut dropped,
-        mut proof,
-    } = left;
+    let mut rest = left;
     for fact in 0..question.facts as usize {
-        if !is_dropped(&dropped, fact) {
-            set_dropped(&mut dropped, fact, true);
-            match search(alloc, question, &dropped, chooser)? {
-                Found::Refuted(smaller) => proof = smaller,
-                Found::Lasso(_) => set_dropped(&mut dropped, fact, false),
-                Found::Spent(proof) => return Ok(Core::Unknown(proof)),
-            }
+        match leave_out(alloc, question, rest, fact, chooser)? {
+            Tried::Left(smaller) => rest = smaller,
+            Tried::Spent(proof) => return Ok(Core::Unknown(proof)),
         }
     }
-    let kept = kept_facts(alloc, question.facts, &dropped)?;
-    Ok(Core::Facts { kept, proof })
+    let core = facts_of(alloc, question, rest)?;
+    Ok(core)
 }
 
 /// Facts of the target, whose formulas are `facts` ones from `first_fact` on, that rule out every lasso together with its
@@ -120,7 +177,7 @@ pub fn find_core<C: Chooser>(
     chooser: &mut C,
     budget: Option<u64>,
 ) -> Result<Core, AllocError>
-    ensures { IfOk result (IsCore target.now.scopes.states facts budget) }
+    ensures { IfOk result (IsCore model.now target.now first_fact facts budget) }
 {
     let limits = limits_of(alloc, model, &target.scopes)?;
     let question = Question {
@@ -133,9 +190,29 @@ pub fn find_core<C: Chooser>(
     match search_target(alloc, target, &limits, chooser, budget)? {
         Found::Lasso(lasso) => Ok(Core::Trace(lasso)),
         Found::Spent(proof) => Ok(Core::Unknown(proof)),
-        Found::Refuted(proof) => match trim(alloc, &question, proof, chooser)? {
-            Tried::Left(left) => shrink(alloc, &question, left, chooser),
-            Tried::Spent(proof) => Ok(Core::Unknown(proof)),
-        },
+        Found::Refuted(proof) => {
+            let tried = trim(alloc, &question, proof, chooser)?;
+            let core = shrunk(alloc, &question, tried, chooser)?;
+            Ok(core)
+        }
+    }
+}
+
+/// What is kept of what the first two searches leave.
+fn shrunk<C: Chooser>(
+    alloc: Global,
+    question: &Question,
+    tried: Tried,
+    chooser: &mut C,
+) -> Result<Core, AllocError>
+    requires { IsTried question.now.target.now question.now.first question.now.facts question.now.limits.now question.now.budget tried }
+    ensures { IfOk result (IsShrunk question.now.target.now question.now.first question.now.facts question.now.limits.now question.now.budget) }
+{
+    match tried {
+        Tried::Left(left) => {
+            let core = shrink(alloc, question, left, chooser)?;
+            Ok(core)
+        }
+        Tried::Spent(proof) => Ok(Core::Unknown(proof)),
     }
 }

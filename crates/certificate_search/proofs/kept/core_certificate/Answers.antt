@@ -1,17 +1,22 @@
 use Rattle.std.proofs.Common.{ℕ, ◌<◌, subst}
 use Rattle.std.specs.List.{All}
 use Rattle.fact_core.specs.Core.{IsCore}
+use Rattle.fact_core.specs.Parts.{RuleOut}
 use Rattle.fact_core.specs.declared.answer.Core.{Core}
 use Rattle.certificate_search.proofs.kept.core_certificate.Goals as goal
 
 pub returns-in_ok-text-in-Facts : goal.returns-in_ok-text-in-Facts
 returns-in_ok-text-in-Facts g c =
-    let found = subst (λ (x : Core). IsCore c.args.prepared.target.scopes.states c.in_ok-facts.facts c.args.budget x) c.in-Facts.is c.in_ok-lasso.ensures in
+    let found = subst (λ (x : Core). IsCore c.args.prepared.model c.args.prepared.target c.args.prepared.first_fact c.in_ok-facts.facts c.args.budget x) c.in-Facts.is c.in_ok-lasso.ensures in
+    let ruled = subst (λ (n : ℕ). RuleOut c.args.prepared.model c.args.prepared.target c.args.prepared.first_fact n c.in-Facts.kept c.in-Facts.proof.cnf.clauses) c.in_ok-facts.ensures found.2 in
     record {
       kept = c.in-Facts.kept;
       names = c.in_ok-names-in-Facts.names;
       rising = found.0.0;
       facts = subst (λ (n : ℕ). All (λ number. number < n) c.in-Facts.kept) c.in_ok-facts.ensures found.0.1;
       named = c.in_ok-names-in-Facts.ensures;
+      cnf = c.in-Facts.proof.cnf;
+      ruled = ruled;
+      none = λ number ready. c.kept_facts_rule_out.ensures number c.args.prepared c.in-Facts.kept c.in-Facts.proof.cnf.clauses ready ruled;
       shows = c.in_ok-text-in-Facts.ensures;
     }

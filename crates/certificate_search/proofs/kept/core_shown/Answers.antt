@@ -4,7 +4,6 @@ pub returns : goal.returns
 returns c = record {
   states = c.args.proof.states;
   table = c.in_ok-rows.rows;
-  cnf = c.args.proof.cnf;
   lines = c.args.proof.lines;
   refutes = c.requires;
   text_is = cc (c.in_ok-shown.ensures, c.deref.ensures.value, c.in_ok-text.ensures, c.as_slice-names.ensures);

@@ -1,5 +1,5 @@
-use Rattle.target_search.specs.Found.{IsRefuted}
+use Rattle.fact_core.specs.Core.{IsLeft}
 use Rattle.fact_core.proofs.shrink.shrink.Given as goal
 
 abbrev pub invariant-loop-fact : goal.invariant-loop-fact
-invariant-loop-fact g l = IsRefuted l.question.limits.now.states l.proof
+invariant-loop-fact g l = IsLeft l.question.target.now l.question.first l.question.facts l.question.limits.now l.rest
