@@ -1,0 +1,5 @@
+pub mod Bytes
+pub mod Apart
+pub mod Atoms
+pub mod Relations
+pub mod Held
