@@ -1,19 +1,32 @@
 -- What the parts of a judgement say together.
-use Rattle.std.proofs.Common.{◌≡◌, ◌↔◌, ℕ, ◌+◌, ◌<◌, List, [], ◌∷◌, ◌++◌, refl, sym, subst, arith, length, take, get_or, All, Option, Some, None, is_none, Bool, true, false, ◌&&◌, IsTrue}
+use Rattle.std.proofs.Common.{◌≡◌, ◌↔◌, ℕ, ◌+◌, ◌<◌, List, [], ◌∷◌, ◌++◌, refl, sym, subst, length, take, get_or, All, Option, Some, None, is_none, Bool, true, ◌&&◌, IsTrue}
 use Rattle.std.specs.List.{list_all}
 use Rattle.std.proofs.lemmas.Bool.{and_parts, and_from}
 use Rattle.std.proofs.lemmas.List.{take_more}
 use Rattle.std.proofs.lemmas.List.Elements.{All-nil, All-cons, All-head, All-tail, All-append}
 use Rattle.analyser.specs.declared.ready.Prepared.{Prepared}
 use Rattle.core_meaning.specs.Sequence.{LassoValue}
-use Rattle.core_meaning.specs.Kept.{Keeps}
 use Rattle.core_meaning.specs.Satisfied.{DeclaresAt}
 use Rattle.judgement_texts.specs.Judged.{is_satisfied}
 use Rattle.judgement_texts.specs.declared.judgement.JudgedFact.{JudgedFact}
 use Rattle.judgement_texts.specs.declared.judgement.Judgement.{Judgement}
 use Rattle.target_forms.specs.declared.target.Part.{Part}
 use Rattle.trace_evaluator.specs.Asked.{IsFirstWithout}
-use Rattle.trace_judge.specs.Judged.{PartHolds, IsJudgedFact, AreJudged, IsRight, IsSatisfied}
+use Rattle.core_tree.specs.Trees.{Term}
+use Rattle.trace_judge.specs.declared.answer.TraceAnswer.{TraceAnswer}
+use Rattle.trace_judge.specs.declared.answer.TraceAnswer.TheVariants.{Judged, Valued, BadTrace}
+use Rattle.trace_judge.specs.Judged.{PartHolds, IsJudgedFact, AreJudged, IsRight, IsSatisfied, IsNotRead, IsJudgement, IsValue}
+
+-- an answer that a text is no trace is one of each mode
+pub not_judged : (prepared : Prepared) (trace : List ℕ) (answer : TraceAnswer) → IsNotRead prepared trace answer → IsJudgement prepared trace answer
+not_judged prepared trace (Judged satisfied text) is = absurd is
+not_judged prepared trace (Valued text) is = absurd is
+not_judged prepared trace (BadTrace line) is = is
+
+pub not_valued : (prepared : Prepared) (value : Term) (position : ℕ) (trace : List ℕ) (answer : TraceAnswer) → IsNotRead prepared trace answer → IsValue prepared value position trace answer
+not_valued prepared value position trace (Judged satisfied text) is = absurd is
+not_valued prepared value position trace (Valued text) is = absurd is
+not_valued prepared value position trace (BadTrace line) is = is
 
 module _ (prepared : Prepared) (lasso : LassoValue) where
   abbrev Holds : Part → Type 0

@@ -1,5 +1,6 @@
 -- What is said of a trace: of a lasso whose text it is, and by what the model means on it.
 use Rattle.std.specs.Prelude.{◌≡◌, ◌↔◌, ℕ, Bool, IsTrue, List, [], ◌∷◌, ◌++◌, All, codes, ⊤}
+use Rattle.analyser.specs.Found.{IsReady}
 use Rattle.analyser.specs.declared.ready.Prepared.{Prepared}
 use Rattle.als_tree.specs.declared.loaded.Loaded.{Loaded}
 use Rattle.core_tree.specs.Trees.{Term, claim_of}
@@ -13,9 +14,11 @@ use Rattle.judgement_texts.specs.Judged.{judgement_text, is_satisfied}
 use Rattle.judgement_texts.specs.declared.fact.FactName.{FactName}
 use Rattle.judgement_texts.specs.declared.judgement.Judgement.{Judgement}
 use Rattle.judgement_texts.specs.declared.judgement.JudgedFact.{JudgedFact}
+use Rattle.label_laws.specs.Labelled.{IsLabelled, AreNumbered}
 use Rattle.set_operators.specs.SetOf.{IsSetOf}
 use Rattle.trace_evaluator.specs.Asked.{IsFirstWithout}
 use Rattle.trace_form.specs.Text.{trace_text, tuples_text}
+use Rattle.trace_laws.specs.Fault.{NamesFirst}
 use Rattle.tuple_sets.specs.Sets.{TupleList, IsTupleSet}
 use Rattle.trace_judge.specs.declared.answer.TraceAnswer.{TraceAnswer}
 use Rattle.trace_judge.specs.declared.answer.TraceAnswer.TheVariants.{Judged, Valued, BadTrace}
@@ -79,14 +82,25 @@ pub record IsValued (prepared : Prepared) (value : Term) (position : ℕ) (trace
   pub has : IsSetOf set (InTermAt prepared.model prepared.scopes lasso value no_names position)
   pub text_is : text ≡ value_text prepared.labels.atoms set.tuples
 
+-- The line is the first at which no text of a lasso of the model's labels has all lines up to it: of a model that was made ready, whose
+-- sigs and fields are called so that traces can be read under their names, and whose universe is small enough.
+abbrev pub IsBadTrace : Prepared → List ℕ → ℕ → Type 0
+IsBadTrace prepared trace line = (number : ℕ) → IsReady number prepared → IsLabelled prepared.model → AreNumbered prepared.model prepared.scopes → NamesFirst prepared.labels trace line
+
+-- an answer that a text is no trace
+abbrev pub IsNotRead : Prepared → List ℕ → TraceAnswer → Type 0
+IsNotRead prepared trace (Judged satisfied text) = ⊥
+IsNotRead prepared trace (Valued text) = ⊥
+IsNotRead prepared trace (BadTrace line) = IsBadTrace prepared trace line
+
 -- an answer of the mode that judges a trace
 abbrev pub IsJudgement : Prepared → List ℕ → TraceAnswer → Type 0
 IsJudgement prepared trace (Judged satisfied text) = IsJudged prepared trace satisfied text
 IsJudgement prepared trace (Valued text) = ⊥
-IsJudgement prepared trace (BadTrace line) = ⊤
+IsJudgement prepared trace (BadTrace line) = IsBadTrace prepared trace line
 
 -- an answer of the mode that evaluates an expression on a trace
 abbrev pub IsValue : Prepared → Term → ℕ → List ℕ → TraceAnswer → Type 0
 IsValue prepared value position trace (Judged satisfied text) = ⊥
 IsValue prepared value position trace (Valued text) = IsValued prepared value position trace text
-IsValue prepared value position trace (BadTrace line) = ⊤
+IsValue prepared value position trace (BadTrace line) = IsBadTrace prepared trace line

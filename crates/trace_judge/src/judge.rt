@@ -5,6 +5,7 @@ ghost use Rattle.trace_form.specs.Text.{trace_text};
 ghost use Rattle.trace_judge.specs.Judged.{IsJudgement, IsRight, IsJudgedFact, AreJudged, PartHolds};
 
 use crate::answer::TraceAnswer;
+use crate::unread::not_read;
 use alloy_base::Bytes;
 use analyser::{Part, Prepared};
 use core_meaning::Lasso;
@@ -13,7 +14,7 @@ use judgement_texts::{
 };
 use std::alloc::{AllocError, Global};
 use trace_evaluator::{declared, holds, keeps};
-use trace_form::{TraceFault, read_trace};
+use trace_form::read_trace;
 
 /// Judges the trace that a text spells: whether it keeps the scopes, the first position at which the declarations don't hold,
 /// and whether each fact and the command hold at the first position, by what the model means.
@@ -26,8 +27,10 @@ pub fn judge_trace(
 {
     match read_trace(alloc, &prepared.labels, trace) {
         Ok(lasso) => judged_text(alloc, prepared, &lasso, trace),
-        Err(TraceFault::BadTrace { line }) => Ok(TraceAnswer::BadTrace(line)),
-        Err(TraceFault::Memory) => Err(AllocError),
+        Err(fault) => {
+            let answer = not_read(prepared, trace, fault)?;
+            Ok(answer)
+        }
     }
 }
 

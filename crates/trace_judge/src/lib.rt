@@ -6,6 +6,7 @@
 mod answer;
 mod expression;
 mod judge;
+mod unread;
 mod value;
 
 pub use answer::TraceAnswer;

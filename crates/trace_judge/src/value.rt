@@ -6,13 +6,14 @@ ghost use Rattle.trace_form.specs.Text.{trace_text};
 ghost use Rattle.trace_judge.specs.Judged.{IsValue, value_text};
 
 use crate::answer::TraceAnswer;
+use crate::unread::not_read;
 use alloy_base::Bytes;
 use analyser::Prepared;
 use core_meaning::Lasso;
 use core_tree::Expr;
 use std::alloc::{AllocError, Global};
 use trace_evaluator::tuples;
-use trace_form::{TextList, TraceFault, push_tuples, read_trace};
+use trace_form::{TextList, push_tuples, read_trace};
 use tuple_sets::TupleSet;
 
 /// The tuples of an expression at a position of the sequence of the trace that a text spells: just those of its meaning, in
@@ -28,8 +29,10 @@ pub fn value_on_trace(
 {
     match read_trace(alloc, &prepared.labels, trace) {
         Ok(lasso) => valued(alloc, prepared, value, position, &lasso, trace),
-        Err(TraceFault::BadTrace { line }) => Ok(TraceAnswer::BadTrace(line)),
-        Err(TraceFault::Memory) => Err(AllocError),
+        Err(fault) => {
+            let answer = not_read(prepared, trace, fault)?;
+            Ok(answer)
+        }
     }
 }
 
