@@ -2,7 +2,7 @@
 use Rattle.std.proofs.Common.{ℕ, Option, subst}
 use Rattle.analyser.specs.Found.{IsReady, NoneWithin}
 use Rattle.analyser.specs.declared.ready.Prepared.{Prepared}
-use Rattle.certificate_search.specs.Certificate.{ShowsNone, IsLeastText, IsCoreText}
+use Rattle.certificate_search.specs.Certificate.{ShowsNone, SayOverStates, IsLeastText, IsCoreText}
 use Rattle.certificate_search.specs.declared.certificate.Certificate.{Certificate}
 use Rattle.certificate_search.specs.declared.certificate.Certificate.TheVariants.{Trace, Absent, Unknown}
 use Rattle.command_words.specs.declared.named.Mode.TheVariants.{Least, Core}
@@ -14,10 +14,10 @@ module _ (number : ℕ) (part : Part) (budget : Option ℕ) (prepared : Prepared
   least_found (Trace text) shows = (prepared, ready, shows)
   least_found (Absent text) (states, shows, none) =
       let within = none number ready in
-      (prepared, ready, (subst (λ n. ShowsNone n part text) within.0 shows, subst (NoneWithin prepared) within.0 within.1))
-  least_found (Unknown text) shows = shows
+      (prepared, ready, (subst (λ n. ShowsNone (SayOverStates prepared n) n part text) within.0 shows, subst (NoneWithin prepared) within.0 within.1))
+  least_found (Unknown text) shows = (prepared, ready, shows)
 
   pub core_found : (found : Certificate) → IsCoreText prepared part budget found → IsFoundIn Core number part budget (answer_of found)
   core_found (Trace text) shows = (prepared, ready, shows)
   core_found (Absent text) shows = (prepared, ready, shows)
-  core_found (Unknown text) shows = shows
+  core_found (Unknown text) shows = (prepared, ready, shows)

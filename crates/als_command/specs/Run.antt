@@ -9,7 +9,7 @@ use Rattle.alloy_base.specs.declared.place.Rule.{Rule}
 use Rattle.analyser.specs.Found.{IsReady, NoneSatisfies, NoneWithin}
 use Rattle.analyser.specs.declared.ready.Prepared.{Prepared}
 use Rattle.alloy_base.specs.declared.limits.TheConstants.{FILE_BYTES}
-use Rattle.certificate_search.specs.Certificate.{ShowsTrace, ShowsOne, ShowsAbove, ShowsNone, ShowsNoneOf, ShowsCore, ShowsSpent, ShowsSpentOf}
+use Rattle.certificate_search.specs.Certificate.{ShowsTrace, ShowsOne, ShowsAbove, ShowsNone, ShowsCore, ShowsSpent, SayAll, SayOverStates, SayOverSome, SayOfSome}
 use Rattle.certificate_search.specs.declared.certificate.Certificate.{Certificate}
 use Rattle.certificate_search.specs.declared.certificate.Certificate.TheVariants as certificate
 use Rattle.core_tree.specs.Trees.{Term}
@@ -120,15 +120,17 @@ ShownTrace _ number part text = OfModel number (λ prepared. ShowsTrace prepared
 -- for facts that rule out every trace with these facts
 abbrev pub ShownNone : Mode → ℕ → Part → List ℕ → Type 0
 ShownNone Core number part text = OfModel number (λ prepared. ShowsCore prepared part text)
-ShownNone Exec number part text = OfModel number (λ prepared. ShowsNoneOf prepared part text × NoneSatisfies prepared)
-ShownNone Least number part text = OfModel number (λ prepared. ShowsNone prepared.scopes.states part text × NoneWithin prepared prepared.scopes.states)
-ShownNone _ number part text = (states : ℕ) × ShowsNone states part text
+ShownNone Exec number part text = OfModel number (λ prepared. ShowsNone (SayAll prepared) prepared.bounds.states part text × NoneSatisfies prepared)
+ShownNone Least number part text = OfModel number (λ prepared. ShowsNone (SayOverStates prepared prepared.scopes.states) prepared.scopes.states part text × NoneWithin prepared prepared.scopes.states)
+ShownNone _ number part text = (states : ℕ) × ShowsNone (λ cnf. ⊤) states part text
 
--- what is written where a budget is spent: clauses and a derivation that spends it; in a search for any trace the clauses say what
--- the target of the model does
+-- what is written where a budget is spent: clauses that say what the target of the model does, over some number of states in a search
+-- for the fewest, and with some of the facts alone in a search for facts; and a derivation that spends it
 abbrev pub ShownSpent : Mode → ℕ → Option ℕ → List ℕ → Type 0
-ShownSpent Exec number budget text = OfModel number (λ prepared. ShowsSpentOf prepared budget text)
-ShownSpent _ number budget text = ShowsSpent budget text
+ShownSpent Exec number budget text = OfModel number (λ prepared. ShowsSpent (SayAll prepared) budget text)
+ShownSpent Least number budget text = OfModel number (λ prepared. ShowsSpent (SayOverSome prepared) budget text)
+ShownSpent Core number budget text = OfModel number (λ prepared. ShowsSpent (SayOfSome prepared) budget text)
+ShownSpent _ number budget text = ShowsSpent (λ cnf. ⊤) budget text
 
 -- what is said of the text of a trace in a mode: what a model and its command mean on it, or the tuples that some expression has
 -- there at the position of the settings

@@ -1,5 +1,5 @@
 -- The texts of searches, and what they show.
-use Rattle.std.specs.Prelude.{◌≡◌, ◌⊎◌, ◌<◌, ◌-◌, ◌^◌, ℕ, List, length, Option, Some}
+use Rattle.std.specs.Prelude.{◌≡◌, ◌⊎◌, ◌<◌, ◌≤◌, ◌-◌, ◌^◌, ℕ, List, length, Option, Some}
 use Rattle.std.specs.List.{All}
 use Rattle.std.specs.List.Sorted.{IsStrictlyIncreasing}
 use Rattle.analyser.specs.Found.{IsReady, IsTraceOf, NoneWithin}
@@ -9,11 +9,12 @@ use Rattle.cnf_form.specs.declared.cnf.Cnf.{Cnf}
 use Rattle.command_words.specs.declared.named.Part.{Part}
 use Rattle.core_laws.specs.Kept.{NoneKeeps}
 use Rattle.core_meaning.specs.Sequence.{LassoValue}
-use Rattle.fact_core.specs.Parts.{RuleOut}
+use Rattle.fact_core.specs.Parts.{RuleOut, SayPart}
 use Rattle.judgement_texts.specs.Certified.{trace_part, above_part, core_part}
 use Rattle.judgement_texts.specs.declared.fact.FactName.{FactName}
 use Rattle.lrat_form.specs.Step.{Refutes}
 use Rattle.lrat_form.specs.Spent.{Spends}
+use Rattle.least_trace.specs.Least.{SayOver}
 use Rattle.lrat_form.specs.declared.line.Line.{Line}
 use Rattle.target_search.specs.Clauses.{SayTarget}
 use Rattle.trace_form.specs.Text.{trace_text}
@@ -34,8 +35,8 @@ pub record ShowsOne (prepared : Prepared) (part : Part) (text : List ℕ) : Type
   pub one : length lasso.states ≡ 1
   pub text_is : text ≡ trace_part part (trace_text prepared.labels lasso)
 
--- the part that is asked for of a trace of several states, and of clauses and lines that refute them, where no lasso of fewer
--- states satisfies the model and its command, as `NoneWithin` says it
+-- the part that is asked for of a trace of several states, of clauses over one state less, which say what the target does, and of lines
+-- that refute them, where no lasso of fewer states satisfies the model and its command, as `NoneWithin` says it
 pub record ShowsAbove (prepared : Prepared) (part : Part) (text : List ℕ) : Type 0 where
   pub lasso : LassoValue
   pub trace : IsTraceOf prepared lasso
@@ -44,25 +45,22 @@ pub record ShowsAbove (prepared : Prepared) (part : Part) (text : List ℕ) : Ty
   pub table : List (List ℕ)
   pub cnf : Cnf
   pub lines : List Line
+  pub says : SayOver prepared.model prepared.target (length lasso.states - 1) cnf.clauses
   pub refutes : Refutes cnf.clauses lines
   pub text_is : text ≡ above_part part (trace_text prepared.labels lasso) table cnf lines
 
--- the part that is asked for of clauses over so many states, and of lines that refute them
-pub record ShowsNone (states : ℕ) (part : Part) (text : List ℕ) : Type 0 where
+-- the part that is asked for of these clauses, over so many states, and of lines that refute them
+pub record IsNoneText (cnf : Cnf) (states : ℕ) (part : Part) (text : List ℕ) : Type 0 where
   pub table : List (List ℕ)
-  pub cnf : Cnf
   pub lines : List Line
   pub refutes : Refutes cnf.clauses lines
   pub text_is : text ≡ absent_text part states table cnf lines
 
--- the same of a prepared model: the clauses say what its target does, over as many states as its bounds have
-pub record ShowsNoneOf (prepared : Prepared) (part : Part) (text : List ℕ) : Type 0 where
-  pub table : List (List ℕ)
+-- the same of clauses that say something
+pub record ShowsNone (Says : Cnf → Type 0) (states : ℕ) (part : Part) (text : List ℕ) : Type 0 where
   pub cnf : Cnf
-  pub lines : List Line
-  pub says : SayTarget prepared.target prepared.bounds cnf.clauses
-  pub refutes : Refutes cnf.clauses lines
-  pub text_is : text ≡ absent_text part prepared.bounds.states table cnf lines
+  pub says : Says cnf
+  pub shows : IsNoneText cnf states part text
 
 -- the part that is asked for of these facts, of these clauses over so many states, and of lines that refute them
 pub record ShowsFacts (cnf : Cnf) (part : Part) (facts : List FactName) (text : List ℕ) : Type 0 where
@@ -86,37 +84,45 @@ pub record ShowsCore (prepared : Prepared) (part : Part) (text : List ℕ) : Typ
   pub none : (number : ℕ) → IsReady number prepared → NoneKeeps prepared ruled.limits kept
   pub shows : ShowsFacts cnf part names text
 
--- clauses, and just as many lemmas as the budget has, each new and none empty, behind which one more would pass; the budget is below 3
--- to the power of the number of variables
-pub record ShowsSpent (budget : Option ℕ) (text : List ℕ) : Type 0 where
+-- these clauses, and just as many lemmas as the budget has, each new and none empty, behind which one more would pass; the budget is
+-- below 3 to the power of the number of variables
+pub record IsSpentText (cnf : Cnf) (budget : Option ℕ) (text : List ℕ) : Type 0 where
   pub table : List (List ℕ)
-  pub cnf : Cnf
   pub lines : List Line
   pub spent : budget ≡ Some (length lines)
   pub lemmas : Spends cnf.clauses (length lines) lines
   pub few : length lines < 3 ^ cnf.variables
   pub text_is : text ≡ unknown_text (length lines) table cnf lines
 
--- the same of a prepared model: the clauses say what its target does
-pub record ShowsSpentOf (prepared : Prepared) (budget : Option ℕ) (text : List ℕ) : Type 0 where
-  pub table : List (List ℕ)
+-- the same of clauses that say something
+pub record ShowsSpent (Says : Cnf → Type 0) (budget : Option ℕ) (text : List ℕ) : Type 0 where
   pub cnf : Cnf
-  pub lines : List Line
-  pub says : SayTarget prepared.target prepared.bounds cnf.clauses
-  pub spent : budget ≡ Some (length lines)
-  pub lemmas : Spends cnf.clauses (length lines) lines
-  pub few : length lines < 3 ^ cnf.variables
-  pub text_is : text ≡ unknown_text (length lines) table cnf lines
+  pub says : Says cnf
+  pub shows : IsSpentText cnf budget text
+
+-- what clauses say in each search in a prepared model: what its target does, over as many states as its bounds have; over some number
+-- of states; or with some of its facts alone
+abbrev pub SayAll : Prepared → Cnf → Type 0
+SayAll prepared cnf = SayTarget prepared.target prepared.bounds cnf.clauses
+
+abbrev pub SayOverStates : Prepared → ℕ → Cnf → Type 0
+SayOverStates prepared states cnf = SayOver prepared.model prepared.target states cnf.clauses
+
+abbrev pub SayOverSome : Prepared → Cnf → Type 0
+SayOverSome prepared cnf = (states : ℕ) × (0 < states) × (states ≤ prepared.target.scopes.states) × SayOverStates prepared states cnf
+
+abbrev pub SayOfSome : Prepared → Cnf → Type 0
+SayOfSome prepared cnf = SayPart prepared.model prepared.target prepared.first_fact cnf.clauses
 
 -- the answer of a search for a trace of the fewest states of a prepared model. Where there is no trace, no lasso of at most as many
 -- states as the scopes satisfies the model and its command, as `NoneWithin` says it
 abbrev pub IsLeastText : Prepared → Part → Option ℕ → Certificate → Type 0
 IsLeastText prepared part budget (Trace text) = ShowsOne prepared part text ⊎ ShowsAbove prepared part text
-IsLeastText prepared part budget (Absent text) = (states : ℕ) × ShowsNone states part text × ((number : ℕ) → IsReady number prepared → (states ≡ prepared.scopes.states) × NoneWithin prepared states)
-IsLeastText prepared part budget (Unknown text) = ShowsSpent budget text
+IsLeastText prepared part budget (Absent text) = (states : ℕ) × ShowsNone (SayOverStates prepared states) states part text × ((number : ℕ) → IsReady number prepared → (states ≡ prepared.scopes.states) × NoneWithin prepared states)
+IsLeastText prepared part budget (Unknown text) = ShowsSpent (SayOverSome prepared) budget text
 
 -- the answer of a search for facts of a prepared model that rule out every trace
 abbrev pub IsCoreText : Prepared → Part → Option ℕ → Certificate → Type 0
 IsCoreText prepared part budget (Trace text) = ShowsTrace prepared part text
 IsCoreText prepared part budget (Absent text) = ShowsCore prepared part text
-IsCoreText prepared part budget (Unknown text) = ShowsSpent budget text
+IsCoreText prepared part budget (Unknown text) = ShowsSpent (SayOfSome prepared) budget text

@@ -6,7 +6,7 @@ ghost use Rattle.analyser.specs.declared.ready.Prepared.{Prepared as PreparedOf}
 ghost use Rattle.target_search.specs.Found.{Spends};
 ghost use Rattle.trace_form.specs.Text.{trace_text};
 ghost use Rattle.judgement_texts.specs.Certified.{trace_part};
-ghost use Rattle.certificate_search.specs.Certificate.{ShowsTrace, ShowsSpent};
+ghost use Rattle.certificate_search.specs.Certificate.{ShowsTrace, IsSpentText};
 
 use alloy_base::Bytes;
 use analyser::{Prepared, is_trace, table};
@@ -67,7 +67,7 @@ pub fn spent_shown(
     budget: Option<u64>,
 ) -> Result<Bytes, AllocError>
     requires { Spends budget proof }
-    ensures { IfOk result (λ text. ShowsSpent budget text) }
+    ensures { IfOk result (λ text. IsSpentText proof.cnf budget text) }
 {
     bounds.states = proof.states;
     let Some(conflicts) = budget else {

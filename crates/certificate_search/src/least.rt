@@ -3,7 +3,7 @@
 ghost use Rattle.std.specs.Prelude.{◌≡◌, ◌⊎◌, ◌<◌, ◌-◌, ℕ, IfOk, length, None, Some};
 ghost use Rattle.analyser.specs.Found.{IsReady, IsTraceOf, NoneWithin};
 ghost use Rattle.lrat_form.specs.Step.{Refutes};
-ghost use Rattle.certificate_search.specs.Certificate.{IsLeastText, ShowsOne, ShowsAbove, ShowsNone};
+ghost use Rattle.certificate_search.specs.Certificate.{IsLeastText, ShowsOne, ShowsAbove, IsNoneText, SayOverStates};
 
 use crate::certificate::{Certificate, lasso_part, spent_shown, test_trace};
 use alloy_base::Bytes;
@@ -61,6 +61,7 @@ fn least_shown(
     requires trace { IsTraceOf prepared lasso.now }
     requires none { below ≡ None → length lasso.now.states ≡ 1 }
     requires some { (proof : _) → below ≡ Some proof → (1 < length lasso.now.states) × Refutes proof.cnf.clauses proof.lines × ((number : ℕ) → IsReady number prepared → NoneWithin prepared (length lasso.now.states - 1)) }
+    requires says { (proof : _) → below ≡ Some proof → SayOverStates prepared (length lasso.now.states - 1) proof.cnf }
     ensures { IfOk result (λ text. ShowsOne prepared part text ⊎ ShowsAbove prepared part text) }
 {
     match below {
@@ -96,6 +97,7 @@ fn above_shown(
     requires more { 1 < length lasso.now.states }
     requires refutes { Refutes proof.cnf.clauses proof.lines }
     requires none { (number : ℕ) → IsReady number prepared → NoneWithin prepared (length lasso.now.states - 1) }
+    requires says { SayOverStates prepared (length lasso.now.states - 1) proof.cnf }
     ensures { IfOk result (λ text. ShowsAbove prepared part text) }
 {
     let trace = print_trace(alloc, &prepared.labels, lasso)?;
@@ -116,7 +118,7 @@ fn none_shown(
     part: Part,
 ) -> Result<Bytes, AllocError>
     requires { Refutes proof.cnf.clauses proof.lines }
-    ensures { IfOk result (ShowsNone proof.states part) }
+    ensures { IfOk result (λ text. IsNoneText proof.cnf proof.states part text) }
 {
     bounds.states = proof.states;
     let rows = table(alloc, labels, &bounds)?;

@@ -71,7 +71,7 @@ whole_part target first n dropped is = record {
 pub searched_for : (target part : Target) (first : ℕ) (limits : Bounds) (dropped : List Bool) (found : Found) → IsPartOf target first dropped part → SaysTarget part limits found → RulesOut part limits found → IsSearchedFor target first limits dropped found
 searched_for target part first limits dropped (Lasso lasso) is says rules = tt
 searched_for target part first limits dropped (Refuted proof) is says rules = record { part = part; is_part = is; says = says; ruled = rules }
-searched_for target part first limits dropped (Spent proof) is says rules = tt
+searched_for target part first limits dropped (Spent proof) is says rules = record { part = part; is_part = is; says = says }
 
 pub shrunk_core : (model : Model) (target : Target) (first facts : ℕ) (limits : Bounds) (budget : Option ℕ) (found : Core) → limits.states ≡ target.scopes.states → AreLimitsOf model target.scopes limits → IsShrunk target first facts limits budget found → IsCore model target first facts budget found
 shrunk_core model target first facts limits budget (core.Trace lasso) states are shrunk = absurd shrunk
@@ -80,4 +80,7 @@ shrunk_core model target first facts limits budget (core.Facts kept proof) state
   (shrunk.1.0 ∙ states, shrunk.1.1),
   record { dropped = shrunk.2; left_out = shrunk.3; limits = limits; states = states; limits_are = are; refuted = shrunk.4 },
 )
-shrunk_core model target first facts limits budget (core.Unknown proof) states are shrunk = (shrunk.0 ∙ states, shrunk.1)
+shrunk_core model target first facts limits budget (core.Unknown proof) states are shrunk = (
+  (shrunk.0.0 ∙ states, shrunk.0.1),
+  record { dropped = shrunk.1; limits = limits; states = states; limits_are = are; said = shrunk.2 },
+)

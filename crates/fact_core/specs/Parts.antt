@@ -28,12 +28,27 @@ pub record IsPartOf (target : Target) (first : ℕ) (dropped : List Bool) (part 
   pub scopes : part.scopes ≡ target.scopes
   pub formulas : map claim_of part.formulas ≡ staying (stays first dropped) 0 target.formulas
 
--- clauses say what a target does without the formulas of the facts that are left out, and rule it out within the limits
+-- clauses say what a target does without the formulas of the facts that are left out, within the limits
+pub record AreSaidFor (target : Target) (first : ℕ) (limits : Bounds) (dropped : List Bool) (clauses : List (List ℤ)) : Type 0 where
+  pub part : Target
+  pub is_part : IsPartOf target first dropped part
+  pub says : SayTarget part limits clauses
+
+-- and they rule it out there
 pub record AreRefutedFor (target : Target) (first : ℕ) (limits : Bounds) (dropped : List Bool) (clauses : List (List ℤ)) : Type 0 where
   pub part : Target
   pub is_part : IsPartOf target first dropped part
   pub says : SayTarget part limits clauses
   pub ruled : IsRuledOut part limits
+
+-- clauses say what a target does without the formulas of some facts, within the bounds of the model, over as many states as the scopes
+-- say
+pub record SayPart (model : Model) (target : Target) (first : ℕ) (clauses : List (List ℤ)) : Type 0 where
+  pub dropped : List Bool
+  pub limits : Bounds
+  pub states : limits.states ≡ target.scopes.states
+  pub limits_are : AreLimitsOf model target.scopes limits
+  pub said : AreSaidFor target first limits dropped clauses
 
 -- of so many facts those are left out whose numbers aren't kept
 pub record AreLeftOut (facts : ℕ) (kept : List ℕ) (dropped : List Bool) : Type 0 where

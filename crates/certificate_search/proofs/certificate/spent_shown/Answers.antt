@@ -4,7 +4,6 @@ use Rattle.certificate_search.proofs.certificate.spent_shown.Goals as goal
 pub returns : goal.returns
 returns c = record {
   table = c.in_ok-rows.rows;
-  cnf = c.args.proof.cnf;
   lines = c.args.proof.lines;
   spent = c.requires.0;
   lemmas = c.requires.1;

@@ -5,6 +5,11 @@ use Rattle.fact_core.specs.Parts.{RuleOut}
 use Rattle.fact_core.specs.declared.answer.Core.{Core}
 use Rattle.certificate_search.proofs.kept.core_certificate.Goals as goal
 
+pub returns-in_ok-text-in-Unknown : goal.returns-in_ok-text-in-Unknown
+returns-in_ok-text-in-Unknown g c =
+    let found = subst (λ (x : Core). IsCore c.args.prepared.model c.args.prepared.target c.args.prepared.first_fact c.in_ok-facts.facts c.args.budget x) c.in-Unknown.is c.in_ok-lasso.ensures in
+    record { cnf = c.in-Unknown.proof.cnf; says = found.1; shows = c.in_ok-text-in-Unknown.ensures }
+
 pub returns-in_ok-text-in-Facts : goal.returns-in_ok-text-in-Facts
 returns-in_ok-text-in-Facts g c =
     let found = subst (λ (x : Core). IsCore c.args.prepared.model c.args.prepared.target c.args.prepared.first_fact c.in_ok-facts.facts c.args.budget x) c.in-Facts.is c.in_ok-lasso.ensures in

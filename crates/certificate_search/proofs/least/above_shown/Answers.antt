@@ -9,6 +9,7 @@ returns c = record {
   table = c.in_ok-rows.rows;
   cnf = c.args.proof.cnf;
   lines = c.args.proof.lines;
+  says = c.requires.says;
   refutes = c.requires.refutes;
   text_is = cc (c.in_ok-shown.ensures, c.deref.ensures.value, c.deref-2.ensures.value, c.in_ok-text.ensures, c.in_ok-trace.ensures);
 }
