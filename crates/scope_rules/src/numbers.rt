@@ -1,7 +1,8 @@
 //! How many atoms each sig has.
 
-ghost use Rattle.std.specs.Prelude.{◌≡◌, ◌<◌, ◌≤◌, length, All, IfOk, IsTrue};
+ghost use Rattle.std.specs.Prelude.{◌≡◌, ◌<◌, ◌≤◌, ◌&&◌, length, is_some, All, IfOk, IsTrue};
 ghost use Rattle.core_meaning.specs.Kept.{atoms_of_sig, atom_count};
+ghost use Rattle.scope_rules.specs.Sums.{counts_exactly, summed, of_parent};
 
 use crate::entries::{Listed, Scope};
 use crate::order::{leaves_first, parent_of};
@@ -44,7 +45,10 @@ const NO_CHILDREN: Family = Family {
 };
 
 /// The family with one sig more.
-fn with_child(family: Family, child: Known) -> Family {
+fn with_child(family: Family, child: Known) -> Family
+    ensures exact { result.exact ≡ (counts_exactly child && family.exact) }
+    ensures numbered { result.numbered ≡ (is_some child.number && family.numbered) }
+{
     match child.number {
         None => Family {
             some: true,
@@ -56,7 +60,7 @@ fn with_child(family: Family, child: Known) -> Family {
         Some(number) => Family {
             some: true,
             numbered: family.numbered,
-            exact: family.exact && child.exact,
+            exact: child.exact && family.exact,
             sum: family.sum.saturating_add(number),
             exact_sum: if child.exact {
                 family.exact_sum.saturating_add(number)
@@ -144,14 +148,18 @@ fn own_numbers(
 }
 
 /// An abstract sig without a number whose children all have one has their sum.
-fn summed(sig: &Sig, known: Known, family: Family) -> Known {
-    if known.number.is_none() && sig.is_abstract && family.some && family.numbered {
-        Known {
-            number: Some(family.sum),
-            exact: family.exact,
-        }
-    } else {
-        known
+fn summed(sig: &Sig, known: Known, family: Family) -> Known
+    ensures { result ≡ summed sig.now.is_abstract known family }
+{
+    if known.number.is_some() {
+        return known;
+    }
+    if !sig.is_abstract || !family.some || !family.numbered {
+        return known;
+    }
+    Known {
+        number: Some(family.sum),
+        exact: family.exact,
     }
 }
 
@@ -212,6 +220,19 @@ fn number_tops(sigs: &[Sig], known: &mut Vec<Known>, families: &[Family], overal
     }
 }
 
+/// The number of a sig that extends another: its parent's where it has none of its own.
+fn of_parent(known: Known, parent: Known) -> Known
+    ensures { result ≡ of_parent known parent }
+{
+    if known.number.is_some() {
+        return known;
+    }
+    Known {
+        number: parent.number,
+        exact: known.exact,
+    }
+}
+
 /// A child without a number has its parent's.
 fn number_children(sigs: &[Sig], order: &[usize], known: &mut Vec<Known>)
     requires order { All (λ s. s < length sigs.now) order.now }
@@ -221,9 +242,7 @@ fn number_children(sigs: &[Sig], order: &[usize], known: &mut Vec<Known>)
     for place in (0..order.len()).rev() {
         let sig = order[place];
         if let Some(parent) = parent_of(sigs, sig) {
-            if known[sig].number.is_none() {
-                known[sig].number = known[parent].number;
-            }
+            known[sig] = of_parent(known[sig], known[parent]);
         }
     }
 }
