@@ -1,15 +1,15 @@
-//! The analyser's program: it makes the libraries, the choosers and the sink, and ends with the status of the one call.
+//! The answer_analysis's program: it makes the libraries, the choosers and the sink, and ends with the status of the one call.
 #![tactic(auto)]
 
-use alloy_base::Library;
-use als_command::run_words;
-use chooser_box::{Activity, Chooser, FirstFree};
-use host_edge::{FolderLibrary, StdSink};
+use base_host::{FolderLibrary, StdSink};
+use base_library::EmbeddedLibrary;
+use base_types::Library;
+use cli_run::run_words;
+use sat_decide::{Activity, Chooser, FirstFree};
 use std::alloc::AllocError;
 use std::io::ErrorKind;
 use std::process::ExitCode;
 use std::{env, io};
-use util_library::EmbeddedLibrary;
 
 /// The status where there is no memory before the one call is made.
 const NO_MEMORY: u8 = 5;

@@ -1,11 +1,11 @@
 -- The texts of answers with clauses.
 use Rattle.std.specs.Prelude.{ℕ, List, ◌++◌, length, codes, decimal}
-use Rattle.command_words.specs.declared.named.Part.{Part}
-use Rattle.command_words.specs.declared.named.Part.TheVariants as part
-use Rattle.cnf_form.specs.declared.cnf.Cnf.{Cnf}
-use Rattle.cnf_form.specs.Text.{cnf_text}
-use Rattle.lrat_form.specs.declared.line.Line.{Line}
-use Rattle.lrat_form.specs.Text.{lines_text}
+use Rattle.cli_words.specs.declared.named.Part.{Part}
+use Rattle.cli_words.specs.declared.named.Part.TheVariants as part
+use Rattle.sat_dimacs.specs.declared.cnf.Cnf.{Cnf}
+use Rattle.sat_dimacs.specs.Text.{cnf_text}
+use Rattle.sat_lrat.specs.declared.line.Line.{Line}
+use Rattle.sat_lrat.specs.Text.{lines_text}
 
 -- the line that no trace of so many states is there
 abbrev pub none_line : ℕ → List ℕ

@@ -1,1 +1,5 @@
+pub mod Lines
 pub mod Answers
+pub mod Facts
+pub mod Judged
+pub mod Certified

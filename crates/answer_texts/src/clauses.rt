@@ -4,9 +4,9 @@ ghost use Rattle.std.specs.Prelude.{◌≡◌, ◌++◌, OnOk, IfOk, codes};
 ghost use Rattle.answer_texts.specs.Answers.{none_line, unknown_line, block_text, absent_text, unknown_text};
 
 use crate::write::push_decimal;
-use cnf_form::{Cnf, Table, print_cnf};
-use command_words::Part;
-use lrat_form::{LineList, print_lines};
+use cli_words::Part;
+use sat_dimacs::{Cnf, Table, print_cnf};
+use sat_lrat::{LineList, print_lines};
 use std::alloc::{AllocError, Global};
 
 /// Writes the line that there is no trace of so many states.

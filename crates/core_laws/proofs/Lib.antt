@@ -1,1 +1,12 @@
-pub mod KeptLaw
+mod Happening
+mod Meanings
+mod Satisfying
+mod Climbs
+mod Closed
+mod Fields
+mod Held
+mod Members
+mod Ranges
+mod Rows
+mod Standing
+mod Terms

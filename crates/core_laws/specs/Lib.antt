@@ -1,1 +1,4 @@
-pub mod Kept
+pub mod Listed
+pub mod Unique
+pub mod Sequences
+pub mod Typed

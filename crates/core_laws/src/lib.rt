@@ -1,10 +1,46 @@
-//! A law: what facts that rule out every lasso mean for the model.
+//! Laws of the meaning of models.
+//!
+//! A law: what a lasso satisfies is told by the sequence of states that it shows.
+//!
+//! A law: where the declarations of a model hold, its fields lie in their upper bounds.
 #![tactic(auto)]
 
-ghost use Rattle.core_laws.specs.Kept.{KeptFactsRuleOut};
+ghost use Rattle.std.specs.Prelude.{◌≡◌, ℕ, ℤ, List};
+ghost use Rattle.core_tree.specs.Trees.{Term};
+ghost use Rattle.core_tree.specs.declared.model.Body.{Body};
+ghost use Rattle.core_meaning.specs.World.{World};
+ghost use Rattle.core_meaning.specs.Operators.{IsCount, IsNumber};
+ghost use Rattle.core_meaning.specs.Meaning.{InTerm};
+ghost use Rattle.core_meaning.specs.Called.{bodies_of};
+ghost use Rattle.core_window.specs.Windows.{Binding, atom_names};
 
-/// A law: where clauses rule out what a target does with some of a model's facts alone, no lasso within the bounds satisfies the
-/// declarations, these facts and the command, if all formulas of the target have plain forms. The model was made ready.
-pub fn kept_facts_rule_out()
-    ensures { KeptFactsRuleOut }
+/// An expression has one number of tuples at a position, and stands for one integer there, in every
+/// environment that gives atoms to names.
+pub fn integers_are_unique()
+    ensures counts { (w : World) (list : List Body) (e : Term) (atoms : List Binding) (i : ℕ) (n m : ℤ) → IsCount w (InTerm w (bodies_of w list) e (atom_names atoms) i) n → IsCount w (InTerm w (bodies_of w list) e (atom_names atoms) i) m → n ≡ m }
+    ensures numbers { (w : World) (list : List Body) (e : Term) (atoms : List Binding) (i : ℕ) (n m : ℤ) → IsNumber w (InTerm w (bodies_of w list) e (atom_names atoms) i) n → IsNumber w (InTerm w (bodies_of w list) e (atom_names atoms) i) m → n ≡ m }
 {}
+
+#[cfg(test)]
+mod meaning_laws_tests;
+
+ghost use Rattle.core_laws.specs.Sequences.{SameSatisfied};
+
+/// A law: lassos that show the same sequence satisfy the same models and commands.
+pub fn same_sequences_satisfy_the_same()
+    ensures { SameSatisfied }
+{}
+
+#[cfg(test)]
+mod sequence_laws_tests;
+
+ghost use Rattle.core_laws.specs.Typed.{FieldsLieInBounds};
+
+/// A law: where a lasso keeps the scopes of a model and its declarations hold at each position, each field of a sig has only
+/// tuples of its upper bound.
+pub fn fields_lie_in_their_bounds()
+    ensures { FieldsLieInBounds }
+{}
+
+#[cfg(test)]
+mod type_laws_tests;

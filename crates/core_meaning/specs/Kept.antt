@@ -14,7 +14,7 @@ use Rattle.core_meaning.specs.declared.scopes.Scopes.{Scopes}
 use Rattle.core_meaning.specs.Sequence.{LassoValue}
 use Rattle.core_meaning.specs.World.{World, InRelation, IsInteger}
 use Rattle.core_meaning.specs.Operators.{IsListOf}
-use Rattle.tuple_sets.specs.Sets.{TupleList}
+use Rattle.core_tuples.specs.Sets.{TupleList}
 
 -- how many atoms a sig brings: its number where it is top-level
 abbrev pub atoms_of_sig : SigScope → ℕ

@@ -2,7 +2,7 @@
 use Rattle.std.specs.Prelude.{◌≡◌, ◌⊎◌, ℕ, ◌+◌, ◌-◌, ◌^◌, ◌<◌, ◌≤◌, Bool, true, List, [], ◌∷◌, Contains, ℤ, pos, ◌+ℤ◌, ◌-ℤ◌, length, slice_get, Some}
 use Rattle.core_meaning.specs.Integers.{low_bits}
 use Rattle.core_meaning.specs.Sequence.{LassoValue, place_of}
-use Rattle.tuple_sets.specs.Sets.{TupleList}
+use Rattle.core_tuples.specs.Sets.{TupleList}
 
 -- the number of sig atoms, which are numbered first, the literals last among them; the bitwidth of
 -- the integers, which are numbered after them from the least up; for each sig whether it is

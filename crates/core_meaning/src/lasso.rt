@@ -2,9 +2,9 @@
 
 ghost use Rattle.std.specs.Prelude.{◌≡◌, ◌<◌, ◌≤◌, ◌^◌, [], ◌∷◌, ◌++◌, length, MatchOption, IfOk, OnOk, OnErr, slice_get, Some};
 
+use core_tuples::TupleSet;
 use std::alloc::{AllocError, Global};
 use std::marker::Model;
-use tuple_sets::TupleSet;
 
 /// A state: one set of tuples for each relation, first those of the sigs and then those of the
 /// fields. Contracts see it as the list of the sets.
@@ -15,7 +15,7 @@ pub struct State {
 
 impl Model for State {
     ghost use Rattle.std.specs.Prelude.{List};
-    ghost use Rattle.tuple_sets.specs.Sets.{TupleList};
+    ghost use Rattle.core_tuples.specs.Sets.{TupleList};
 
     ghost Value = { List TupleList };
 

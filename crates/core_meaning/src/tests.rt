@@ -1,9 +1,9 @@
 // Each call once on its happy path.
 
 use crate::{Lasso, Scopes, SigScope, SigScopeList, State, make_lasso};
+use core_tuples::{Tuple, TupleSet};
 use std::alloc::{AllocError, Global};
 use std::test::Fail;
-use tuple_sets::{Tuple, TupleSet};
 
 /// A state of one relation of one column with one atom.
 fn state_of(alloc: Global, atom: u32) -> Result<State, AllocError> {

@@ -3,7 +3,7 @@
 use crate::list::ItemList;
 use crate::operators::Multiplicity;
 use crate::tree::{Expr, Formula};
-use alloy_base::{Name, Place};
+use base_types::{Name, Place};
 
 /// The sigs of a model: those of all instances in load order and then text order, then `String`,
 /// then the literals' sigs.

@@ -1,7 +1,7 @@
 // Each call once on its happy path.
 
 use crate::{Column, Expr, Formula, IntOp, ItemList, Quantity, RelationOp, Variable};
-use alloy_base::Place;
+use base_types::Place;
 use std::process::Abort;
 use std::test::Fail;
 

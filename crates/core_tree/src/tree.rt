@@ -4,7 +4,7 @@ use crate::operators::{
     Comparison, Connective, IntOp, Multiplicity, Quantity, RelationOp, TemporalBinary,
     TemporalUnary, UnaryRelation,
 };
-use alloy_base::Place;
+use base_types::Place;
 
 /// A resolved formula.
 ///

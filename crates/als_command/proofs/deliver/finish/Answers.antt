@@ -1,5 +1,0 @@
-use Rattle.als_command.specs.Run.{delivered}
-use Rattle.als_command.proofs.deliver.finish.Goals as goal
-
-pub returns-in-Ok : goal.returns-in-Ok
-returns-in-Ok g c = delivered c.in-Ok.answer c.in-Ok.is c.deliver.ensures

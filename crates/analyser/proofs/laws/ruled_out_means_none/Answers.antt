@@ -1,5 +1,0 @@
-use Rattle.analyser.proofs.NoneLaw.{ruled_out}
-use Rattle.analyser.proofs.laws.ruled_out_means_none.Goals as goal
-
-pub returns : goal.returns
-returns c = ruled_out c.satisfying_lassos_are_candidates.ensures

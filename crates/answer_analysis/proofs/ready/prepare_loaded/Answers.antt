@@ -1,0 +1,20 @@
+use Rattle.std.proofs.Common.{arith}
+use Rattle.answer_analysis.proofs.ready.prepare_loaded.Goals as goal
+
+pub returns-clause-ready : goal.returns-clause-ready
+returns-clause-ready c = record {
+  kept = c.in_ok-model.ensures;
+  command = c.get-chosen.result.now;
+  chosen = c.get-chosen.ensures;
+  parts_are = c.in_ok-parts.ensures;
+  target_is = c.in_ok-target.ensures.target;
+  scoped = c.in_ok-target.ensures.scopes;
+  counted = c.in_ok-labels.ensures.counted;
+  scopes_are = c.in_ok-scopes.ensures.scopes;
+  table = c.in_ok-bounds.ensures.table;
+  bounds_are = record { uppers = c.in_ok-bounds.ensures.uppers; fixed = c.in_ok-bounds.ensures.fixed };
+  states = (let some = c.in_ok-scopes.ensures.scopes.states.0 in c.in_ok-bounds.ensures.states (omega (arith, some)));
+  relations_are = c.in_ok-labels.ensures.relations;
+  labels_are = c.in_ok-labels.ensures.labels;
+  atoms_are = c.in_ok-labels.ensures.atoms;
+}

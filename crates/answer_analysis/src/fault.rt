@@ -1,0 +1,67 @@
+// Why there is no analysis.
+
+ghost use Rattle.answer_analysis.specs.Found.{IsLoadedFault};
+
+use base_types::{Name, Refusal};
+use load_state::LoadFault;
+use std::alloc::{AllocError, AllocFailed, Global};
+use syntax_tree::Loaded;
+
+/// Why there is no analysis.
+#[derive(Debug, Drop)]
+pub enum AnalyseFault {
+    /// A text breaks a static rule: the refusal, and the name of the text that has its place.
+    Refused(Refusal, Name),
+    /// A library failed when it was asked for this name.
+    Read(Name),
+    /// Want of memory.
+    Memory,
+}
+
+impl From<AllocError> for AnalyseFault {
+    ghost use Rattle.std.specs.Prelude.{◌≡◌};
+    ghost use Rattle.answer_analysis.specs.declared.fault.AnalyseFault.TheVariants.{Memory};
+
+    ghost from_gives = { λ _ fault. fault ≡ Memory };
+
+    fn from(_: AllocError) -> AnalyseFault {
+        AnalyseFault::Memory
+    }
+}
+
+impl<T: Drop> From<AllocFailed<T>> for AnalyseFault {
+    ghost use Rattle.std.specs.Prelude.{◌≡◌};
+    ghost use Rattle.answer_analysis.specs.declared.fault.AnalyseFault.TheVariants.{Memory};
+
+    ghost from_gives = { λ _ fault. fault ≡ Memory };
+
+    fn from(_: AllocFailed<T>) -> AnalyseFault {
+        AnalyseFault::Memory
+    }
+}
+
+/// The fault of an analysis whose model could not be loaded.
+pub fn of_loading(fault: LoadFault) -> AnalyseFault {
+    match fault {
+        LoadFault::Refused(refusal, name) => AnalyseFault::Refused(refusal, name),
+        LoadFault::Read(name) => AnalyseFault::Read(name),
+        LoadFault::Memory => AnalyseFault::Memory,
+    }
+}
+
+/// The refusal, with the name of the loaded text that has its place.
+pub fn refused_in(alloc: Global, loaded: &Loaded, refusal: Refusal) -> AnalyseFault
+    ensures { IsLoadedFault result }
+{
+    let texts = &loaded.texts;
+    let number = refusal.place.module as usize;
+    let name = if number < texts.len() {
+        Name::copy(alloc, texts.get(number).name.text())
+    } else {
+        Name::copy(alloc, "")
+    };
+    match name {
+        Ok(name) => AnalyseFault::Refused(refusal, name),
+        Err(_) => AnalyseFault::Memory,
+    }
+}

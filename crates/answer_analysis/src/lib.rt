@@ -1,0 +1,21 @@
+//! The analysis of a model: from its texts to a trace, or to clauses that no lasso of the model satisfies with lines that
+//! refute them.
+//!
+//! [`prepare`] loads and resolves a model and makes what a search needs; [`analyse`] searches.
+#![tactic(auto)]
+
+mod answer;
+mod fault;
+mod laws;
+mod ready;
+mod search;
+mod settings;
+
+pub use answer::Answer;
+pub use answer_texts::table;
+pub use fault::AnalyseFault;
+pub use form_target::{Part, PartList};
+pub use laws::ruled_out_means_none;
+pub use ready::{Prepared, prepare, prepare_loaded};
+pub use search::{analyse, analyse_loaded, is_trace, search_prepared};
+pub use settings::{Root, Settings};

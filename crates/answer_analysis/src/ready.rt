@@ -1,0 +1,184 @@
+// A model made ready for a search.
+
+ghost use Rattle.std.specs.Prelude.{◌≡◌, ◌<◌, map, IfOk, IfErr, length};
+ghost use Rattle.bound_uppers.specs.declared.table.Bound.{Bound};
+ghost use Rattle.bound_uppers.specs.Table.{IsTable, are_fixed};
+ghost use Rattle.bound_uppers.specs.Uppers.{AreUppers};
+ghost use Rattle.answer_analysis.specs.Found.{IsLoadedFault, IsReady};
+ghost use Rattle.resolve_check.specs.Kept.{IsModelButTypes};
+ghost use Rattle.bound_scopes.specs.Limits.{AreScopes};
+ghost use Rattle.answer_trace.specs.Made.{AreRelationsOf, relation_labels_of, universe_texts};
+
+use crate::fault::{AnalyseFault, of_loading, refused_in};
+use crate::settings::{Root, Settings};
+use answer_trace::{Labels, make_labels};
+use base_types::{Libraries, Place};
+use bound_scopes::{ScopeFault, scopes};
+use bound_uppers::{Bounds, BoundsFault, bounds};
+use core_meaning::{Scopes, Target};
+use core_tree::Model;
+use form_skolem::open_params;
+use form_target::{PartList, parts_of, target_of};
+use load_modules::{load, load_text};
+use resolve_check::keeps_model;
+use resolve_model::{ResolveFault, resolve};
+use std::alloc::{AllocError, Global};
+use syntax_tree::Loaded;
+
+/// A model and a command, made ready for a search.
+#[derive(Drop)]
+pub struct Prepared {
+    pub loaded: Loaded,
+    pub model: Model,
+    pub scopes: Scopes,
+    pub bounds: Bounds,
+    pub labels: Labels,
+    pub target: Target,
+    /// The facts and the command as they were resolved.
+    pub parts: PartList,
+    /// How many formulas of the target say what the declarations do; those of the facts follow.
+    pub first_fact: u32,
+}
+
+/// Loads the model of a root.
+pub fn load_root<L: Libraries>(
+    alloc: Global,
+    libraries: &mut L,
+    root: &Root,
+) -> Result<Loaded, AnalyseFault>
+    ensures keeps { L.told libraries.new ≡ L.told libraries.old }
+{
+    let loaded = match root {
+        Root::Named(name) => load(alloc, libraries, name.text()),
+        Root::Text(name, text) => load_text(alloc, libraries, name.text(), text.bytes()),
+    };
+    match loaded {
+        Ok(loaded) => Ok(loaded),
+        Err(fault) => Err(of_loading(fault)),
+    }
+}
+
+/// The model of what is loaded.
+fn model_of(alloc: Global, loaded: &Loaded) -> Result<Model, AnalyseFault>
+    ensures { IfErr result IsLoadedFault }
+{
+    match resolve(alloc, loaded) {
+        Ok(model) => Ok(model),
+        Err(ResolveFault::Refused(refusal)) => Err(refused_in(alloc, loaded, refusal)),
+        Err(ResolveFault::Memory) => Err(AnalyseFault::Memory),
+    }
+}
+
+/// The model, where it keeps what resolved models keep. The fields that stand for relation parameters
+/// take nothing of that away; it is tested once more on the model itself.
+fn kept(alloc: Global, model: Model) -> Result<Model, AllocError>
+    ensures { IfOk result IsModelButTypes }
+{
+    let is_kept = keeps_model(alloc, &model)?;
+    if is_kept { Ok(model) } else { Err(AllocError) }
+}
+
+/// The scopes of a command of the model.
+fn scopes_of(
+    alloc: Global,
+    loaded: &Loaded,
+    model: &Model,
+    command: u32,
+) -> Result<Scopes, AnalyseFault>
+    ensures scopes { IfOk result (λ s. AreScopes model.now s) }
+    ensures fault { IfErr result IsLoadedFault }
+{
+    match scopes(alloc, model, command) {
+        Ok(scopes) => Ok(scopes),
+        Err(ScopeFault::Refused(refusal)) => Err(refused_in(alloc, loaded, refusal)),
+        Err(ScopeFault::Memory) => Err(AnalyseFault::Memory),
+    }
+}
+
+/// The upper bounds of the model's relations.
+fn bounds_of(
+    alloc: Global,
+    loaded: &Loaded,
+    model: &Model,
+    scopes: &Scopes,
+    keyword: Place,
+) -> Result<Bounds, AnalyseFault>
+    ensures table { IfOk result IsTable }
+    ensures uppers { IfOk result (λ b. AreUppers model.now scopes.now b.relations) }
+    ensures fixed { IfOk result (λ b. map (λ (c : Bound). c.fixed) b.relations ≡ are_fixed model.now) }
+    ensures states { IfOk result (λ b. 0 < scopes.now.states → b.states ≡ scopes.now.states) }
+    ensures fault { IfErr result IsLoadedFault }
+{
+    match bounds(alloc, model, scopes, keyword) {
+        Ok(bounds) => Ok(bounds),
+        Err(BoundsFault::Refused(refusal)) => Err(refused_in(alloc, loaded, refusal)),
+        Err(BoundsFault::Memory) => Err(AnalyseFault::Memory),
+    }
+}
+
+/// The labels of the model's relations and atoms.
+fn labels_of(alloc: Global, model: &Model, scopes: &Scopes) -> Result<Labels, AllocError>
+    ensures relations { IfOk result (λ labels. AreRelationsOf model.now labels) }
+    ensures labels { IfOk result (λ labels. labels.relations ≡ relation_labels_of model.now scopes.now) }
+    ensures atoms { IfOk result (λ labels. labels.atoms ≡ universe_texts model.now scopes.now) }
+    ensures counted { IfOk result (λ labels. length scopes.now.numbers ≡ length model.now.sigs) }
+{
+    let relations = model.sigs.len().saturating_add(model.fields.len());
+    let known = scopes.numbers.len();
+    let sigs = model.sigs.len();
+    if relations > u32::MAX as usize || known != sigs {
+        return Err(AllocError);
+    }
+    if scopes.bits < 1 || scopes.bits > 12 {
+        return Err(AllocError);
+    }
+    make_labels(alloc, model, scopes)
+}
+
+/// Loads, resolves and bounds a model and writes its formulas in the kernel of the language. The model
+/// keeps what resolved models keep, but for the rows of its fields' types, of which no clause speaks.
+///
+/// A refusal is the first broken rule: of loading, then on names, sigs, fields and readings, then of the command and its
+/// scopes, with the name of the text that has its place.
+pub fn prepare<L: Libraries>(
+    alloc: Global,
+    libraries: &mut L,
+    settings: &Settings,
+) -> Result<Prepared, AnalyseFault>
+    ensures keeps { L.told libraries.new ≡ L.told libraries.old }
+    ensures kept { IfOk result (λ prepared. IsModelButTypes prepared.model) }
+{
+    let loaded = load_root(alloc, libraries, &settings.root)?;
+    prepare_loaded(alloc, loaded, settings.command)
+}
+
+/// The same for a model that is loaded.
+pub fn prepare_loaded(alloc: Global, loaded: Loaded, command: u32) -> Result<Prepared, AnalyseFault>
+    ensures kept { IfOk result (λ prepared. IsModelButTypes prepared.model) }
+    ensures loaded { IfOk result (λ prepared. prepared.loaded ≡ loaded) }
+    ensures ready { IfOk result (IsReady command) }
+    ensures fault { IfErr result IsLoadedFault }
+{
+    let resolved = model_of(alloc, &loaded)?;
+    let model = kept(alloc, open_params(alloc, resolved, command)?)?;
+    let scopes = scopes_of(alloc, &loaded, &model, command)?;
+    if command as usize >= model.commands.len() {
+        // The scopes are refused then.
+        return Err(AnalyseFault::Memory);
+    }
+    let chosen = model.commands.get(command as usize);
+    let bounds = bounds_of(alloc, &loaded, &model, &scopes, chosen.keyword)?;
+    let labels = labels_of(alloc, &model, &scopes)?;
+    let (target, first_fact) = target_of(alloc, &model, &scopes, chosen)?;
+    let parts = parts_of(alloc, &model, chosen)?;
+    Ok(Prepared {
+        loaded,
+        model,
+        scopes,
+        bounds,
+        labels,
+        target,
+        parts,
+        first_fact,
+    })
+}

@@ -1,0 +1,28 @@
+-- What stands below the fewest states.
+use Rattle.std.proofs.Common.{◌≡◌, ◌<◌, ◌+◌, ◌-◌, ℕ, Option, Some, sym, ap, ◌∙◌, subst, arith}
+use Rattle.sat_lrat.specs.Step.{Refutes}
+use Rattle.sat_lrat.specs.declared.line.Proof.{Proof}
+use Rattle.answer_certificates.specs.Certificate.{SayOverStates}
+use Rattle.answer_certificates.specs.Least.{IsBelow, SayOver}
+use Rattle.answer_search.specs.Found.{IsRefuted}
+use Rattle.answer_search.specs.Limits.{IsRuledOutOver}
+use Rattle.answer_analysis.specs.Found.{IsReady, NoneWithin, RuledOutMeansNone}
+use Rattle.answer_analysis.specs.declared.ready.Prepared.{Prepared}
+
+pub below_none : (prepared : Prepared) (states : ℕ) (below : Option Proof) (proof : Proof) → RuledOutMeansNone → below ≡ Some proof → IsBelow prepared.model prepared.target states below → (1 < states) × Refutes proof.cnf.clauses proof.lines × ((number : ℕ) → IsReady number prepared → NoneWithin prepared (states - 1))
+below_none prepared states below proof law is has =
+    let (some, next, refuted, out, said) = subst (IsBelow prepared.model prepared.target states) is has in
+    let less : proof.states ≡ states - 1 = omega (arith, next) in
+    (omega (arith, some, next), refuted.1, λ number ready. subst (NoneWithin prepared) less (law number prepared proof.states ready out))
+
+pub below_says : (prepared : Prepared) (states : ℕ) (below : Option Proof) (proof : Proof) → below ≡ Some proof → IsBelow prepared.model prepared.target states below → SayOverStates prepared (states - 1) proof.cnf
+below_says prepared states below proof is has =
+    let (some, next, refuted, out, said) = subst (IsBelow prepared.model prepared.target states) is has in
+    let less : proof.states ≡ states - 1 = omega (arith, next) in
+    subst (λ (n : ℕ). SayOverStates prepared n proof.cnf) less said
+
+pub none_over : (prepared : Prepared) (proof : Proof) → RuledOutMeansNone → IsRefuted prepared.target.scopes.states proof → IsRuledOutOver prepared.model prepared.target prepared.target.scopes.states → (number : ℕ) → IsReady number prepared → (proof.states ≡ prepared.scopes.states) × NoneWithin prepared proof.states
+none_over prepared proof law refuted out number ready = (
+  refuted.0 ∙ ap (λ s. s.states) ready.scoped,
+  subst (NoneWithin prepared) (sym refuted.0) (law number prepared prepared.target.scopes.states ready out),
+)

@@ -1,0 +1,5 @@
+pub mod Rising
+pub mod Keeping
+pub mod Staying
+pub mod KeptLaw
+pub mod LeastLaw

@@ -1,0 +1,12 @@
+use Rattle.std.proofs.Common.{◌≡◌, Some, length}
+use Rattle.answer_certificates.proofs.certificate.spent_shown.Goals as goal
+
+pub returns : goal.returns
+returns c = record {
+  table = c.in_ok-rows.rows;
+  lines = c.args.proof.lines;
+  spent = c.requires.0;
+  lemmas = c.requires.1;
+  few = c.requires.2;
+  text_is = cc (c.in_ok-shown.ensures, c.deref.ensures.value, c.in_ok-text.ensures, c.in-Some.is, c.requires.0);
+}

@@ -1,0 +1,15 @@
+use Rattle.answer_certificates.proofs.least.above_shown.Goals as goal
+
+pub returns : goal.returns
+returns c = record {
+  lasso = c.args.lasso.now;
+  trace = c.requires.trace;
+  more = c.requires.more;
+  none = c.requires.none;
+  table = c.in_ok-rows.rows;
+  cnf = c.args.proof.cnf;
+  lines = c.args.proof.lines;
+  says = c.requires.says;
+  refutes = c.requires.refutes;
+  text_is = cc (c.in_ok-shown.ensures, c.deref.ensures.value, c.deref-2.ensures.value, c.in_ok-text.ensures, c.in_ok-trace.ensures);
+}

@@ -1,0 +1,9 @@
+use Rattle.answer_certificates.proofs.least.one_shown.Goals as goal
+
+pub returns : goal.returns
+returns c = record {
+  lasso = c.args.lasso.now;
+  trace = c.requires.trace;
+  one = c.requires.one;
+  text_is = c.in_ok-shown.ensures;
+}

@@ -1,0 +1,6 @@
+pub mod Least
+pub mod Parts
+pub mod Core
+pub mod Kept
+pub mod Certificate
+pub mod Named

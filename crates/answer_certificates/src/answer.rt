@@ -1,0 +1,15 @@
+// What the searches come to.
+
+use core_meaning::Lasso;
+use sat_lrat::Proof;
+
+/// What the searches with one state, with two, and on come to.
+#[derive(Drop)]
+pub enum Least {
+    /// A lasso with fewest states; where these are more than one, clauses over one state less with lines that refute them.
+    Trace { lasso: Lasso, below: Option<Proof> },
+    /// There is none of as many states as the scopes have: lines that refute the clauses over so many.
+    Absent(Proof),
+    /// A search has spent its budget.
+    Unknown(Proof),
+}

@@ -1,0 +1,109 @@
+// What a search that certifies its answer comes to.
+
+ghost use Rattle.std.specs.Prelude.{◌≡◌, IfOk};
+ghost use Rattle.answer_analysis.specs.Found.{IsTraceOf};
+ghost use Rattle.answer_analysis.specs.declared.ready.Prepared.{Prepared as PreparedOf};
+ghost use Rattle.answer_search.specs.Found.{Spends};
+ghost use Rattle.answer_trace.specs.Text.{trace_text};
+ghost use Rattle.answer_texts.specs.Certified.{trace_part};
+ghost use Rattle.answer_certificates.specs.Certificate.{ShowsTrace, IsSpentText};
+
+use answer_analysis::{Prepared, is_trace, table};
+use answer_texts::{trace_part, unknown_text};
+use answer_trace::{Labels, print_trace};
+use base_types::Bytes;
+use bound_uppers::Bounds;
+use cli_words::Part;
+use core_meaning::Lasso;
+use sat_lrat::Proof;
+use std::alloc::{AllocError, Global};
+
+/// The text of what a search comes to.
+#[derive(Drop)]
+pub enum Certificate {
+    /// There is a trace.
+    Trace(Bytes),
+    /// There is none.
+    Absent(Bytes),
+    /// The budget is spent.
+    Unknown(Bytes),
+}
+
+/// The part that is asked for of a trace of a prepared model, which has these labels.
+pub fn trace_shown(
+    alloc: Global,
+    labels: &Labels,
+    lasso: &Lasso,
+    part: Part,
+) -> Result<Bytes, AllocError>
+    ensures { (prepared : PreparedOf) → labels.now ≡ prepared.labels → IsTraceOf prepared lasso.now → IfOk result (ShowsTrace prepared part) }
+{
+    let shown = lasso_part(alloc, labels, lasso, part)?;
+    Ok(shown)
+}
+
+/// The part that is asked for of the text of this lasso.
+pub(crate) fn lasso_part(
+    alloc: Global,
+    labels: &Labels,
+    lasso: &Lasso,
+    part: Part,
+) -> Result<Bytes, AllocError>
+    ensures { IfOk result (λ text. text ≡ trace_part part (trace_text labels.now lasso.now)) }
+{
+    let trace = print_trace(alloc, labels, lasso)?;
+    let text = trace_part(alloc, part, &trace)?;
+    let shown = Bytes::copy(alloc, &text)?;
+    Ok(shown)
+}
+
+/// The text of a budget that is spent.
+pub fn spent_shown(
+    alloc: Global,
+    labels: &Labels,
+    mut bounds: Bounds,
+    proof: Proof,
+    budget: Option<u64>,
+) -> Result<Bytes, AllocError>
+    requires { Spends budget proof }
+    ensures { IfOk result (λ text. IsSpentText proof.cnf budget text) }
+{
+    bounds.states = proof.states;
+    let Some(conflicts) = budget else {
+        unreachable!();
+    };
+    let rows = table(alloc, labels, &bounds)?;
+    let text = unknown_text(alloc, conflicts, &rows, &proof.cnf, &proof.lines)?;
+    let shown = Bytes::copy(alloc, &text)?;
+    Ok(shown)
+}
+
+/// Goes on where a lasso that a search has found satisfies the prepared model and its command. No search is known to find
+/// another; the answer to such a one would be that of want of memory.
+pub(crate) fn test_trace(
+    alloc: Global,
+    prepared: &Prepared,
+    lasso: &Lasso,
+) -> Result<(), AllocError>
+    ensures { IfOk result (λ r. IsTraceOf prepared.now lasso.now) }
+{
+    let holds = is_trace(alloc, prepared, lasso)?;
+    if holds { Ok(()) } else { Err(AllocError) }
+}
+
+/// The part that is asked for of a lasso that a search has found, where that is a trace of the prepared model.
+pub(crate) fn found_shown(
+    alloc: Global,
+    prepared: &Prepared,
+    lasso: &Lasso,
+    part: Part,
+) -> Result<Bytes, AllocError>
+    ensures { IfOk result (ShowsTrace prepared.now part) }
+{
+    let holds = is_trace(alloc, prepared, lasso)?;
+    if !holds {
+        return Err(AllocError);
+    }
+    let text = trace_shown(alloc, &prepared.labels, lasso, part)?;
+    Ok(text)
+}

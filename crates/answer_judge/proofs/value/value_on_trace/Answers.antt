@@ -1,0 +1,6 @@
+use Rattle.core_tree.specs.Trees.{term_of}
+use Rattle.answer_judge.proofs.JudgeLaw.{not_valued}
+use Rattle.answer_judge.proofs.value.value_on_trace.Goals as goal
+
+pub returns-in_ok-answer-in-Err : goal.returns-in_ok-answer-in-Err
+returns-in_ok-answer-in-Err c = not_valued c.args.prepared.now (term_of c.args.value.now) c.args.position c.args.trace.now c.in_ok-answer-in-Err.answer c.in_ok-answer-in-Err.ensures

@@ -1,0 +1,11 @@
+use Rattle.answer_judge.proofs.value.valued.Goals as goal
+
+pub returns : goal.returns
+returns c = record {
+  lasso = c.args.lasso.now;
+  spelled = c.requires;
+  set = c.in_ok-set.set;
+  sorted = c.arity.ensures.set;
+  has = c.in_ok-set.ensures;
+  text_is = cc (c.in_ok-shown.ensures, c.deref.ensures.value, c.in_ok-text.ensures);
+}

@@ -1,0 +1,131 @@
+// The expression whose tuples are asked for.
+
+ghost use Rattle.std.specs.Prelude.{◌≡◌, ◌<◌, ◌≤◌, length, IfOk, Err};
+ghost use Rattle.base_types.specs.declared.place.Refusal.{Refusal};
+ghost use Rattle.syntax_tree.specs.Spelling.{EndsWell};
+ghost use Rattle.syntax_lexer.specs.Tokens.{tokens_of};
+ghost use Rattle.answer_judge.specs.Expression.{large_text};
+
+use base_types::limits::MODULE_BYTES;
+use base_types::{Place, Refusal, Rule};
+use bound_scopes::{ScopeFault, check_value};
+use core_meaning::Scopes;
+use core_tree::{Expr, Model};
+use resolve_model::{ResolveFault, resolve_value};
+use std::alloc::{AllocError, Global};
+use syntax_expr::ParseFault;
+use syntax_lexer::{LexFault, lex};
+use syntax_parser::parse_expr;
+use syntax_tree::{Expr as Tree, Loaded, Token};
+
+/// What the text of an expression comes to.
+#[derive(Drop)]
+pub enum ReadValue {
+    /// What it means.
+    Tree(Expr),
+    /// The first rule that it breaks.
+    Refused(Refusal),
+}
+
+/// Reads the text of an expression in the root of a model that was made from these texts, and checks it under the scopes of
+/// a command.
+///
+/// The text has this number in places. It is refused where it is longer than a module may be, where it can't be
+/// cut into tokens or they spell no expression, where a rule on names or readings is broken in it, or one on literals, on
+/// past operators or on the depth of calls; the first of these counts.
+pub fn read_value(
+    alloc: Global,
+    loaded: &Loaded,
+    model: &Model,
+    scopes: &Scopes,
+    number: u32,
+    text: &[u8],
+) -> Result<ReadValue, AllocError>
+    ensures large { MODULE_BYTES < length text.now → IfOk result (λ read. read ≡ ReadValue.Refused (large_text number)) }
+    ensures cut { (broken : Refusal) → length text.now ≤ MODULE_BYTES → tokens_of number text.now ≡ Err broken → IfOk result (λ read. read ≡ ReadValue.Refused broken) }
+{
+    if text.len() > MODULE_BYTES {
+        return Ok(ReadValue::Refused(large_text(number)));
+    }
+    match lex(alloc, number, text) {
+        Ok(tokens) => parsed(alloc, loaded, model, scopes, &tokens),
+        Err(LexFault::Refused(refusal)) => Ok(ReadValue::Refused(refusal)),
+        Err(LexFault::Memory) => Err(AllocError),
+    }
+}
+
+/// The refusal of a text that is too long.
+fn large_text(number: u32) -> Refusal
+    ensures { result ≡ large_text number }
+{
+    Refusal {
+        rule: Rule::LargeFile,
+        place: Place {
+            module: number,
+            line: 1,
+            column: 1,
+        },
+    }
+}
+
+/// What these tokens come to.
+fn parsed(
+    alloc: Global,
+    loaded: &Loaded,
+    model: &Model,
+    scopes: &Scopes,
+    tokens: &[Token],
+) -> Result<ReadValue, AllocError>
+    requires ends { EndsWell tokens.now }
+    requires some { 0 < length tokens.now }
+{
+    match parse_expr(alloc, tokens, 0) {
+        Ok(parsed) => {
+            if parsed.next + 1 < tokens.len() {
+                // The expression ends before the text.
+                return Ok(ReadValue::Refused(Refusal {
+                    rule: Rule::Syntax,
+                    place: tokens[parsed.next].place,
+                }));
+            }
+            resolved(alloc, loaded, model, scopes, &parsed.tree, tokens[0].place)
+        }
+        Err(ParseFault::Refused(refusal)) => Ok(ReadValue::Refused(refusal)),
+        Err(ParseFault::Memory) => Err(AllocError),
+    }
+}
+
+/// What this tree comes to, whose first token stands there.
+fn resolved(
+    alloc: Global,
+    loaded: &Loaded,
+    model: &Model,
+    scopes: &Scopes,
+    tree: &Tree,
+    first: Place,
+) -> Result<ReadValue, AllocError> {
+    match resolve_value(alloc, loaded, model, tree) {
+        Ok(value) => checked(alloc, model, scopes, value, first),
+        Err(ResolveFault::Refused(refusal)) => Ok(ReadValue::Refused(refusal)),
+        Err(ResolveFault::Memory) => Err(AllocError),
+    }
+}
+
+/// What this value comes to under the scopes.
+fn checked(
+    alloc: Global,
+    model: &Model,
+    scopes: &Scopes,
+    value: Expr,
+    first: Place,
+) -> Result<ReadValue, AllocError> {
+    if scopes.bits < 1 || scopes.bits > 12 {
+        // Scopes have no such bitwidth.
+        return Err(AllocError);
+    }
+    match check_value(alloc, model, scopes, &value, first) {
+        Ok(()) => Ok(ReadValue::Tree(value)),
+        Err(ScopeFault::Refused(refusal)) => Ok(ReadValue::Refused(refusal)),
+        Err(ScopeFault::Memory) => Err(AllocError),
+    }
+}

@@ -1,0 +1,28 @@
+// A text that is no trace.
+
+ghost use Rattle.std.specs.Prelude.{IfOk};
+ghost use Rattle.answer_trace.specs.Faults.{Faults};
+ghost use Rattle.answer_judge.specs.Judged.{IsNotRead};
+
+use crate::answer::TraceAnswer;
+use answer_analysis::Prepared;
+use answer_laws::{labels_have_lassos, named_lines_are_first};
+use answer_trace::TraceFault;
+use std::alloc::AllocError;
+
+/// The answer on a text that is no trace of a prepared model: the line at which reading it stops.
+pub(crate) fn not_read(
+    prepared: &Prepared,
+    trace: &[u8],
+    fault: TraceFault,
+) -> Result<TraceAnswer, AllocError>
+    requires { Faults prepared.now.labels trace.now fault }
+    ensures { IfOk result (λ answer. IsNotRead prepared.now trace.now answer) }
+{
+    labels_have_lassos();
+    named_lines_are_first();
+    match fault {
+        TraceFault::BadTrace { line } => Ok(TraceAnswer::BadTrace(line)),
+        TraceFault::Memory => Err(AllocError),
+    }
+}

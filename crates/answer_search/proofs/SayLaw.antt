@@ -1,0 +1,64 @@
+-- The clauses of a circuit that encodes a target say what the target asks.
+use Rattle.std.proofs.Common.{◌≡◌, ℕ, zero, suc, ◌+◌, ◌<◌, ◌≤◌, ℤ, Bool, true, List, [], ◌∷◌, length, get_or, All, IsTrue, Some, slice_get, refl, sym, ap, ◌∙◌, subst, arith}
+use Rattle.std.proofs.lemmas.Option.{slice_get-get_or, slice_get_within}
+use Rattle.gate_trait.specs.declared.node.Node.{Node}
+use Rattle.gate_trait.specs.declared.gate.Gate.{Gate}
+use Rattle.gate_trait.specs.Circuit.{value_in}
+use Rattle.core_tree.specs.declared.tree.Formula.{Formula}
+use Rattle.core_meaning.specs.declared.target.Target.{Target}
+use Rattle.core_meaning.specs.Sequence.{LassoValue}
+use Rattle.sat_dimacs.specs.Literal.{Satisfies}
+use Rattle.gate_tseitin.specs.Written.{AreNumbered, IsWritten}
+use Rattle.bound_uppers.specs.declared.places.Layout.{Layout}
+use Rattle.bound_uppers.specs.declared.table.Bounds.{Bounds}
+use Rattle.bmc_leaves.specs.Table.{Decodes}
+use Rattle.bmc_encoder.specs.Encodes.{IsEncoded}
+use Rattle.answer_search.specs.Clauses.{IsCovered, HoldsFirst, Meets, MeetsCovered, SayTarget}
+use Rattle.answer_search.proofs.ClausesLaw.{clauses_tell, clauses_told}
+
+-- an item at a place below the length
+there : {X : Type 0} (xs : List X) (k : ℕ) → k < length xs → (x : X) × (slice_get xs k ≡ Some x)
+there [] k lt = absurd (omega arith)
+there (x ∷ xs) zero lt = (x, refl)
+there (x ∷ xs) (suc k) lt = there xs k (omega arith)
+
+-- what all items are, the one at a place is
+of_all : {X : Type 0} (P : X → Type 0) (xs : List X) (k : ℕ) (x : X) → All P xs → slice_get xs k ≡ Some x → P x
+of_all P [] k x all e = cc
+of_all P (y ∷ xs) zero x all e = let is : y ≡ x = cc in subst P is (all zero y (omega arith))
+of_all P (y ∷ xs) (suc k) x all e = of_all P xs k x (λ j d lt. all (suc j) d (omega arith)) e
+
+module _ (target : Target) (bounds : Bounds) (table : Layout) (gates : List Gate) (sure : Node) (roots : List Node) (n : ℕ) (clauses : List (List ℤ)) (w : IsWritten gates sure roots n clauses) (numbered : AreNumbered gates) (count : length roots ≡ length target.formulas + 1) (encoded : IsEncoded bounds target.scopes target.formulas table (value_in gates) sure roots) where
+  sound : (v : ℕ → Bool) → Satisfies v clauses → (lasso : LassoValue) × Decodes bounds table v lasso × MeetsCovered target lasso
+  sound v s =
+      let (surely, each) = clauses_tell gates sure roots n clauses w v s in
+      let (lasso, decodes) = (encoded.lassos v).0 surely in
+      let (first, at_first) = there roots zero (omega (arith, count)) in (
+        lasso,
+        decodes,
+        (
+          (encoded.numbers first at_first v lasso decodes).0 (each zero first at_first),
+          λ k d lt covered.
+              let (node, at_node) = there roots (k + 1) (omega (arith, count, lt)) in
+              (encoded.holds k (get_or target.formulas k d) node (slice_get-get_or target.formulas k d lt) at_node covered.0 covered.1 v lasso decodes).0 (each (k + 1) node at_node),
+        ),
+      )
+
+  root_holds : (x : ℕ → Bool) (lasso : LassoValue) → Decodes bounds table x lasso → All IsCovered target.formulas → Meets target lasso → (k : ℕ) (root : Node) → slice_get roots k ≡ Some root → value_in gates x root ≡ true
+  root_holds x lasso decodes covered meets zero root e = (encoded.numbers root e x lasso decodes).1 meets.0
+  root_holds x lasso decodes covered meets (suc k) root e =
+      let lt : k < length target.formulas = omega (arith, count, slice_get_within roots (suc k) root e) in
+      let step : suc k ≡ k + 1 = omega arith in
+      let at : slice_get roots (k + 1) ≡ Some root = subst (λ (m : ℕ). slice_get roots m ≡ Some root) step e in
+      let (f, at_f) = there target.formulas k lt in
+      let (plain, deep) = of_all IsCovered target.formulas k f covered at_f in
+      (encoded.holds k f root at_f at plain deep x lasso decodes).1 (of_all (HoldsFirst target.scopes lasso) target.formulas k f meets.1 at_f)
+
+  pub say_target : SayTarget target bounds clauses
+  say_target = record {
+    table = table;
+    laid = encoded.laid;
+    sound = sound;
+    complete = λ x lasso decodes covered meets.
+        clauses_told gates sure roots n clauses w numbered x ((encoded.lassos x).1 (lasso, decodes)) (root_holds x lasso decodes covered meets);
+  }

@@ -1,0 +1,33 @@
+use Rattle.std.proofs.Common.{◌≡◌, ◌∙◌, ℕ, Some, length, sym, subst, refl}
+use Rattle.sat_lrat.specs.Outcome.{Answers}
+use Rattle.sat_lrat.specs.Spent.{Spends}
+use Rattle.sat_lemmas.specs.Outcome.{IsAnswer}
+use Rattle.sat_solver.specs.Turn.{AreFew}
+use Rattle.answer_search.proofs.NoneLaw.{ruled_out}
+use Rattle.answer_search.proofs.search.search_lasso.Goals as goal
+
+pub returns-in-Spent-clause-found : goal.returns-in-Spent-clause-found
+returns-in-Spent-clause-found g c =
+    let cnf = c.in_ok-cnf.cnf in
+    let lines = c.in-Spent.lines in
+    let lemmas = subst (IsAnswer cnf.variables cnf.clauses c.args.budget) c.in-Spent.is c.in_ok-assignment.ensures.answer in
+    let spends = subst (Answers cnf.variables cnf.clauses c.args.budget) c.in-Spent.is c.in_ok-assignment.ensures.spends in
+    let few = subst (AreFew cnf.variables c.args.budget) c.in-Spent.is c.in_ok-assignment.ensures.few in
+    let both : Some spends.0 ≡ Some (length lines) = sym spends.1 ∙ lemmas.0 in
+    let same : spends.0 ≡ length lines = cc in (refl, (lemmas.0, subst (λ (n : ℕ). Spends cnf.clauses n lines) same spends.2, few))
+
+pub returns-in-Spent-clause-says : goal.returns-in-Spent-clause-says
+returns-in-Spent-clause-says g c = c.in_ok-cnf.ensures
+
+pub returns-in_ok-rest-in-Refutation-clause-says : goal.returns-in_ok-rest-in-Refutation-clause-says
+returns-in_ok-rest-in-Refutation-clause-says g c = c.in_ok-cnf.ensures
+
+pub returns-in_ok-rest-in-Refutation-clause-found : goal.returns-in_ok-rest-in-Refutation-clause-found
+returns-in_ok-rest-in-Refutation-clause-found g c =
+    let refutes = subst (IsAnswer c.in_ok-cnf.cnf.variables c.in_ok-cnf.cnf.clauses c.args.budget) c.in-Refutation.is c.in_ok-assignment.ensures.answer in
+    (refl, c.in_ok-rest-in-Refutation.ensures.refutes refutes)
+
+pub returns-in_ok-rest-in-Refutation-clause-none : goal.returns-in_ok-rest-in-Refutation-clause-none
+returns-in_ok-rest-in-Refutation-clause-none g c =
+    let refutes = subst (IsAnswer c.in_ok-cnf.cnf.variables c.in_ok-cnf.cnf.clauses c.args.budget) c.in-Refutation.is c.in_ok-assignment.ensures.answer in
+    ruled_out c.args.target.now c.args.bounds.now c.in_ok-cnf.cnf.clauses c.in-Refutation.lines c.refutation_is_sound.ensures c.candidates_are_told.ensures c.in_ok-cnf.ensures refutes

@@ -1,0 +1,62 @@
+-- What the clauses of a target say of lassos.
+use Rattle.std.specs.Prelude.{◌≡◌, ◌≤◌, ℕ, ℤ, Bool, List, All}
+use Rattle.core_tree.specs.declared.tree.Formula.{Formula}
+use Rattle.core_tree.specs.Trees.{claim_of}
+use Rattle.core_tree.specs.Past.{no_depths, past_of}
+use Rattle.core_meaning.specs.declared.scopes.Scopes.{Scopes}
+use Rattle.core_meaning.specs.declared.target.Target.{Target}
+use Rattle.core_meaning.specs.Sequence.{LassoValue}
+use Rattle.core_meaning.specs.Kept.{KeepsNumbers, world_of}
+use Rattle.core_meaning.specs.Meaning.{no_names, Holds}
+use Rattle.core_meaning.specs.Called.{no_bodies}
+use Rattle.sat_dimacs.specs.Literal.{Satisfies}
+use Rattle.bound_uppers.specs.declared.places.Layout.{Layout}
+use Rattle.bound_uppers.specs.declared.table.Bounds.{Bounds}
+use Rattle.bound_uppers.specs.Table.{IsTable, IsLayout}
+use Rattle.bound_uppers.specs.Candidates.{IsCandidate}
+use Rattle.bmc_leaves.specs.Shown.{none_nested}
+use Rattle.bmc_leaves.specs.Table.{Decodes}
+use Rattle.bmc_translate.specs.Forms.{IsPlain}
+use Rattle.answer_search.specs.declared.found.Found.{Found}
+use Rattle.answer_search.specs.declared.found.Found.TheVariants.{Lasso, Refuted, Spent}
+
+-- a formula whose root is known to be exact: it has only plain forms, and nests at most eight past operators
+abbrev pub IsCovered : Formula → Type 0
+IsCovered f = IsPlain (claim_of f) × (past_of none_nested (claim_of f) no_depths ≤ 8)
+
+-- the formula holds at position 0
+abbrev pub HoldsFirst : Scopes → LassoValue → Formula → Type 0
+HoldsFirst scopes lasso f = Holds (world_of scopes lasso) no_bodies (claim_of f) no_names 0
+
+-- the lasso keeps the numbers of the scopes, and each formula holds
+abbrev pub Meets : Target → LassoValue → Type 0
+Meets target lasso = KeepsNumbers target.scopes lasso × All (HoldsFirst target.scopes lasso) target.formulas
+
+-- the same, but of the formulas only those that are covered are known to hold
+abbrev pub MeetsCovered : Target → LassoValue → Type 0
+MeetsCovered target lasso = KeepsNumbers target.scopes lasso × All (λ f. IsCovered f → HoldsFirst target.scopes lasso f) target.formulas
+
+-- The clauses over a table of variables: an assignment that satisfies them stands for a lasso that keeps the numbers of the scopes
+-- and at whose first position each covered formula holds; and where all formulas are covered and some lasso for which values of the
+-- table stand meets the target, some assignment satisfies them.
+pub record SayTarget (target : Target) (bounds : Bounds) (clauses : List (List ℤ)) : Type 0 where
+  pub table : Layout
+  pub laid : IsTable bounds → IsLayout bounds table
+  pub sound : (v : ℕ → Bool) → Satisfies v clauses → (lasso : LassoValue) × Decodes bounds table v lasso × MeetsCovered target lasso
+  pub complete : (x : ℕ → Bool) (lasso : LassoValue) → Decodes bounds table x lasso → All IsCovered target.formulas → Meets target lasso → (v : ℕ → Bool) × Satisfies v clauses
+
+-- no lasso within the bounds, of as many states as they have, meets the target, where its formulas are covered
+abbrev pub IsRuledOut : Target → Bounds → Type 0
+IsRuledOut target bounds = IsTable bounds → All IsCovered target.formulas → (lasso : LassoValue) → IsCandidate bounds lasso → Meets target lasso → ⊥
+
+-- the clauses of what is refuted, or left open, say what the target does
+abbrev pub SaysTarget : Target → Bounds → Found → Type 0
+SaysTarget target bounds (Lasso lasso) = Unit {0}
+SaysTarget target bounds (Refuted proof) = SayTarget target bounds proof.cnf.clauses
+SaysTarget target bounds (Spent proof) = SayTarget target bounds proof.cnf.clauses
+
+-- what is refuted rules the target out
+abbrev pub RulesOut : Target → Bounds → Found → Type 0
+RulesOut target bounds (Lasso lasso) = Unit {0}
+RulesOut target bounds (Refuted proof) = IsRuledOut target bounds
+RulesOut target bounds (Spent proof) = Unit {0}

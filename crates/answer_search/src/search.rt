@@ -1,0 +1,85 @@
+// The search for a lasso.
+
+ghost use Rattle.std.specs.Prelude.{◌≡◌, IfOk, length};
+ghost use Rattle.answer_search.specs.Clauses.{RulesOut, SaysTarget};
+ghost use Rattle.answer_search.specs.Found.{IsFound, IsFoundWithin};
+
+use crate::found::Found;
+use crate::written::clauses_of;
+use base_types::Assignment;
+use bmc_laws::candidates_are_told;
+use bound_uppers::{Bounds, decode, shortest};
+use core_meaning::{Lasso, Target};
+use sat_decide::Chooser;
+use sat_lemmas::trim;
+use sat_lrat::{Outcome, Proof, refutation_is_sound};
+use sat_solver::solve_with;
+use std::alloc::{AllocError, Global};
+
+/// Searches for a lasso of the target within the bounds, of just as many states as these have. The only error is want of
+/// memory.
+///
+/// Where the lines refute the clauses, no lasso within the bounds of so many states meets the target, if all its formulas have
+/// only the plain forms.
+pub fn search_lasso<C: Chooser>(
+    alloc: Global,
+    target: &Target,
+    bounds: &Bounds,
+    chooser: &mut C,
+    budget: Option<u64>,
+) -> Result<Found, AllocError>
+    ensures found { IfOk result (IsFound bounds.now.states budget) }
+    ensures says { IfOk result (SaysTarget target.now bounds.now) }
+    ensures none { IfOk result (RulesOut target.now bounds.now) }
+{
+    let states = bounds.states;
+    let cnf = clauses_of(alloc, target, bounds)?;
+    match solve_with(alloc, &cnf, chooser, budget)? {
+        Outcome::Assignment(assignment) => {
+            let lasso = lasso_of(alloc, bounds, &assignment)?;
+            Ok(Found::Lasso(lasso))
+        }
+        Outcome::Refutation(lines) => {
+            refutation_is_sound();
+            candidates_are_told();
+            let rest = trim(alloc, &cnf, lines)?;
+            Ok(Found::Refuted(Proof {
+                states,
+                cnf,
+                lines: rest,
+            }))
+        }
+        Outcome::Spent(lines) => Ok(Found::Spent(Proof { states, cnf, lines })),
+    }
+}
+
+/// Searches as `search_lasso` does, and cuts the lasso to as few states as its sequence allows. The only error is want of
+/// memory.
+pub fn search_target<C: Chooser>(
+    alloc: Global,
+    target: &Target,
+    bounds: &Bounds,
+    chooser: &mut C,
+    budget: Option<u64>,
+) -> Result<Found, AllocError>
+    ensures found { IfOk result (IsFoundWithin bounds.now.states budget) }
+    ensures says { IfOk result (SaysTarget target.now bounds.now) }
+    ensures none { IfOk result (RulesOut target.now bounds.now) }
+{
+    match search_lasso(alloc, target, bounds, chooser, budget)? {
+        Found::Lasso(lasso) => Ok(Found::Lasso(shortest(alloc, &lasso)?)),
+        Found::Refuted(proof) => Ok(Found::Refuted(proof)),
+        Found::Spent(proof) => Ok(Found::Spent(proof)),
+    }
+}
+
+/// The lasso for which an assignment of the table's variables stands.
+fn lasso_of(alloc: Global, bounds: &Bounds, assignment: &Assignment) -> Result<Lasso, AllocError>
+    ensures { IfOk result (λ lasso. length lasso.states ≡ bounds.now.states) }
+{
+    if bounds.states == 0 {
+        // Bounds have at least one state.
+        return Err(AllocError);
+    }
+    decode(alloc, bounds, assignment)
+}

@@ -1,0 +1,11 @@
+//! The library modules that the answer_analysis brings along: `util/ordering`, `util/integer`, `util/boolean`, `util/relation` and
+//! `util/ternary`.
+#![tactic(auto)]
+
+mod embedded;
+mod texts;
+
+pub use embedded::EmbeddedLibrary;
+
+#[cfg(test)]
+mod tests;

@@ -1,0 +1,11 @@
+use Rattle.std.proofs.Common.{◌≡◌, ◌∙◌, ap, List, slice_get}
+use Rattle.gate_matrix.specs.Matrices.{MatrixEntries}
+use Rattle.bmc_windows.specs.Pushes.{push_at}
+use Rattle.bmc_stack.proofs.numbers.add_set.Goals as goal
+
+pub returns-clause-makes : goal.returns-clause-makes
+returns-clause-makes g c = λ p q at_p at_q. (
+  c.in_ok-new.new,
+  ap (λ (ms : List MatrixEntries). slice_get ms c.in_ok-number.number) c.in_ok-number.ensures.added.matrices ∙ push_at c.args.store.now.matrices.items c.in_ok-new.new c.in_ok-number.number c.in_ok-number.ensures.number,
+  (λ x. c.in_ok-new.ensures.means p q at_p at_q x),
+)

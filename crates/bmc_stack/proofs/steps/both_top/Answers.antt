@@ -1,0 +1,14 @@
+use Rattle.std.proofs.Common.{◌≡◌, ◌∙◌, ◌++◌, ◌∷◌, [], ℕ, List, ap, subst}
+use Rattle.gate_trait.specs.declared.node.Node.{Node}
+use Rattle.bmc_stack.specs.Rows.{AreBoth}
+use Rattle.bmc_stack.proofs.RowLaws.{two_rows, top_of}
+use Rattle.bmc_stack.proofs.steps.both_top.Goals as goal
+
+pub returns-clause-rows : goal.returns-clause-rows
+returns-clause-rows g c = λ rest f h e.
+    let old = g.G.Gates.node_value c.args.gates.now in
+    let new = g.G.Gates.node_value c.both.new.gates in
+    let q = c.pop_row-second.ensures.popped.rows (rest ++ f ∷ []) h (e ∙ two_rows rest f h) in
+    let p = c.pop_row-first.ensures.popped.rows rest f q.1 in
+    top_of rest _ _ c.in_ok-new.new (AreBoth old new f h) c.in_ok-push_row.ensures.pushed.rows p.1
+    (subst (λ (r : List Node). AreBoth old new r h c.in_ok-new.new) p.0 (subst (λ (r : List Node). AreBoth old new c.pop_row-first.result r c.in_ok-new.new) q.0 c.in_ok-new.ensures.both))

@@ -1,0 +1,11 @@
+use Rattle.std.proofs.Common.{◌≡◌, ◌++◌, take}
+use Rattle.gate_trait.specs.Built.{AllIn}
+use Rattle.bmc_stack.proofs.windows.append.Given as goal
+
+abbrev pub invariant-loop-place : goal.invariant-loop-place
+invariant-loop-place g l =
+    let belongs = g.G.Gates.belongs in
+    record {
+      belongs : AllIn (belongs l.gates) l.row;
+      nodes : l.row ≡ l.initial.row ++ take l.place l.more;
+    }

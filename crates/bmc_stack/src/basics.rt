@@ -1,0 +1,170 @@
+// Adding to a store and taking from it.
+
+ghost use Rattle.std.specs.Prelude.{◌≡◌, ◌∷◌, [], ◌++◌, ℕ, Bool, List, IfOk, OnOk, length, take};
+ghost use Rattle.gate_trait.specs.Built.{AllIn};
+ghost use Rattle.gate_trait.specs.declared.node.Node.{Node as CircuitNode};
+ghost use Rattle.gate_matrix.specs.Matrices.{AllBelong};
+ghost use Rattle.gate_temporal.specs.Rows.{row_value};
+ghost use Rattle.bmc_stack.specs.Stored.{AreStored};
+ghost use Rattle.bmc_stack.specs.Rows.{IsPopped, IsPushed, AreBeside, IsAdded, Grows};
+
+use crate::store::{Mark, Store};
+use gate_integers::Bits;
+use gate_matrix::Matrix;
+use gate_trait::{Gates, Node, NodeList};
+use std::alloc::{AllocError, Global};
+
+/// Nothing.
+pub fn empty_store<G: Gates>(alloc: Global, gates: &G) -> Store
+    ensures stored { AreStored (G.belongs gates.now) result }
+    ensures empty { result.rows.items ≡ [] }
+{
+    let _ = gates;
+    Store {
+        matrices: Vec::new(alloc),
+        integers: Vec::new(alloc),
+        rows: Vec::new(alloc),
+        found: Vec::new(alloc),
+    }
+}
+
+/// Adds a set, and gives its number.
+#[tactic(auto, using(bmc_windows::specs::Pushes::push_kept))]
+pub fn add_matrix<G: Gates>(
+    gates: &G,
+    store: &mut Store,
+    matrix: Matrix,
+) -> Result<usize, AllocError>
+    requires store { AreStored (G.belongs gates.now) store.old }
+    requires matrix { AllBelong (G.belongs gates.now) matrix.entries }
+    ensures stored { OnOk result (AreStored (G.belongs gates.now) store.new) }
+    ensures added { OnOk result (IsAdded store.old store.new matrix) }
+    ensures grows { OnOk result (Grows store.old store.new) }
+    ensures number { IfOk result (λ n. n ≡ length store.old.matrices.items) }
+{
+    let _ = gates;
+    let number = store.matrices.len();
+    store.matrices.push(matrix)?;
+    Ok(number)
+}
+
+/// Adds an integer, and gives its number.
+#[tactic(auto, using(bmc_windows::specs::Pushes::push_kept))]
+pub fn add_integer<G: Gates>(gates: &G, store: &mut Store, bits: Bits) -> Result<usize, AllocError>
+    requires store { AreStored (G.belongs gates.now) store.old }
+    requires bits { AllIn (G.belongs gates.now) bits }
+    ensures stored { OnOk result (AreStored (G.belongs gates.now) store.new) }
+    ensures grows { OnOk result (Grows store.old store.new) }
+{
+    let _ = gates;
+    let number = store.integers.len();
+    store.integers.push(bits)?;
+    Ok(number)
+}
+
+/// Puts a row on the stack.
+pub fn push_row<G: Gates>(gates: &G, store: &mut Store, row: NodeList) -> Result<(), AllocError>
+    requires store { AreStored (G.belongs gates.now) store.old }
+    requires row { AllIn (G.belongs gates.now) row }
+    ensures stored { OnOk result (AreStored (G.belongs gates.now) store.new) }
+    ensures pushed { OnOk result (IsPushed store.old store.new row) }
+{
+    let _ = gates;
+    store.rows.push(row)?;
+    Ok(())
+}
+
+/// Takes the row from the top of the stack; an empty one where there is none.
+pub fn pop_row<G: Gates>(alloc: Global, gates: &G, store: &mut Store) -> NodeList
+    requires { AreStored (G.belongs gates.now) store.old }
+    ensures store { AreStored (G.belongs gates.now) store.new }
+    ensures row { AllIn (G.belongs gates.now) result }
+    ensures popped { IsPopped store.old store.new result }
+{
+    let _ = gates;
+    match store.rows.pop() {
+        None => NodeList::new(alloc),
+        Some(row) => row,
+    }
+}
+
+/// Takes away the row under the top.
+pub fn drop_below<G: Gates>(alloc: Global, gates: &G, store: &mut Store) -> Result<(), AllocError>
+    requires { AreStored (G.belongs gates.now) store.old }
+    ensures stored { OnOk result (AreStored (G.belongs gates.now) store.new) }
+    ensures beside { OnOk result (AreBeside store.old store.new) }
+    ensures rows { OnOk result ((rest : List (List CircuitNode)) (f g : List CircuitNode) → store.old.rows.items ≡ rest ++ f ∷ g ∷ [] → store.new.rows.items ≡ rest ++ g ∷ []) }
+{
+    let top = pop_row(alloc, gates, store);
+    let _below = pop_row(alloc, gates, store);
+    push_row(gates, store, top)?;
+    Ok(())
+}
+
+/// Moves the row on top to the rows that say where tuples are found.
+pub fn keep_found<G: Gates>(alloc: Global, gates: &G, store: &mut Store) -> Result<(), AllocError>
+    requires { AreStored (G.belongs gates.now) store.old }
+    ensures { OnOk result (AreStored (G.belongs gates.now) store.new) }
+{
+    let top = pop_row(alloc, gates, store);
+    store.found.push(top)?;
+    Ok(())
+}
+
+/// Leaves so many of the rows that say where tuples are found.
+pub fn drop_found<G: Gates>(gates: &G, store: &mut Store, base: usize)
+    requires { AreStored (G.belongs gates.now) store.old }
+    ensures { AreStored (G.belongs gates.now) store.new }
+{
+    let _ = gates;
+    store.found.truncate(base);
+}
+
+/// Leaves the sets and integers that there were.
+pub fn cut<G: Gates>(gates: &G, store: &mut Store, mark: Mark)
+    requires { AreStored (G.belongs gates.now) store.old }
+    ensures stored { AreStored (G.belongs gates.now) store.new }
+    ensures rows { store.new.rows.items ≡ store.old.rows.items }
+    ensures matrices { store.new.matrices.items ≡ take mark.matrices store.old.matrices.items }
+{
+    let _ = gates;
+    store.matrices.truncate(mark.matrices);
+    store.integers.truncate(mark.integers);
+}
+
+/// The node of a list at a place; the constant false where there is none.
+pub fn node_or_false<G: Gates>(gates: &G, row: &NodeList, place: usize) -> Node
+    requires { AllIn (G.belongs gates.now) row.now }
+    ensures belongs { G.belongs gates.now result }
+    ensures value { (x : ℕ → Bool) → G.node_value gates.now x result ≡ row_value (G.node_value gates.now x) row.now place }
+{
+    if place >= row.len() {
+        return gates.constant(false);
+    }
+    row.node(place)
+}
+
+/// The node of a row of the stack at a place; the constant false where there is none.
+pub fn node_at<G: Gates>(gates: &G, store: &Store, row: usize, place: usize) -> Node
+    requires { AreStored (G.belongs gates.now) store.now }
+    ensures { G.belongs gates.now result }
+{
+    if row >= store.rows.len() {
+        return gates.constant(false);
+    }
+    node_or_false(gates, &store.rows[row], place)
+}
+
+/// The code of a node of a row at a place, 0 where there is none: equal nodes have equal codes.
+pub fn code_at(rows: &[NodeList], row: usize, place: usize) -> u64 {
+    match rows.get(row) {
+        None => 0,
+        Some(nodes) => {
+            if place < nodes.len() {
+                nodes.node(place).code
+            } else {
+                0
+            }
+        }
+    }
+}

@@ -1,0 +1,13 @@
+use Rattle.std.proofs.Common.{◌≡◌, ◌∙◌, ℕ, List, Some, length, sym, ap, arith}
+use Rattle.std.proofs.lemmas.Option.{slice_get-get_or}
+use Rattle.bmc_translate.proofs.opening.kept_value.Goals as goal
+
+pub returns : goal.returns
+returns c =
+    let kept = c.args.plan.now.kept.items in
+    let number = c.args.number in
+    let n = c.index-kept.result.now in
+    let at = slice_get-get_or kept number n (omega (arith, c.if-number-len.false, c.len.ensures, c.args.plan.now.kept.ok.0)) ∙ ap Some (sym c.index-kept.ensures) in
+    let same : c.in_ok-value.value.items ≡ n.items = c.in_ok-value.ensures.items_if_clones_equal (λ x y e. e) ∙ c.deref.ensures.value in
+    let long = ap (λ (items : List ℕ). length items) same in
+    (n, at, same, omega (arith, long, n.ok.0, c.len-count.ensures, c.if-count-eq0.false))

@@ -1,0 +1,49 @@
+-- That the lassos which satisfy a model and a command are among those that a search looks through.
+use Rattle.std.specs.Prelude.{◌≡◌, ◌≤◌, ℕ, IsSome, length, map, Some, slice_get}
+use Rattle.core_tree.specs.declared.model.Model.{Model}
+use Rattle.core_tree.specs.declared.model.Field.{Field}
+use Rattle.core_tree.specs.Models.{IsModel}
+use Rattle.core_tree.specs.Trees.{Claim}
+use Rattle.core_meaning.specs.declared.scopes.Scopes.{Scopes}
+use Rattle.core_meaning.specs.Sequence.{LassoValue}
+use Rattle.core_meaning.specs.Kept.{FitsModel}
+use Rattle.core_meaning.specs.Satisfied.{Satisfies}
+use Rattle.bound_uppers.specs.declared.table.Bound.{Bound}
+use Rattle.bound_uppers.specs.declared.table.Bounds.{Bounds}
+use Rattle.bound_uppers.specs.Table.{are_fixed}
+use Rattle.bound_uppers.specs.Uppers.{AreUppers}
+use Rattle.bound_uppers.specs.Candidates.{IsCandidate}
+use Rattle.bound_uppers.specs.Shortest.{IsLasso}
+use Rattle.core_laws.specs.Sequences.{ShowSame}
+use Rattle.core_laws.specs.Typed.{ExtendsPlain, BoundsNameOwned, AreScopesOf, HasSets}
+
+-- each field belongs to a sig: none stands for a relation parameter
+abbrev pub AreOwned : Model → Type 0
+AreOwned model = (g : ℕ) (f : Field) → slice_get model.fields g ≡ Some f → IsSome f.owner
+
+-- the bounds are those of the model and its scopes
+pub record AreBoundsOf (model : Model) (scopes : Scopes) (bounds : Bounds) : Type 0 where
+  pub uppers : AreUppers model scopes bounds.relations
+  pub fixed : map (λ (b : Bound). b.fixed) bounds.relations ≡ are_fixed model
+
+-- what is asked of a model and its scopes
+pub record IsRight (model : Model) (scopes : Scopes) : Type 0 where
+  pub kept : IsModel model
+  pub plain : ExtendsPlain model.sigs
+  pub named : BoundsNameOwned model
+  pub owned : AreOwned model
+  pub rightly : AreScopesOf model scopes
+
+-- a lasso over a model's relations and the universe of its scopes
+pub record IsLassoOver (model : Model) (scopes : Scopes) (lasso : LassoValue) : Type 0 where
+  pub loop : IsLasso lasso
+  pub fits : FitsModel model scopes lasso
+  pub sets : HasSets lasso
+
+-- A lasso of at most as many states as the bounds that satisfies a model and a command shows the sequence of a candidate, and
+-- that satisfies them too.
+abbrev pub SatisfyingAreCandidates : Type 0
+SatisfyingAreCandidates =
+    (model : Model) (scopes : Scopes) (bounds : Bounds) (lasso : LassoValue) (command : Claim) → IsRight model scopes → AreBoundsOf model scopes bounds →
+    IsLassoOver model scopes lasso → length lasso.states ≤ bounds.states → Satisfies model scopes lasso command →
+    (other : LassoValue) × ShowSame lasso other × IsCandidate bounds other × Satisfies model scopes other command

@@ -1,0 +1,222 @@
+//! The scopes of a command, or the first of the rules on scopes that it breaks.
+
+ghost use Rattle.std.specs.Prelude.{◌≡◌, ◌<◌, ◌≤◌, ◌+◌, ◌^◌, length, slice_get, All, Err, IfOk, IfErr, IfSome};
+ghost use Rattle.core_meaning.specs.Kept.{atom_count};
+ghost use Rattle.bound_scopes.specs.Limits.{AreScopes, IsScopeRule, IsScopeFault, no_command};
+ghost use Rattle.bound_scopes.specs.Numbers.{AreSigScopes, IsListed};
+ghost use Rattle.bound_scopes.specs.declared.fault.ScopeFault.TheVariants.{Refused};
+
+use crate::entries::{Numbered, Scope, conflict, exact_subset, exact_var, scope_of};
+use crate::fault::ScopeFault;
+use crate::gather::{over_limit, refused, wide_literal};
+use crate::keeps::{are_listed, are_sig_scopes};
+use crate::numbers::{fits, numbers};
+use base_types::limits::{ATOMS, BITWIDTH, STEPS};
+use base_types::{Place, Rule};
+use core_meaning::{Scopes, SigScopeList};
+use core_tree::{Command, Field, Model, Origin, ScopeEntryList, Sig, SigList};
+use form_measures::Measure;
+use std::alloc::{AllocError, Global};
+
+/// The bitwidth where none is listed.
+const DEFAULT_BITS: u32 = 4;
+
+/// The states where none are listed.
+const DEFAULT_STEPS: u32 = 10;
+
+/// The place of a command that isn't there: the beginning of the root.
+const ROOT: Place = Place {
+    module: 0,
+    line: 1,
+    column: 1,
+};
+
+/// The scopes of a command: for each sig its number of atoms, where it has one, and whether it has
+/// just so many; the bitwidth; and how many states a lasso has at most, which is one where nothing
+/// is `var`.
+///
+/// A refusal is the first broken one of these rules, in this order, at its first place:
+/// no command of that number (S60), a listed name that is not one sig, is a subset sig or is listed
+/// before (S61), `exactly` on a `var` sig (S62), a number that contradicts `one` or `lone` (S63), a
+/// bitwidth or a number of states out of range (S64, S65), too many atoms (S66), a number outside
+/// the bitwidth (S46), too many nested past operators (S48), and too great a depth once calls are
+/// written out (S49).
+pub fn scopes(alloc: Global, model: &Model, command: u32) -> Result<Scopes, ScopeFault>
+    ensures ok { IfOk result (λ s. AreScopes model.now s) }
+    ensures listed { IfSome (slice_get model.now.commands command) (λ c. IfOk result (λ s. All (IsListed s.numbers) c.scope)) }
+    ensures absent { length model.now.commands ≤ command → result ≡ Err (Refused no_command) }
+    ensures fault { command < length model.now.commands → IfErr result (λ e. IsScopeFault e) }
+{
+    if command as usize >= model.commands.len() {
+        return Err(refused(Rule::NoCommand, ROOT));
+    }
+    let chosen = model.commands.get(command as usize);
+    scopes_of(alloc, model, chosen)
+}
+
+/// The numbers of the sigs, where they are what their declarations ask and the command lists. The rules
+/// on scopes give no others; they are tested once more on the numbers themselves, and where this did not
+/// hold the answer would be want of memory.
+fn kept_numbers(
+    alloc: Global,
+    sigs: &SigList,
+    scope: &Scope,
+    entries: &ScopeEntryList,
+) -> Result<SigScopeList, AllocError>
+    requires { length scope.now.sigs.items ≡ length sigs.now }
+    ensures length { IfOk result (λ l. length l ≡ length sigs.now) }
+    ensures sigs { IfOk result (λ l. AreSigScopes sigs.now l) }
+    ensures listed { IfOk result (λ l. All (IsListed l) entries.now) }
+{
+    let list = numbers(alloc, sigs.as_slice(), scope)?;
+    if !are_sig_scopes(sigs, &list) {
+        return Err(AllocError);
+    }
+    if !are_listed(list.as_slice(), entries) {
+        return Err(AllocError);
+    }
+    Ok(list)
+}
+
+/// The scopes of a command of the model.
+fn scopes_of(alloc: Global, model: &Model, command: &Command) -> Result<Scopes, ScopeFault>
+    ensures ok { IfOk result (λ s. AreScopes model.now s) }
+    ensures listed { IfOk result (λ s. All (IsListed s.numbers) command.now.scope) }
+    ensures fault { IfErr result (λ e. IsScopeFault e) }
+{
+    let sigs = model.sigs.as_slice();
+    let scope = listed(alloc, sigs, command)?;
+    let bits = bits_of(&scope)?;
+    let steps = steps_of(&scope)?;
+    let numbers = kept_numbers(alloc, &model.sigs, &scope, &command.scope)?;
+    check_atoms(&numbers, bits, command.keyword)?;
+    check_trees(alloc, model, command, bits)?;
+    Ok(Scopes {
+        numbers,
+        bits,
+        states: if is_mutable(sigs, model.fields.as_slice()) {
+            steps
+        } else {
+            1
+        },
+    })
+}
+
+/// What the command lists, or the first of S61, S62 and S63.
+fn listed(alloc: Global, sigs: &[Sig], command: &Command) -> Result<Scope, ScopeFault>
+    ensures ok { IfOk result (λ s. length s.sigs.items ≡ length sigs.now) }
+    ensures fault { IfErr result (λ e. IsScopeFault e) }
+{
+    let entries = command.scope.as_slice();
+    let scope = scope_of(alloc, sigs, entries)?;
+    ask(Rule::BadScope, exact_subset(sigs, scope.bad))?;
+    ask(Rule::ExactVar, exact_var(sigs, entries))?;
+    ask(Rule::ScopeConflict, conflict(sigs, entries))?;
+    Ok(scope)
+}
+
+/// A rule that is broken where there is a place for it.
+fn ask(rule: Rule, found: Option<Origin>) -> Result<(), ScopeFault>
+    requires { IsScopeRule rule }
+    ensures { IfErr result (λ e. IsScopeFault e) }
+{
+    match found {
+        None => Ok(()),
+        Some(at) => Err(refused(rule, at.place)),
+    }
+}
+
+/// A number in its range, or the refusal at its place.
+fn in_range(
+    rule: Rule,
+    given: Option<Numbered>,
+    default: u32,
+    greatest: u32,
+) -> Result<u32, ScopeFault>
+    requires default { (1 ≤ default) × (default ≤ greatest) }
+    requires rule { IsScopeRule rule }
+    ensures ok { IfOk result (λ n. (1 ≤ n) × (n ≤ greatest)) }
+    ensures fault { IfErr result (λ e. IsScopeFault e) }
+{
+    match given {
+        None => Ok(default),
+        Some(entry) => {
+            if 1 <= entry.number && entry.number <= greatest {
+                Ok(entry.number)
+            } else {
+                Err(refused(rule, entry.place))
+            }
+        }
+    }
+}
+
+/// The bitwidth, or S64.
+fn bits_of(scope: &Scope) -> Result<u32, ScopeFault>
+    ensures ok { IfOk result (λ n. (1 ≤ n) × (n ≤ 12)) }
+    ensures fault { IfErr result (λ e. IsScopeFault e) }
+{
+    in_range(Rule::Bitwidth, scope.bits, DEFAULT_BITS, BITWIDTH)
+}
+
+/// The states that are listed or usual, or S65.
+fn steps_of(scope: &Scope) -> Result<u32, ScopeFault>
+    ensures ok { IfOk result (λ n. (1 ≤ n) × (n ≤ 32)) }
+    ensures fault { IfErr result (λ e. IsScopeFault e) }
+{
+    in_range(Rule::Steps, scope.steps, DEFAULT_STEPS, STEPS)
+}
+
+/// How many integers a bitwidth has.
+fn integers_of(bits: u32) -> u64
+    requires { (1 ≤ bits) × (bits ≤ 12) }
+    ensures value { result ≡ 2 ^ bits }
+    ensures few { result ≤ 4096 }
+{
+    1 << bits
+}
+
+/// Asks that the atoms and the integers are few enough (S66).
+fn check_atoms(numbers: &SigScopeList, bits: u32, keyword: Place) -> Result<(), ScopeFault>
+    requires { (1 ≤ bits) × (bits ≤ 12) }
+    ensures ok { IfOk result (λ _. atom_count numbers.now + 2 ^ bits ≤ 16384) }
+    ensures fault { IfErr result (λ e. IsScopeFault e) }
+{
+    let integers = integers_of(bits);
+    if fits(numbers.as_slice(), ATOMS as u64 - integers) {
+        Ok(())
+    } else {
+        Err(refused(Rule::Atoms, keyword))
+    }
+}
+
+/// Asks of all trees that count for the command that they keep the bitwidth (S46) and the limits of
+/// past operators (S48) and depth (S49).
+fn check_trees(alloc: Global, model: &Model, command: &Command, bits: u32) -> Result<(), ScopeFault>
+    requires { (1 ≤ bits) × (bits ≤ 12) }
+    ensures { IfErr result (λ e. IsScopeFault e) }
+{
+    ask(Rule::Literal, wide_literal(alloc, model, command, bits)?)?;
+    ask(
+        Rule::PastDepth,
+        over_limit(alloc, model, command, Measure::Past)?,
+    )?;
+    ask(
+        Rule::DeepCalls,
+        over_limit(alloc, model, command, Measure::Depth)?,
+    )
+}
+
+/// Whether some sig or field is `var`.
+fn is_mutable(sigs: &[Sig], fields: &[Field]) -> bool {
+    for sig in sigs {
+        if sig.is_var {
+            return true;
+        }
+    }
+    for field in fields {
+        if field.is_var {
+            return true;
+        }
+    }
+    false
+}

@@ -1,0 +1,177 @@
+// The tuples of rows of kinds.
+
+ghost use Rattle.std.specs.Prelude.{◌≡◌, ◌⊎◌, ◌<◌, ◌≤◌, ◌+◌, ◌∷◌, [], ℕ, List, All, length, take, slice_index, IfOk, OnOk, IsTrue, ◌↔◌};
+ghost use Rattle.core_tuples.specs.Sets.{In, HasJust};
+ghost use Rattle.bound_uppers.specs.Kinds.{span_at, InSpan, InKinds, InRows, FitSpans};
+
+use crate::kinds::{INTEGERS, number_at};
+use crate::numbers::{Span, Spans};
+use core_tuples::{Tuple, TupleSet, product, union};
+use std::alloc::{AllocError, Global};
+
+/// The numbers of a kind.
+fn span_of(spans: &Spans, kind: u32) -> Span
+    ensures { result ≡ span_at spans.now kind }
+{
+    if kind == INTEGERS {
+        return spans.integers;
+    }
+    if (kind as usize) < spans.sigs.len() {
+        spans.sigs[kind as usize]
+    } else {
+        Span { first: 0, count: 0 }
+    }
+}
+
+/// How many tuples a row has, or the greatest number where there are more.
+fn row_size(spans: &Spans, row: &Tuple) -> u64 {
+    let mut size = 1u64;
+    for kind in row.numbers() {
+        size = size.saturating_mul(span_of(spans, *kind).count as u64);
+    }
+    size
+}
+
+/// How many tuples rows of different kinds have together, or the greatest number where there are
+/// more.
+pub fn rows_size(spans: &Spans, rows: &[Tuple]) -> u64 {
+    let mut size = 0u64;
+    for row in rows {
+        size = size.saturating_add(row_size(spans, row));
+    }
+    size
+}
+
+/// Adds a tuple of one number to a set of one column.
+#[tactic(auto, using(crate::proofs::Filling::number_fits, crate::proofs::Filling::number_added))]
+fn add_number(alloc: Global, set: &mut TupleSet, number: u32) -> Result<(), AllocError>
+    requires columns { set.old.arity ≡ 1 }
+    requires number { number < 16384 }
+    ensures { OnOk result (HasJust set.new 1 (λ t. In t set.old ⊎ (t ≡ number ∷ []))) }
+{
+    let tuple = Tuple::of(alloc, &[number])?;
+    set.insert(tuple)?;
+    Ok(())
+}
+
+/// The numbers of a span, as a set of one column.
+#[tactic(auto, using(crate::proofs::Filling::span_none, crate::proofs::Filling::span_more, crate::proofs::Filling::span_just))]
+pub fn span_set(alloc: Global, span: Span) -> Result<TupleSet, AllocError>
+    requires { span.first + span.count ≤ 16384 }
+    ensures { IfOk result (λ s. HasJust s 1 (λ t. (a : ℕ) × InSpan span a × (t ≡ a ∷ []))) }
+{
+    let mut set = TupleSet::empty(alloc, 1);
+    for place in 0..span.count {
+        add_number(alloc, &mut set, span.first + place)?;
+    }
+    Ok(set)
+}
+
+/// The tuples of one column of a kind.
+#[tactic(auto, using(crate::proofs::Filling::kind_just))]
+fn kind_set(alloc: Global, spans: &Spans, kind: u32) -> Result<TupleSet, AllocError>
+    requires fit { FitSpans spans.now }
+    ensures { IfOk result (λ s. HasJust s 1 (InKinds spans.now (kind ∷ []))) }
+{
+    let span = span_of(spans, kind);
+    let set = span_set(alloc, span)?;
+    Ok(set)
+}
+
+/// The set with a further column, of a kind.
+fn longer(alloc: Global, spans: &Spans, set: &TupleSet, kind: u32) -> Result<TupleSet, AllocError>
+    requires fit { FitSpans spans.now }
+    requires few { set.now.arity < 9 }
+    ensures { IfOk result (λ s. (row : List ℕ) (n : ℕ) → n < length row → kind ≡ slice_index row n
+        → HasJust set.now n (InKinds spans.now (take n row)) → HasJust s (n + 1) (InKinds spans.now (take (n + 1) row))) }
+{
+    let column = kind_set(alloc, spans, kind)?;
+    let more = product(alloc, set, &column)?;
+    Ok(more)
+}
+
+/// The tuples of a row of kinds.
+#[tactic(auto, using(crate::proofs::Filling::first_kind, crate::proofs::Filling::whole_row))]
+fn row_set(alloc: Global, spans: &Spans, row: &Tuple) -> Result<TupleSet, AllocError>
+    requires fit { FitSpans spans.now }
+    requires least { 1 ≤ length row.now }
+    requires most { length row.now ≤ 9 }
+    ensures { IfOk result (λ s. HasJust s (length row.now) (InKinds spans.now row.now)) }
+{
+    let kinds = row.numbers();
+    let mut set = kind_set(alloc, spans, kinds[0])?;
+    for place in 1..kinds.len() {
+        let kind = number_at(kinds, place);
+        let more = longer(alloc, spans, &set, kind)?;
+        set = more;
+    }
+    Ok(set)
+}
+
+/// The tuples of all rows. There are this many columns.
+#[tactic(auto, using(crate::proofs::Filling::rows_none, crate::proofs::Filling::rows_one, crate::proofs::Filling::rows_both, crate::proofs::Filling::left_rows, crate::proofs::Filling::right_rows, crate::proofs::Filling::row_columns))]
+pub fn rows_set(
+    alloc: Global,
+    arity: u32,
+    spans: &Spans,
+    rows: &[Tuple],
+) -> Result<TupleSet, AllocError>
+    requires fit { FitSpans spans.now }
+    requires least { 1 ≤ arity }
+    requires most { arity ≤ 9 }
+    requires columns { All (λ r. length r ≡ arity) rows.now }
+    ensures { IfOk result (λ s. HasJust s arity (InRows spans.now rows.now)) }
+{
+    if rows.is_empty() {
+        return Ok(TupleSet::empty(alloc, arity));
+    }
+    if rows.len() == 1 {
+        let only = row_set(alloc, spans, &rows[0])?;
+        return Ok(only);
+    }
+    let (left, right) = rows.split_at(rows.len() / 2);
+    let first = rows_set(alloc, arity, spans, left)?;
+    let second = rows_set(alloc, arity, spans, right)?;
+    let both = union(alloc, &first, &second)?;
+    Ok(both)
+}
+
+/// Whether a number is one of a span.
+fn is_among(span: Span, number: u64) -> bool
+    ensures { IsTrue result ↔ InSpan span number }
+{
+    let first = span.first as u64;
+    if number < first {
+        return false;
+    }
+    if number - first < span.count as u64 {
+        return true;
+    }
+    false
+}
+
+/// Whether a number is of the kind of a row of one column.
+#[tactic(auto, using(crate::proofs::Filling::row_holds_just))]
+fn row_holds(spans: &Spans, row: &Tuple, number: u64) -> bool
+    requires { length row.now ≡ 1 }
+    ensures { IsTrue result ↔ InKinds spans.now row.now (number ∷ []) }
+{
+    let kinds = row.numbers();
+    let span = span_of(spans, kinds[0]);
+    let among = is_among(span, number);
+    among
+}
+
+/// Whether a number is of the kind of one of some rows of one column.
+#[tactic(auto, using(crate::proofs::Filling::holds_none, crate::proofs::Filling::holds_yes, crate::proofs::Filling::holds_more, crate::proofs::Filling::holds_not, crate::proofs::Filling::row_columns))]
+pub fn rows_hold(spans: &Spans, rows: &[Tuple], number: u64) -> bool
+    requires { All (λ r. length r ≡ 1) rows.now }
+    ensures { IsTrue result ↔ InRows spans.now rows.now (number ∷ []) }
+{
+    for row in rows {
+        if row_holds(spans, row, number) {
+            return true;
+        }
+    }
+    false
+}

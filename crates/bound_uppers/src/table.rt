@@ -1,0 +1,47 @@
+// Upper bounds, and why there are none.
+
+use base_types::Refusal;
+use core_tree::ItemList;
+use core_tuples::TupleSet;
+use std::alloc::AllocError;
+
+/// What is known of a relation before a lasso is looked for.
+#[derive(Drop)]
+pub struct Bound {
+    /// The tuples that it may have.
+    pub upper: TupleSet,
+    /// Whether it is the same in all states.
+    pub fixed: bool,
+    /// Its place in the order of relations, counted from 0.
+    pub order: u64,
+}
+
+/// A bound for each sig of a model and then for each field.
+pub type BoundList = ItemList<Bound>;
+
+/// The upper bounds of all relations, and how many states a lasso has.
+#[derive(Drop)]
+pub struct Bounds {
+    pub relations: BoundList,
+    pub states: u32,
+}
+
+/// Why there are no bounds.
+#[derive(Clone, Copy, Debug, PartialEq, Eq)]
+pub enum BoundsFault {
+    /// The table would have more than 1,000,000 variables.
+    Refused(Refusal),
+    /// Memory was refused.
+    Memory,
+}
+
+impl From<AllocError> for BoundsFault {
+    ghost use Rattle.std.specs.Prelude.{◌≡◌};
+    ghost use Rattle.bound_uppers.specs.declared.table.BoundsFault.TheVariants.{Memory};
+
+    ghost from_gives = { λ _ fault. fault ≡ Memory };
+
+    fn from(_error: AllocError) -> Self {
+        BoundsFault::Memory
+    }
+}

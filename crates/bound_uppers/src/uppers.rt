@@ -1,0 +1,423 @@
+// The upper bounds of the relations of a model.
+
+ghost use Rattle.std.specs.Prelude.{◌≡◌, ◌<◌, ◌≤◌, ◌+◌, ◌++◌, ◌∷◌, [], ◌↔◌, ℕ, All, map, IfOk, OnOk, IsTrue, length, slice_get, slice_index, Some};
+ghost use Rattle.core_tuples.specs.Sets.{HasJust};
+ghost use Rattle.core_tree.specs.declared.model.Sig.{Sig};
+ghost use Rattle.core_tree.specs.declared.model.Field.{Field};
+ghost use Rattle.core_tree.specs.Columns.{IsFew};
+ghost use Rattle.bound_uppers.specs.declared.table.Bound.{Bound};
+ghost use Rattle.bound_uppers.specs.declared.uppers.Sketch.{Sketch};
+ghost use Rattle.bound_uppers.specs.Kinds.{FitSpans, HasRows, InRows, rows_kinds_of};
+ghost use Rattle.bound_uppers.specs.Order.{order_of};
+ghost use Rattle.bound_uppers.specs.Sketches.{first_in, literal_in, IsRightSketch, InSketch, HasUppers, IsBoundOf, IsSigSketch, MayField, AreSigSketches, AreFieldSketches, AreSketches};
+ghost use Rattle.bound_uppers.specs.Table.{IsTable, is_fixed, are_fixed};
+ghost use Rattle.bound_uppers.specs.Uppers.{AreUppers};
+
+use crate::kinds::{sig_kinds, type_kinds};
+use crate::numbers::{Span, Spans, spans_of};
+use crate::order::orders;
+use crate::rows::{rows_hold, rows_set, rows_size, span_set};
+use crate::table::{Bound, BoundList, Bounds, BoundsFault};
+use crate::tops::tops;
+use base_types::{Place, Refusal, Rule};
+use core_meaning::Scopes;
+use core_tree::{Field, Model, Row, Sig, SigKind};
+use core_tuples::{Tuple, TupleSet};
+use std::alloc::{AllocError, Global};
+
+/// The most variables that a table has.
+pub const MOST_CELLS: u64 = 1_000_000;
+
+/// A relation before its tuples are made.
+#[derive(Drop)]
+struct Sketch {
+    /// The number of columns, from one to nine.
+    arity: u32,
+    /// Of which kinds its members are.
+    rows: Vec<Tuple>,
+    /// The only atom that it may have, of a literal's sig.
+    atom: Option<u64>,
+    fixed: bool,
+}
+
+/// The number of columns, or the nearest number that a relation can have.
+fn columns_of(columns: u32) -> u32
+    ensures least { 1 ≤ result }
+    ensures most { result ≤ 9 }
+    ensures same { IsFew columns → result ≡ columns }
+{
+    if columns < 1 {
+        return 1;
+    }
+    if columns > 9 {
+        return 9;
+    }
+    columns
+}
+
+/// Where the numbers of a sig begin; behind all atoms where there is none of this number.
+fn first_of(spans: &Spans, sig: u32) -> u32
+    ensures { result ≡ first_in spans.now sig }
+{
+    if (sig as usize) < spans.sigs.len() {
+        spans.sigs[sig as usize].first
+    } else {
+        spans.integers.first
+    }
+}
+
+/// The atom of a literal's sig, which has this number: it has no origin, and its place behind
+/// `String` is that of its atom.
+fn literal_atom(spans: &Spans, sig: &Sig, number: u32) -> Option<u64>
+    ensures { result ≡ literal_in spans.now number sig.now }
+{
+    if sig.origin.is_some() {
+        return None;
+    }
+    match &sig.kind {
+        SigKind::Top => None,
+        SigKind::Extends(parent) => {
+            let place = number.saturating_sub(*parent).saturating_sub(1);
+            Some(first_of(spans, *parent) as u64 + place as u64)
+        }
+        SigKind::Subset(_) => None,
+    }
+}
+
+/// Whether a relation is the same in all states.
+fn stays(is_var: bool) -> bool
+    ensures { result ≡ is_fixed is_var }
+{
+    !is_var
+}
+
+/// The sketch of a sig, which has this number.
+#[tactic(auto, using(crate::proofs::Sketching::right_sig))]
+fn sig_sketch(
+    alloc: Global,
+    sigs: &[Sig],
+    sig: &Sig,
+    ups: &[u32],
+    spans: &Spans,
+    number: u32,
+) -> Result<Sketch, AllocError>
+    ensures fixed { IfOk result (λ s. s.fixed ≡ is_fixed sig.now.is_var) }
+    ensures right { IfOk result IsRightSketch }
+    ensures its { IfOk result (IsSigSketch sigs.now ups.now spans.now number sig.now) }
+{
+    let rows = sig_kinds(alloc, sigs, ups, number)?;
+    Ok(Sketch {
+        arity: 1,
+        rows,
+        atom: literal_atom(spans, sig, number),
+        fixed: stays(sig.is_var),
+    })
+}
+
+/// The rows of kinds of a field, where all have its columns; none otherwise.
+fn field_kinds(
+    alloc: Global,
+    ups: &[u32],
+    columns: u32,
+    rows: &[Row],
+) -> Result<Vec<Tuple>, AllocError>
+    ensures columns { IfOk result (λ v. All (λ r. length r ≡ columns) v.items) }
+    ensures rows { IfOk result (λ v. All (λ r. length r ≡ columns) rows.now → HasRows v.items (rows_kinds_of ups.now rows.now)) }
+{
+    if have_columns(columns, rows) {
+        let kinds = type_kinds(alloc, ups, rows)?;
+        return Ok(kinds);
+    }
+    let none = Vec::new(alloc);
+    Ok(none)
+}
+
+/// Whether all rows have so many columns.
+#[tactic(auto, using(crate::proofs::Sketching::rows_all, crate::proofs::Sketching::rows_more, crate::proofs::Sketching::rows_not))]
+fn have_columns(columns: u32, rows: &[Row]) -> bool
+    ensures { IsTrue result ↔ All (λ r. length r ≡ columns) rows.now }
+{
+    for row in rows {
+        if row.len() != columns as usize {
+            return false;
+        }
+    }
+    true
+}
+
+/// The sketch of a field.
+#[tactic(auto, using(crate::proofs::Sketching::field_is))]
+fn field_sketch(alloc: Global, ups: &[u32], field: &Field) -> Result<Sketch, AllocError>
+    ensures fixed { IfOk result (λ s. s.fixed ≡ is_fixed field.now.is_var) }
+    ensures right { IfOk result IsRightSketch }
+    ensures its { IfOk result (MayField ups.now field.now) }
+{
+    let arity = columns_of(field.columns);
+    let listed = field.rows.as_slice();
+    let rows = field_kinds(alloc, ups, arity, listed)?;
+    Ok(Sketch {
+        arity,
+        rows,
+        atom: None,
+        fixed: stays(field.is_var),
+    })
+}
+
+/// The sketches of the sigs.
+#[tactic(auto, using(crate::proofs::Sizes::map_more, crate::proofs::Sizes::map_end, crate::proofs::Sketching::no_sketch, crate::proofs::Sketching::one_right, crate::proofs::Sketching::sigs_none, crate::proofs::Sketching::sigs_more, crate::proofs::Sketching::sigs_all))]
+fn sig_sketches(
+    alloc: Global,
+    sigs: &[Sig],
+    ups: &[u32],
+    spans: &Spans,
+) -> Result<Vec<Sketch>, AllocError>
+    ensures fixed { IfOk result (λ v. map (λ (s : Sketch). s.fixed) v.items ≡ map (λ (d : Sig). is_fixed d.is_var) sigs.now) }
+    ensures right { IfOk result (λ v. All IsRightSketch v.items) }
+    ensures its { IfOk result (λ v. AreSigSketches sigs.now ups.now spans.now (length sigs.now) v.items) }
+{
+    let mut all = Vec::new(alloc);
+    let mut number = 0u32;
+    for sig in sigs {
+        let sketch = sig_sketch(alloc, sigs, sig, ups, spans, number)?;
+        all.push(sketch)?;
+        if number == u32::MAX {
+            return Err(AllocError);
+        }
+        number += 1;
+    }
+    Ok(all)
+}
+
+/// Adds the sketches of the fields.
+#[tactic(auto, using(crate::proofs::Sizes::map_more, crate::proofs::Sizes::map_end, crate::proofs::Ranks::joined_end, crate::proofs::Sketching::one_right, crate::proofs::Sketching::fields_none, crate::proofs::Sketching::fields_more, crate::proofs::Sketching::fields_all, crate::proofs::Sketching::kept_more))]
+fn add_fields(
+    alloc: Global,
+    fields: &[Field],
+    ups: &[u32],
+    all: &mut Vec<Sketch>,
+) -> Result<(), AllocError>
+    requires { All IsRightSketch all.old.items }
+    ensures fixed { OnOk result (map (λ (s : Sketch). s.fixed) all.new.items ≡ map (λ (s : Sketch). s.fixed) all.old.items ++ map (λ (f : Field). is_fixed f.is_var) fields.now) }
+    ensures right { OnOk result (All IsRightSketch all.new.items) }
+    ensures its { OnOk result (AreFieldSketches ups.now fields.now (length all.old.items) (length fields.now) all.new.items) }
+    ensures kept { OnOk result ((s : ℕ) → s < length all.old.items → slice_get all.new.items s ≡ slice_get all.old.items s) }
+{
+    for field in fields {
+        let sketch = field_sketch(alloc, ups, field)?;
+        all.push(sketch)?;
+    }
+    Ok(())
+}
+
+/// The sketches of the sigs and then of the fields.
+#[tactic(auto, using(crate::proofs::Sketching::sketches_are))]
+fn sketches(
+    alloc: Global,
+    model: &Model,
+    ups: &[u32],
+    spans: &Spans,
+) -> Result<Vec<Sketch>, AllocError>
+    ensures fixed { IfOk result (λ v. map (λ (s : Sketch). s.fixed) v.items ≡ are_fixed model.now) }
+    ensures its { IfOk result (λ v. AreSketches model.now ups.now spans.now v.items) }
+{
+    let sigs = model.sigs.as_slice();
+    let fields = model.fields.as_slice();
+    let mut all = sig_sketches(alloc, sigs, ups, spans)?;
+    add_fields(alloc, fields, ups, &mut all)?;
+    Ok(all)
+}
+
+/// How many tuples the upper bound has.
+fn sketch_size(spans: &Spans, sketch: &Sketch) -> u64
+    requires { IsRightSketch sketch.now }
+{
+    match sketch.atom {
+        Some(atom) => {
+            if rows_hold(spans, &sketch.rows, atom) {
+                1
+            } else {
+                0
+            }
+        }
+        None => rows_size(spans, &sketch.rows),
+    }
+}
+
+/// How many variables the table has, or the greatest number where there are more.
+fn cells(spans: &Spans, all: &[Sketch], states: u32) -> u64
+    requires { All IsRightSketch all.now }
+{
+    let mut fixed = 0u64;
+    let mut moving = 0u64;
+    for sketch in all {
+        let size = sketch_size(spans, sketch);
+        if sketch.fixed {
+            fixed = fixed.saturating_add(size);
+        } else {
+            moving = moving.saturating_add(size);
+        }
+    }
+    let loops = if states > 1 { states as u64 } else { 0 };
+    fixed
+        .saturating_add(moving.saturating_mul(states as u64))
+        .saturating_add(loops)
+}
+
+/// The set of an atom, if it is in one of some rows of one column.
+#[tactic(auto, using(crate::proofs::Sketching::atom_just, crate::proofs::Sketching::atom_off, crate::proofs::Sketching::atom_far))]
+fn atom_set(alloc: Global, spans: &Spans, rows: &[Tuple], atom: u64) -> Result<TupleSet, AllocError>
+    requires fit { FitSpans spans.now }
+    requires columns { All (λ r. length r ≡ 1) rows.now }
+    ensures { IfOk result (λ s. HasJust s 1 (λ t. InRows spans.now rows.now t × (t ≡ atom ∷ []))) }
+{
+    if atom >= 16384 {
+        let none = TupleSet::empty(alloc, 1);
+        return Ok(none);
+    }
+    if rows_hold(spans, rows, atom) {
+        let span = Span {
+            first: atom as u32,
+            count: 1,
+        };
+        let set = span_set(alloc, span)?;
+        return Ok(set);
+    }
+    let none = TupleSet::empty(alloc, 1);
+    Ok(none)
+}
+
+/// The upper bound.
+#[tactic(auto, using(crate::proofs::Sketching::by_atom, crate::proofs::Sketching::by_rows))]
+fn upper_of(alloc: Global, spans: &Spans, sketch: &Sketch) -> Result<TupleSet, AllocError>
+    requires fit { FitSpans spans.now }
+    requires right { IsRightSketch sketch.now }
+    ensures { IfOk result (λ s. HasJust s sketch.now.arity (InSketch spans.now sketch.now)) }
+{
+    match sketch.atom {
+        Some(atom) => {
+            let set = atom_set(alloc, spans, &sketch.rows, atom)?;
+            Ok(set)
+        }
+        None => {
+            let set = rows_set(alloc, sketch.arity, spans, &sketch.rows)?;
+            Ok(set)
+        }
+    }
+}
+
+/// The bound of the relation at a place.
+#[tactic(auto, using(crate::proofs::Sketching::right_at))]
+fn bound_at(
+    alloc: Global,
+    spans: &Spans,
+    all: &[Sketch],
+    places: &[u64],
+    relation: usize,
+) -> Result<Bound, AllocError>
+    requires within { relation < length all.now }
+    requires counted { length places.now ≡ length all.now }
+    requires fit { FitSpans spans.now }
+    requires right { All IsRightSketch all.now }
+    ensures order { IfOk result (λ b. b.order ≡ slice_index places.now relation) }
+    ensures its { IfOk result (λ b. (k : Sketch) → slice_get all.now relation ≡ Some k → IsBoundOf spans.now k b) }
+{
+    let sketch = &all[relation];
+    let upper = upper_of(alloc, spans, sketch)?;
+    Ok(Bound {
+        upper,
+        fixed: sketch.fixed,
+        order: places[relation],
+    })
+}
+
+/// The bounds of the relations, in order.
+fn bound_list(
+    alloc: Global,
+    spans: &Spans,
+    all: &[Sketch],
+    places: &[u64],
+) -> Result<BoundList, AllocError>
+    requires counted { length places.now ≡ length all.now }
+    requires fit { FitSpans spans.now }
+    requires right { All IsRightSketch all.now }
+    ensures orders { IfOk result (λ l. map (λ (b : Bound). b.order) l ≡ places.now) }
+    ensures fixed { IfOk result (λ l. map (λ (b : Bound). b.fixed) l ≡ map (λ (s : Sketch). s.fixed) all.now) }
+    ensures uppers { IfOk result (λ l. HasUppers spans.now all.now l) }
+{
+    let mut list = BoundList::new(alloc);
+    for relation in 0..all.len() {
+        let bound = bound_at(alloc, spans, all, places, relation)?;
+        list.push(bound)?;
+    }
+    Ok(list)
+}
+
+/// How many states a lasso has: one at least.
+fn states_of(states: u32) -> u32
+    ensures some { 0 < result }
+    ensures same { 0 < states → result ≡ states }
+{
+    if states == 0 {
+        return 1;
+    }
+    states
+}
+
+/// The bounds of all relations of a model.
+#[tactic(auto, using(crate::proofs::Tables::fixed_count))]
+fn table_of(
+    alloc: Global,
+    model: &Model,
+    spans: &Spans,
+    all: &[Sketch],
+    states: u32,
+) -> Result<Bounds, AllocError>
+    requires fixed { map (λ (s : Sketch). s.fixed) all.now ≡ are_fixed model.now }
+    requires some { 0 < states }
+    requires fit { FitSpans spans.now }
+    requires right { All IsRightSketch all.now }
+    ensures table { IfOk result IsTable }
+    ensures order { IfOk result (λ b. (r : ℕ) (c : Bound) → slice_get b.relations r ≡ Some c → c.order ≡ order_of model.now r) }
+    ensures fixed { IfOk result (λ b. map (λ (c : Bound). c.fixed) b.relations ≡ are_fixed model.now) }
+    ensures states { IfOk result (λ b. b.states ≡ states) }
+    ensures uppers { IfOk result (λ b. HasUppers spans.now all.now b.relations) }
+{
+    let count = model.sigs.len();
+    let fields = model.fields.as_slice();
+    let places = orders(alloc, count as u64, fields)?;
+    let relations = bound_list(alloc, spans, all, &places)?;
+    Ok(Bounds { relations, states })
+}
+
+/// The upper bounds that the types give, with `var` sigs counted as their nearest ancestor that
+/// isn't `var`: of each sig, and of each field whose rows have its columns, just the tuples of the
+/// universe that the definition gives. They are refused at `keyword` where the table would have more
+/// than 1,000,000 variables, which are counted before any tuple is made. Scopes of more than 16,384
+/// numbers, which no command has, are answered as if memory were wanting.
+#[tactic(auto, using(crate::proofs::Exact::spans_fit))]
+pub fn bounds(
+    alloc: Global,
+    model: &Model,
+    scopes: &Scopes,
+    keyword: Place,
+) -> Result<Bounds, BoundsFault>
+    ensures table { IfOk result IsTable }
+    ensures order { IfOk result (λ b. (r : ℕ) (c : Bound) → slice_get b.relations r ≡ Some c → c.order ≡ order_of model.now r) }
+    ensures fixed { IfOk result (λ b. map (λ (c : Bound). c.fixed) b.relations ≡ are_fixed model.now) }
+    ensures states { IfOk result (λ b. 0 < scopes.now.states → b.states ≡ scopes.now.states) }
+    ensures uppers { IfOk result (λ b. AreUppers model.now scopes.now b.relations) }
+{
+    let spans = spans_of(alloc, scopes)?;
+    let sigs = model.sigs.as_slice();
+    let ups = tops(alloc, sigs)?;
+    let all = sketches(alloc, model, &ups, &spans)?;
+    let states = states_of(scopes.states);
+    if cells(&spans, &all, states) > MOST_CELLS {
+        return Err(BoundsFault::Refused(Refusal {
+            rule: Rule::Cells,
+            place: keyword,
+        }));
+    }
+    let found = table_of(alloc, model, &spans, &all, states)?;
+    Ok(found)
+}

@@ -1,6 +1,0 @@
-use Rattle.std.proofs.Common.{◌≡◌, ◌<◌, ◌+◌, ℕ, false}
-use Rattle.bounds_builder.specs.Table.{truth}
-use Rattle.bounds_builder.proofs.decoding.first_true.Given as goal
-
-abbrev pub invariant-loop-state : goal.invariant-loop-state
-invariant-loop-state l = (s : ℕ) → s < l.state → truth l.assignment (l.loops + s) ≡ false

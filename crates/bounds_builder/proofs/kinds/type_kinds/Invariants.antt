@@ -1,6 +1,0 @@
-use Rattle.std.proofs.Common.{◌≡◌, map, take}
-use Rattle.bounds_builder.specs.Kinds.{row_kinds_of}
-use Rattle.bounds_builder.proofs.kinds.type_kinds.Given as goal
-
-abbrev pub invariant-loop-row : goal.invariant-loop-row
-invariant-loop-row l = l.all.items ≡ map (row_kinds_of l.ups) (take l.row-index l.rows)

@@ -1,5 +1,0 @@
-use Rattle.bounds_builder.proofs.Rising.{sig_more}
-use Rattle.bounds_builder.proofs.kinds.visit_parent.Goals as goal
-
-pub returns-in_ok-push-in-Sig : goal.returns-in_ok-push-in-Sig
-returns-in_ok-push-in-Sig c = λ sigs ups. rw c.in-Sig.is (sig_more sigs ups c.args.rows.now.items c.args.waiting.now.items c.push-in-Sig.new.self.items c.in-Sig.sig c.in_ok-push-in-Sig.ensures.items)

@@ -1,5 +1,0 @@
-use Rattle.bounds_builder.proofs.Filling.{kind_just}
-use Rattle.bounds_builder.proofs.rows.kind_set.Goals as goal
-
-pub returns : goal.returns
-returns c = kind_just c.args.spans.now c.args.kind c.span_of-span.result c.in_ok-set.set c.span_of-span.ensures c.in_ok-set.ensures

@@ -1,5 +1,0 @@
-use Rattle.bounds_builder.proofs.Sketching.{AreBoundsTo}
-use Rattle.bounds_builder.proofs.uppers.bound_list.Given as goal
-
-abbrev pub invariant-loop-relation : goal.invariant-loop-relation
-invariant-loop-relation l = AreBoundsTo l.spans l.all l.places l.relation l.list

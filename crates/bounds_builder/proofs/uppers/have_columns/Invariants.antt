@@ -1,5 +1,0 @@
-use Rattle.std.proofs.Common.{◌≡◌, All, length, take}
-use Rattle.bounds_builder.proofs.uppers.have_columns.Given as goal
-
-abbrev pub invariant-loop-row : goal.invariant-loop-row
-invariant-loop-row l = All (λ r. length r ≡ l.columns) (take l.row-index l.rows)

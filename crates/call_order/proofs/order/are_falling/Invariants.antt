@@ -1,6 +1,0 @@
-use Rattle.std.proofs.Common.{All, take}
-use Rattle.call_order.specs.Falls.{DoesFall}
-use Rattle.call_order.proofs.order.are_falling.Given as goal
-
-abbrev pub invariant-loop-edge : goal.invariant-loop-edge
-invariant-loop-edge l = All (DoesFall l.ranks) (take l.edge-index l.edges)

@@ -1,5 +1,0 @@
-use Rattle.cdcl_solver.proofs.Searching.{search_restarted}
-use Rattle.cdcl_solver.proofs.round.count_conflict.Goals as goal
-
-pub returns-then-is_restart_due-clause-search : goal.returns-then-is_restart_due-clause-search
-returns-then-is_restart_due-clause-search g c = λ formula lines state h. search_restarted c.args.trail.now c.undo_to.new.self formula lines state c.undo_to.ensures.clauses.0 c.undo_to.ensures.clauses.1 c.undo_to.ensures.clauses.2 c.undo_to.ensures.limits h

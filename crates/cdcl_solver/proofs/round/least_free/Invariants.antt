@@ -1,6 +1,0 @@
-use Rattle.std.proofs.Common.{ℕ, ◌<◌, ◌≡◌, pos}
-use Rattle.solver_trail.specs.Assignment.{value_at}
-use Rattle.cdcl_solver.proofs.round.least_free.Given as goal
-
-abbrev pub invariant-loop-place : goal.invariant-loop-place
-invariant-loop-place l = (k : ℕ) → k < l.place → value_at l.values k ≡ pos 0 → ⊥

@@ -1,5 +1,0 @@
-use Rattle.std.proofs.Common.{refl}
-use Rattle.certificate_search.proofs.certificate.found_shown.Goals as goal
-
-pub returns : goal.returns
-returns c = c.in_ok-text.ensures c.args.prepared.now refl (c.in_ok-holds.ensures c.if-not-holds.false)

@@ -1,4 +1,0 @@
-use Rattle.certificate_search.proofs.certificate.lasso_part.Goals as goal
-
-pub returns : goal.returns
-returns c = cc (c.in_ok-shown.ensures, c.deref.ensures.value, c.deref-2.ensures.value, c.in_ok-text.ensures, c.in_ok-trace.ensures)

@@ -1,6 +1,0 @@
-use Rattle.std.proofs.Common.{take}
-use Rattle.certificate_search.specs.Kept.{AreNamed}
-use Rattle.certificate_search.proofs.kept.kept_names.Given as goal
-
-abbrev pub invariant-loop-number : goal.invariant-loop-number
-invariant-loop-number l = AreNamed l.loaded l.parts (take l.number-index l.kept) l.names

@@ -1,9 +1,0 @@
-use Rattle.certificate_search.proofs.least.none_shown.Goals as goal
-
-pub returns : goal.returns
-returns c = record {
-  table = c.in_ok-rows.rows;
-  lines = c.args.proof.lines;
-  refutes = c.requires;
-  text_is = cc (c.in_ok-shown.ensures, c.deref.ensures.value, c.in_ok-text.ensures);
-}

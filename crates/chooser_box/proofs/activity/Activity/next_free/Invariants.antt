@@ -1,4 +1,0 @@
-use Rattle.chooser_box.proofs.activity.Activity.next_free.Given as goal
-
-abbrev pub decreases-waiting : goal.decreases-waiting
-decreases-waiting l = l.self.heap.len

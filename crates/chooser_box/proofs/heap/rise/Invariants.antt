@@ -1,8 +1,0 @@
-use Rattle.std.proofs.Common.{◌<◌, length}
-use Rattle.chooser_box.proofs.heap.rise.Given as goal
-
-abbrev pub invariant-up : goal.invariant-up
-invariant-up l = l.place < length l.order
-
-abbrev pub decreases-up : goal.decreases-up
-decreases-up l = l.place

@@ -1,5 +1,0 @@
-use Rattle.std.proofs.Common.{◌-◌}
-use Rattle.chooser_box.proofs.heap.sink.Given as goal
-
-abbrev pub decreases-down : goal.decreases-down
-decreases-down l = l.len - l.place

@@ -1,8 +1,0 @@
-mod Lists
-mod Adding
-mod SigParts
-mod FieldParts
-mod Closed
-mod ChildLists
-mod Tails
-mod Binders

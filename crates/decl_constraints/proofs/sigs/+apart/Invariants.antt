@@ -1,5 +1,0 @@
-use Rattle.std.proofs.Common.{length}
-use Rattle.decl_constraints.proofs.sigs.+apart.Given as goal
-
-abbrev pub decreases-apart : goal.decreases-apart
-decreases-apart l = length l.sigs.now

@@ -1,4 +1,0 @@
-pub mod Children
-pub mod Unions
-pub mod Asked
-pub mod Added

@@ -1,0 +1,3 @@
+pub mod BitLaw
+pub mod PowLaw
+pub mod NumberLaw

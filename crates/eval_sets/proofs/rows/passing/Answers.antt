@@ -1,0 +1,18 @@
+use Rattle.std.proofs.Common.{arith, refl}
+use Rattle.core_tuples.specs.Sets.{In}
+use Rattle.eval_sets.specs.Rows.{Passes, GivesItself}
+use Rattle.eval_sets.proofs.Gather.{gathers_none, gathers_more, gathered}
+use Rattle.eval_sets.proofs.RowLaw.{itself_means}
+use Rattle.eval_sets.proofs.rows.passing.Goals as goal
+
+pub loop-tuple-init : goal.loop-tuple-init
+loop-tuple-init c =
+    gathers_none c.empty_of-all.result (GivesItself c.args.rule c.args.atoms.now) (λ t h. (c.empty_of-all.ensures.just t).0 h)
+
+pub loop-tuple-preserved : goal.loop-tuple-preserved
+loop-tuple-preserved c =
+    gathers_more c.loop-tuple.all c.add_passing.new.all (GivesItself c.args.rule c.args.atoms.now) c.keyed-tuples.result.now c.loop-tuple.tuple-index c.tuple-item.result c.tuple-item.result c.loop-tuple-test.true c.tuple-item.is refl c.loop-tuple.invariant c.in_ok-add_passing.ensures
+
+pub returns : goal.returns
+returns c =
+    gathered c.args.set.now c.loop-tuple.all (GivesItself c.args.rule c.args.atoms.now) c.keyed-tuples.result.now c.loop-tuple.tuple-index (λ t. In t c.args.set.now × Passes c.args.rule c.args.atoms.now t) (omega arith) c.keyed-tuples.ensures.all c.loop-tuple.invariant (itself_means c.args.rule c.args.set.now c.args.atoms.now)

@@ -1,0 +1,191 @@
+// Temporal operators.
+
+ghost use Rattle.std.specs.Prelude.{◌↔◌, ◌+◌, IfOk, IsTrue};
+ghost use Rattle.core_tree.specs.Trees.{claim_of};
+ghost use Rattle.core_meaning.specs.Operators.{Happens, HappenBoth, UntilAt, SinceAt};
+ghost use Rattle.eval_steps.specs.Judged.{scope_names, HoldsIn, Says, SaysFirst};
+ghost use Rattle.eval_tree.specs.Evaluates.{Evaluates};
+
+use crate::walk::Walk;
+use core_meaning::Scope;
+use core_tree::{Expr, Formula, TemporalBinary, TemporalUnary};
+use eval_sets::EvaluationFault;
+use eval_steps::{First, Held, Judge, after, deeper, limit, says};
+
+impl<
+    'a,
+    T: for<'j> Fn(&'j Judge<'j>, &Expr, &Scope<'_>, u64, u32) -> Result<Held<'j>, EvaluationFault>,
+    H: for<'j> Fn(&'j Judge<'j>, &Formula, &Scope<'_>, u64, u32) -> Result<bool, EvaluationFault>,
+> Walk<'a, T, H> {
+    /// Whether a temporal operator on one formula holds.
+    pub fn temporal(
+        &self,
+        op: TemporalUnary,
+        f: &Formula,
+        scope: &Scope,
+        position: u64,
+    ) -> Result<bool, EvaluationFault>
+        requires { Evaluates self.now.deep (T.pre self.now.term) (T.post self.now.term) (H.pre self.now.claim) (H.post self.now.claim) }
+        ensures { IfOk result (λ b. IsTrue b ↔ Happens op (λ j. HoldsIn self.now.judge.now (claim_of f.now) (scope_names self.now.judge.now scope.now) j) position) }
+    {
+        match op {
+            TemporalUnary::After => self.holds(f, scope, after(position)?),
+            TemporalUnary::Always => Ok(!self.forward(First::Any, f, false, scope, position)?),
+            TemporalUnary::Eventually => self.forward(First::Any, f, true, scope, position),
+            TemporalUnary::Before => {
+                if position == 0 {
+                    return Ok(false);
+                }
+                self.holds(f, scope, position - 1)
+            }
+            TemporalUnary::Historically => Ok(!self.backward(
+                First::Any,
+                f,
+                false,
+                scope,
+                position,
+                self.deep,
+            )?),
+            TemporalUnary::Once => self.backward(First::Any, f, true, scope, position, self.deep),
+        }
+    }
+
+    /// Whether a temporal operator on two formulas holds.
+    pub fn temporal_pair(
+        &self,
+        op: TemporalBinary,
+        f: &Formula,
+        g: &Formula,
+        scope: &Scope,
+        position: u64,
+    ) -> Result<bool, EvaluationFault>
+        requires { Evaluates self.now.deep (T.pre self.now.term) (T.post self.now.term) (H.pre self.now.claim) (H.post self.now.claim) }
+        ensures { IfOk result (λ b. IsTrue b ↔ HappenBoth op (λ j. HoldsIn self.now.judge.now (claim_of f.now) (scope_names self.now.judge.now scope.now) j) (λ j. HoldsIn self.now.judge.now (claim_of g.now) (scope_names self.now.judge.now scope.now) j) position) }
+    {
+        match op {
+            TemporalBinary::Until => self.forward(First::Each(f), g, true, scope, position),
+            TemporalBinary::Releases => Ok(!self.forward(
+                First::Each(f),
+                g,
+                false,
+                scope,
+                position,
+            )?),
+            TemporalBinary::Since => self.backward(
+                First::Each(f),
+                g,
+                true,
+                scope,
+                position,
+                self.deep,
+            ),
+            TemporalBinary::Triggered => Ok(!self.backward(
+                First::Each(f),
+                g,
+                false,
+                scope,
+                position,
+                self.deep,
+            )?),
+            TemporalBinary::Then => self.then_next(f, g, scope, position),
+        }
+    }
+
+    /// Whether the first formula holds, and the second at the next position.
+    fn then_next(
+        &self,
+        f: &Formula,
+        g: &Formula,
+        scope: &Scope,
+        position: u64,
+    ) -> Result<bool, EvaluationFault>
+        requires { Evaluates self.now.deep (T.pre self.now.term) (T.post self.now.term) (H.pre self.now.claim) (H.post self.now.claim) }
+        ensures { IfOk result (λ b. IsTrue b ↔ (HoldsIn self.now.judge.now (claim_of f.now) (scope_names self.now.judge.now scope.now) position × HoldsIn self.now.judge.now (claim_of g.now) (scope_names self.now.judge.now scope.now) (position + 1))) }
+    {
+        let first = self.holds(f, scope, position)?;
+        if !first {
+            return Ok(false);
+        }
+        let next = after(position)?;
+        let second = self.holds(g, scope, next)?;
+        Ok(second)
+    }
+
+    /// Whether the first formula, where there is one, has a truth value.
+    fn goes_on(
+        &self,
+        first: First,
+        sense: bool,
+        scope: &Scope,
+        position: u64,
+    ) -> Result<bool, EvaluationFault>
+        requires { Evaluates self.now.deep (T.pre self.now.term) (T.post self.now.term) (H.pre self.now.claim) (H.post self.now.claim) }
+        ensures { IfOk result (λ b. IsTrue b ↔ SaysFirst self.now.judge.now first.entry sense (scope_names self.now.judge.now scope.now) position) }
+    {
+        match first {
+            First::Any => Ok(true),
+            First::Each(formula) => {
+                let truth = self.holds(formula, scope, position)?;
+                Ok(says(sense, truth))
+            }
+        }
+    }
+
+    /// Whether at some position from one on the second formula has a truth value, and the first, where
+    /// there is one, at each position from that one to before it.
+    fn forward(
+        &self,
+        first: First,
+        second: &Formula,
+        sense: bool,
+        scope: &Scope,
+        position: u64,
+    ) -> Result<bool, EvaluationFault>
+        requires { Evaluates self.now.deep (T.pre self.now.term) (T.post self.now.term) (H.pre self.now.claim) (H.post self.now.claim) }
+        ensures { IfOk result (λ b. IsTrue b ↔ UntilAt (SaysFirst self.now.judge.now first.entry sense (scope_names self.now.judge.now scope.now)) (λ j. Says sense (HoldsIn self.now.judge.now (claim_of second.now) (scope_names self.now.judge.now scope.now) j)) position) }
+    {
+        let end = limit(self.judge, second, scope, position)?;
+        for place in position..end {
+            let truth = self.holds(second, scope, place)?;
+            let here = says(sense, truth);
+            if here {
+                return Ok(true);
+            }
+            let on = self.goes_on(first, sense, scope, place)?;
+            if !on {
+                return Ok(false);
+            }
+        }
+        Ok(false)
+    }
+
+    /// Whether at some position up to one the second formula has a truth value, and the first, where
+    /// there is one, at each position after it up to that one.
+    fn backward(
+        &self,
+        first: First,
+        second: &Formula,
+        sense: bool,
+        scope: &Scope,
+        position: u64,
+        deep: u32,
+    ) -> Result<bool, EvaluationFault>
+        requires { Evaluates self.now.deep (T.pre self.now.term) (T.post self.now.term) (H.pre self.now.claim) (H.post self.now.claim) }
+        ensures { IfOk result (λ b. IsTrue b ↔ SinceAt (SaysFirst self.now.judge.now first.entry sense (scope_names self.now.judge.now scope.now)) (λ j. Says sense (HoldsIn self.now.judge.now (claim_of second.now) (scope_names self.now.judge.now scope.now) j)) position) }
+    {
+        let next = deeper(deep)?;
+        let truth = self.holds(second, scope, position)?;
+        let here = says(sense, truth);
+        if here {
+            return Ok(true);
+        }
+        if position == 0 {
+            return Ok(false);
+        }
+        let on = self.goes_on(first, sense, scope, position)?;
+        if !on {
+            return Ok(false);
+        }
+        self.backward(first, second, sense, scope, position - 1, next)
+    }
+}

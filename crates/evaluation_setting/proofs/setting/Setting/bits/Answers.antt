@@ -1,7 +1,0 @@
-use Rattle.core_meaning.specs.Kept.{atom_count}
-use Rattle.evaluation_setting.proofs.PowLaw.{pow_bound}
-use Rattle.evaluation_setting.proofs.setting.Setting.bits.Goals as goal
-
-pub returns-clause-most : goal.returns-clause-most
-returns-clause-most c =
-    pow_bound (atom_count c.self.inside.scopes.now.numbers) c.self.inside.scopes.now.bits c.self.invariant.1.room

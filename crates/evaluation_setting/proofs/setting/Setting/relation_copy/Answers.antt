@@ -1,8 +1,0 @@
-use Rattle.core_meaning.specs.World.{InRelation}
-use Rattle.evaluation_setting.specs.Settings.{world}
-use Rattle.evaluation_setting.proofs.SetLaw.{nothing_is}
-use Rattle.evaluation_setting.proofs.setting.Setting.relation_copy.Goals as goal
-
-pub returns-in-None : goal.returns-in-None
-returns-in-None c =
-    nothing_is c.empty_of.result (InRelation (world c.args.self.now) c.args.number c.args.position) c.empty_of.ensures c.in-None.ensures.none

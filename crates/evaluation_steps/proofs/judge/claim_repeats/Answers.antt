@@ -1,7 +1,0 @@
-use Rattle.std.proofs.Common.{◌-◌, ◌^◌, ◌<◌, arith}
-use Rattle.evaluation_steps.proofs.judge.claim_repeats.Goals as goal
-
-pub returns : goal.returns
-returns c few =
-    let low : c.scope_rounds-names.result < 2 ^ 32 - 1 = omega (arith, c.claim_rounds.ensures.more) in
-    c.claim_rounds.ensures.repeats c.args.scope.now few (c.scope_rounds-names.ensures low)

@@ -1,6 +1,0 @@
-use Rattle.evaluation_steps.proofs.PartLaw.{identity_is}
-use Rattle.evaluation_steps.proofs.parts.identity_at.Goals as goal
-
-pub returns : goal.returns
-returns c =
-    identity_is c.setting-setting.result.now c.args.judge.now c.setting-setting.ensures c.args.position c.in_ok-set.set c.in_ok-set.ensures

@@ -1,6 +1,0 @@
-use Rattle.evaluation_steps.proofs.PartLaw.{integers_are}
-use Rattle.evaluation_steps.proofs.parts.integers_at.Goals as goal
-
-pub returns : goal.returns
-returns c =
-    integers_are c.setting-setting.result.now c.args.judge.now c.setting-setting.ensures c.in_ok-set.set c.in_ok-set.ensures

@@ -1,7 +1,0 @@
-use Rattle.std.proofs.Common.{take}
-use Rattle.set_operators.specs.SetOf.{Gathers}
-use Rattle.evaluation_steps.specs.Judged.{GivesTail}
-use Rattle.evaluation_steps.proofs.sides.tails.Given as goal
-
-abbrev pub invariant-loop-tuple : goal.invariant-loop-tuple
-invariant-loop-tuple l = Gathers l.all (GivesTail l.columns) (take l.tuple-index l.tuples)

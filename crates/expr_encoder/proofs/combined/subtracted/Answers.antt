@@ -1,5 +1,0 @@
-use Rattle.expr_encoder.proofs.SetLaws.{difference_law}
-use Rattle.expr_encoder.proofs.combined.subtracted.Goals as goal
-
-pub returns-clause-means : goal.returns-clause-means
-returns-clause-means g c = λ x. difference_law (g.G.Gates.node_value c.args.gates.now x) (g.G.Gates.node_value c.difference.new.gates x) c.args.a.now c.args.b.now c.in_ok-made.made (c.in_ok-made.ensures.truth x)

@@ -1,6 +1,0 @@
-use Rattle.std.proofs.Common.{◌≡◌, ◌++◌}
-use Rattle.als_tree.specs.Spelling.{spelling, kinds}
-use Rattle.expr_parser.proofs.grammar.Grammar.longer.Given as goal
-
-abbrev pub invariant-loop-turn : goal.invariant-loop-turn
-invariant-loop-turn g l = spelling l.fn.left.tree ++ kinds l.fn.cursor ≡ spelling l.left.tree ++ kinds l.cursor

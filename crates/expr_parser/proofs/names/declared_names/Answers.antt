@@ -1,9 +1,0 @@
-use Rattle.std.proofs.Common.{rules}
-use Rattle.als_tree.specs.declared.token.Symbol.TheVariants as s
-use Rattle.als_tree.specs.Spelling.{declared_name, kinds}
-use Rattle.als_tree.proofs.Lists.{read_more}
-use Rattle.expr_parser.proofs.names.declared_names.Goals as goal
-
-pub loop-turn-preserved : goal.loop-turn-preserved
-loop-turn-preserved c =
-    read_more s.Comma declared_name c.in_ok-named-2.field-0 _ _ _ c.loop-turn.found (kinds c.loop-turn.cursor) (kinds c.eat.new.self) (search rules) (search rules) (search rules) (search rules) (search rules)

@@ -1,7 +1,0 @@
-use Rattle.std.proofs.Common.{rules, arith, append_assoc}
-use Rattle.als_tree.specs.Spelling.{spelling}
-use Rattle.expr_parser.proofs.Places.{spells_read}
-use Rattle.expr_parser.proofs.parse.parse_block.Goals as goal
-
-pub returns-clause-spells : goal.returns-clause-spells
-returns-clause-spells c = spells_read c.args.tokens.now c.block_at.new.cursor c.args.from _ (spelling c.in_ok-tree.tree) c.requires.in_range (search rules) (grind arith) (grind (arith, append_assoc))

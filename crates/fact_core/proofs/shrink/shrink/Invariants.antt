@@ -1,5 +1,0 @@
-use Rattle.fact_core.specs.Core.{IsLeft}
-use Rattle.fact_core.proofs.shrink.shrink.Given as goal
-
-abbrev pub invariant-loop-fact : goal.invariant-loop-fact
-invariant-loop-fact g l = IsLeft l.question.target.now l.question.first l.question.facts l.question.limits.now l.rest

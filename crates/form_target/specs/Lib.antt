@@ -1,0 +1,5 @@
+pub mod Children
+pub mod Unions
+pub mod Asked
+pub mod Added
+pub mod Targets

@@ -1,4 +1,0 @@
-pub mod Again
-pub mod Lines
-pub mod Places
-pub mod Rightness

@@ -1,0 +1,27 @@
+use Rattle.std.proofs.Common.{◌+ℤ◌, ◌≡◌, ◌+◌, ◌%◌, ◌^◌, ℕ, List, length, ap, ◌∙◌}
+use Rattle.gate_trait.specs.declared.node.Node.{Node}
+use Rattle.gate_trait.specs.Kept.{all_same}
+use Rattle.gate_integers.specs.Numbers.{number, from_bits, wrap}
+use Rattle.gate_integers.specs.Wrapped.{wrap_add}
+use Rattle.gate_integers.proofs.adder.add.Goals as goal
+
+pub add_numbers-requires-clause-a_belongs : goal.add_numbers-requires-clause-a_belongs
+add_numbers-requires-clause-a_belongs g c = all_same (g.G.Gates.belongs c.args.gates.now) c.args.a.now c.nodes.result.now c.nodes.ensures c.requires.a_belongs
+
+pub add_numbers-requires-clause-b_belongs : goal.add_numbers-requires-clause-b_belongs
+add_numbers-requires-clause-b_belongs g c = all_same (g.G.Gates.belongs c.args.gates.now) c.args.b.now c.nodes-2.result.now c.nodes-2.ensures c.requires.b_belongs
+
+pub returns-clause-value : goal.returns-clause-value
+returns-clause-value g c = λ x.
+    let v = g.G.Gates.node_value c.args.gates.now x in
+    let w = g.G.Gates.node_value c.add_numbers.new.gates x in
+    let a = c.args.a.now in
+    let b = c.args.b.now in
+    let same : c.nodes.result.now ≡ a = c.nodes.ensures in
+    let long : length c.in_ok-sum.sum ≡ length a = c.in_ok-sum.ensures.width ∙ ap (λ (ns : List Node). length ns) same in
+    let n : number w c.in_ok-sum.sum ≡ (number v a + number v b) % 2 ^ length a = c.in_ok-sum.ensures.number x
+    ∙ ap (λ (ns : List Node). (number v ns + number v c.nodes-2.result.now) % 2 ^ length ns) same
+    ∙ ap (λ (ns : List Node). (number v a + number v ns) % 2 ^ length a) c.nodes-2.ensures in
+    ap (λ (k : ℕ). from_bits k (number w c.in_ok-sum.sum)) long ∙ ap (λ (k : ℕ). from_bits (length a) k) n
+    ∙ wrap_add (length a) (number v a) (number v b)
+    ∙ ap (λ (k : ℕ). wrap (length a) (from_bits (length a) (number v a) +ℤ from_bits k (number v b))) c.requires.widths

@@ -1,0 +1,34 @@
+use Rattle.std.proofs.Common.{◌<◌, not, List, [], length, map, ap, ◌∙◌, arith}
+use Rattle.gate_trait.specs.declared.node.Node.{Node}
+use Rattle.gate_trait.specs.Kept.{keeps_refl, all_more, all_none, all_same, length_push}
+use Rattle.gate_integers.specs.Rows.{map_turn}
+use Rattle.gate_integers.proofs.each.negated.Goals as goal
+
+pub loop-node-init : goal.loop-node-init
+loop-node-init g c =
+    let value = g.G.Gates.node_value in
+    let belongs = g.G.Gates.belongs in
+    let first = c.args.gates.now in
+    record {
+      belongs = all_same (belongs first) [] c.new-bits.result c.new-bits.ensures (all_none (belongs first));
+      width = ap (λ (ns : List Node). length ns) c.new-bits.ensures;
+      values = λ x. ap (λ (ns : List Node). map (value first x) ns) c.new-bits.ensures;
+    }
+
+pub loop-node-preserved : goal.loop-node-preserved
+loop-node-preserved g c =
+    let value = g.G.Gates.node_value in
+    let belongs = g.G.Gates.belongs in
+    let before = c.loop-node.invariant in
+    let now = c.args.gates.now in
+    let same = keeps_refl belongs value now in
+    let a = c.args.a.now in
+    let i = c.loop-node.node-index in
+    let p = c.in_ok-push.ensures.ok in
+    let lt : i < length a = omega arith in
+    record {
+      belongs = all_more belongs value now now same c.loop-node.bits c.push.new.self _ p before.belongs c.not.ensures.there;
+      width = ap (λ (ns : List Node). length ns) p ∙ length_push c.loop-node.bits _ ∙ omega (arith, before.width);
+      values = λ x. map_turn belongs value now now same c.loop-node.bits c.push.new.self _ p before.belongs x
+          (λ n. not (value now x n)) a i _ lt (before.values x) (c.not.ensures.gives x);
+    }

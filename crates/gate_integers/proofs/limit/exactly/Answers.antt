@@ -1,0 +1,47 @@
+use Rattle.std.proofs.Common.{◌≡◌, ◌-◌, ◌<◌, ◌&&◌, Bool, length, get_or, sym, ap, ◌∙◌, arith}
+use Rattle.std.specs.Prelude.{count_by}
+use Rattle.std.proofs.lemmas.Bool.{false≢true}
+use Rattle.std.proofs.lemmas.List.Sums.{count_by-le-length}
+use Rattle.std.proofs.lemmas.Option.{get_or_from_slice_get}
+use Rattle.gate_trait.specs.declared.node.Node.{Node}
+use Rattle.gate_trait.specs.Kept.{all_get}
+use Rattle.gate_integers.proofs.Finals.{just_law, none_law}
+use Rattle.gate_integers.proofs.limit.exactly.Goals as goal
+
+pub returns-then-limit-nodes-clause-value : goal.returns-then-limit-nodes-clause-value
+returns-then-limit-nodes-clause-value g c = λ x. (
+  (λ e. absurd (false≢true (sym (c.constant.ensures.gives x) ∙ e))),
+  (λ h. let few = count_by-le-length (g.G.Gates.node_value c.args.gates.now x) c.args.nodes.now in absurd (omega arith)),
+)
+
+pub not-no_more-requires : goal.not-no_more-requires
+not-no_more-requires g c = all_get (g.G.Gates.belongs c.last_row.new.gates) c.in_ok-row.row c.args.limit c.node-more.result c.in_ok-row.ensures.belongs c.node-more.ensures
+
+pub returns-then-limit-eq0-clause-value : goal.returns-then-limit-eq0-clause-value
+returns-then-limit-eq0-clause-value g c = λ x.
+    let value = g.G.Gates.node_value in
+    let after = c.last_row.new.gates in
+    let row = c.in_ok-row.row in
+    let more = c.node-more.result in
+    let lt : c.args.limit < length row = omega (arith, c.in_ok-row.ensures.entries) in
+    let at : get_or row c.args.limit more ≡ more = get_or_from_slice_get row c.args.limit more more c.node-more.ensures in
+    none_law _ (value after x more) c.args.limit (count_by (value c.args.gates.now x) c.args.nodes.now) (omega arith)
+    (ap (λ (n : Node). value after x n) (sym at) ∙ c.in_ok-row.ensures.tells x c.args.limit more lt) (c.not-no_more.ensures.gives x)
+
+pub and-requires-clause-a_belongs : goal.and-requires-clause-a_belongs
+and-requires-clause-a_belongs g c = all_get (g.G.Gates.belongs c.last_row.new.gates) c.in_ok-row.row (c.args.limit - 1) c.node-enough.result c.in_ok-row.ensures.belongs c.node-enough.ensures
+
+pub returns-clause-value : goal.returns-clause-value
+returns-clause-value g c = λ x.
+    let value = g.G.Gates.node_value in
+    let after = c.last_row.new.gates in
+    let row = c.in_ok-row.row in
+    let more = c.node-more.result in
+    let enough = c.node-enough.result in
+    let lt : c.args.limit < length row = omega (arith, c.in_ok-row.ensures.entries) in
+    let at : get_or row c.args.limit more ≡ more = get_or_from_slice_get row c.args.limit more more c.node-more.ensures in
+    let at_low : get_or row (c.args.limit - 1) enough ≡ enough = get_or_from_slice_get row (c.args.limit - 1) enough enough c.node-enough.ensures in
+    just_law _ (value after x enough) (value after x more) c.args.limit (count_by (value c.args.gates.now x) c.args.nodes.now) (omega arith)
+    (ap (λ (n : Node). value after x n) (sym at_low) ∙ c.in_ok-row.ensures.tells x (c.args.limit - 1) enough (omega arith))
+    (ap (λ (n : Node). value after x n) (sym at) ∙ c.in_ok-row.ensures.tells x c.args.limit more lt)
+    (c.in_ok-exact.ensures.ok.gives x ∙ ap (λ (t : Bool). value after x enough && t) (c.not-no_more.ensures.gives x))

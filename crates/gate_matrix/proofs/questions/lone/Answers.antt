@@ -1,0 +1,16 @@
+use Rattle.std.proofs.Common.{◌≡◌, ◌↔◌, ◌&&◌, not, ℕ, Bool, List, take, length, ap, sym, subst, ◌∙◌, refl, arith, take_all}
+use Rattle.std.specs.List.{list_any}
+use Rattle.gate_matrix.specs.declared.entry.Entry.{Entry}
+use Rattle.gate_matrix.specs.Matrices.{truth}
+use Rattle.gate_matrix.specs.Questions.{HasSome, HasLone, HasOne, IsInside, IsEqual, more_than_one}
+use Rattle.gate_matrix.specs.Basics.{keeps_trans, all_here, any_more}
+use Rattle.gate_matrix.proofs.QuestionLaw.{some_means, lone_means, one_means, inside_law, equal_made, inside_kept, question_made, computed, node_belongs, through, more_step}
+use Rattle.gate_matrix.specs.Found.{truth_kept}
+use Rattle.gate_matrix.proofs.questions.lone.Goals as goal
+
+pub returns-clause-truth : goal.returns-clause-truth
+returns-clause-truth g c =
+    let value = g.G.Gates.node_value in
+    let first = c.args.gates.now in
+    let later = c.seen_of.new.gates in
+    λ x. through _ _ _ (c.not.ensures.gives x ∙ ap not (c.in_ok-seen.ensures.ok.two.gives x ∙ ap (λ (es : List Entry). more_than_one (value first x) es) c.entries.ensures.all)) (lone_means (value first x) c.args.a.now c.entries.ensures.matrix)

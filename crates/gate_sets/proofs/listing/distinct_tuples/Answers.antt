@@ -1,0 +1,19 @@
+use Rattle.std.proofs.Common.{ℕ, List, Contains, sym, subst}
+use Rattle.std.specs.Cmp.{nat_eq_equiv}
+use Rattle.std.specs.Cmp.Lexicographic.{lists_equiv}
+use Rattle.std.proofs.lemmas.List.Filters.{dedup_is}
+use Rattle.std.proofs.lemmas.List.Kept.{Contains-dedup, Contains-from_dedup}
+use Rattle.std.proofs.lemmas.List.Sorted.{Contains-permutation, IsPermutation-sym}
+use Rattle.core_tuples.specs.Sets.{is_same}
+use Rattle.core_tuples.specs.Ordered.{same_exact}
+use Rattle.gate_sets.proofs.listing.distinct_tuples.Goals as goal
+
+pub returns : goal.returns
+returns c = λ t.
+    let old = c.args.tuples.items in
+    let sorted = c.sort.new.self.items in
+    let all = c.dedup.new.self.items in
+    let is = dedup_is is_same sorted all c.dedup.ensures.filtered in (
+      (λ h. Contains-permutation sorted old t (IsPermutation-sym old sorted c.in_ok-sort.ensures.permutation) (Contains-from_dedup is_same sorted t (subst (λ (ts : List (List ℕ)). Contains ts t) is h))),
+      (λ h. subst (λ (ts : List (List ℕ)). Contains ts t) (sym is) (Contains-dedup (lists_equiv nat_eq_equiv) same_exact sorted t (Contains-permutation old sorted t c.in_ok-sort.ensures.permutation h))),
+    )

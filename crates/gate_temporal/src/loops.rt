@@ -1,0 +1,47 @@
+//! The choice of the loop.
+
+ghost use Rattle.std.specs.Prelude.{◌≡◌, ◌<◌, ◌↔◌, ℕ, Bool, length, IfOk, IsTrue};
+ghost use Rattle.gate_trait.specs.Built.{Keeps, AllIn};
+ghost use Rattle.gate_temporal.specs.Rows.{row_value, IsOnly};
+
+use gate_trait::{Gates, Node, NodeList};
+use std::alloc::{AllocError, Global};
+
+/// Whether just one of the nodes is true.
+pub fn only_one<G: Gates>(gates: &mut G, choices: &NodeList) -> Result<Node, AllocError>
+    requires belongs { AllIn (G.belongs gates.old) choices.now }
+    ensures keeps { Keeps G.belongs G.node_value gates.old gates.new }
+    ensures belongs { IfOk result (λ n. G.belongs gates.new n) }
+    ensures truth { IfOk result (λ n. (x : ℕ → Bool) → IsTrue (G.node_value gates.new x n)
+        ↔ ((k : ℕ) × IsOnly (G.node_value gates.old x) choices.now k)) }
+{
+    let mut one = gates.constant(false);
+    let mut none = gates.constant(true);
+    for place in 0..choices.len() {
+        one = gates.choose(choices.node(place), none, one)?;
+        let other = gates.not(choices.node(place));
+        none = gates.and(none, other)?;
+    }
+    Ok(one)
+}
+
+/// The value at the place of the choice that is true, where just one is.
+pub fn chosen<G: Gates>(
+    gates: &mut G,
+    choices: &NodeList,
+    values: &NodeList,
+) -> Result<Node, AllocError>
+    requires choices_belong { AllIn (G.belongs gates.old) choices.now }
+    requires values_belong { AllIn (G.belongs gates.old) values.now }
+    requires lengths { length choices.now ≡ length values.now }
+    ensures keeps { Keeps G.belongs G.node_value gates.old gates.new }
+    ensures belongs { IfOk result (λ n. G.belongs gates.new n) }
+    ensures truth { IfOk result (λ n. (x : ℕ → Bool) (k : ℕ) → IsOnly (G.node_value gates.old x) choices.now k
+        → G.node_value gates.new x n ≡ row_value (G.node_value gates.old x) values.now k) }
+{
+    let mut answer = gates.constant(false);
+    for place in 0..choices.len() {
+        answer = gates.choose(choices.node(place), values.node(place), answer)?;
+    }
+    Ok(answer)
+}

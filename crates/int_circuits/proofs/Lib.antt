@@ -1,4 +1,0 @@
-pub mod Signed
-pub mod Alike
-pub mod Finals
-pub mod Columns

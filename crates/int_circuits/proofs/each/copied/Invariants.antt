@@ -1,6 +1,0 @@
-use Rattle.std.proofs.Common.{◌≡◌, take}
-use Rattle.int_circuits.proofs.each.copied.Given as goal
-
--- the bits so far are copied
-abbrev pub invariant-loop-node : goal.invariant-loop-node
-invariant-loop-node g l = l.bits ≡ take l.node-index l.a

@@ -1,6 +1,0 @@
-pub mod Numbers
-pub mod Counts
-pub mod Rows
-pub mod Binary
-pub mod Sums
-pub mod Wrapped

@@ -1,3 +1,0 @@
-pub mod Divided
-pub mod Multiplied
-pub mod DivideSteps

@@ -1,5 +1,0 @@
-use Rattle.std.proofs.Common.{length}
-use Rattle.kernel_form.proofs.variables.+lone_by_one.Given as goal
-
-abbrev pub decreases-lone_by_one : goal.decreases-lone_by_one
-decreases-lone_by_one l = length l.list.now

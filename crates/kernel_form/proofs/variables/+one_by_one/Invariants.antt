@@ -1,5 +1,0 @@
-use Rattle.std.proofs.Common.{length}
-use Rattle.kernel_form.proofs.variables.+one_by_one.Given as goal
-
-abbrev pub decreases-one_by_one : goal.decreases-one_by_one
-decreases-one_by_one l = length l.list.items

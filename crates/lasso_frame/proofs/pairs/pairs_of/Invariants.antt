@@ -1,5 +1,0 @@
-use Rattle.lasso_frame.proofs.PairLaws.{PairsTo}
-use Rattle.lasso_frame.proofs.pairs.pairs_of.Given as goal
-
-abbrev pub invariant-loop-place : goal.invariant-loop-place
-invariant-loop-place l = PairsTo l.pairs.items l.row.items l.a l.b l.place

@@ -1,5 +1,0 @@
-use Rattle.lasso_steps.proofs.OpenLaws.{next_opened}
-use Rattle.lasso_steps.proofs.opening.open_prime.Goals as goal
-
-pub returns : goal.returns
-returns c = next_opened c.args.expr c.args.scope c.requires c.in_ok-plan_next.ensures

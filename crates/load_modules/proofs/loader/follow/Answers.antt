@@ -1,0 +1,37 @@
+use Rattle.std.proofs.Common.{rules, refl}
+use Rattle.load_modules.specs.Told.{Keeps}
+use Rattle.load_modules.proofs.Known.{keeps_same, keeps_on, stays_same, stays_on, follows, distinct_end}
+use Rattle.load_modules.proofs.Led.{opens_from}
+use Rattle.load_modules.proofs.loader.follow.Goals as goal
+
+pub returns-clause-texts : goal.returns-clause-texts
+returns-clause-texts g c =
+    let held = g.L.Libraries.told c.args.libraries.now in
+    let root = c.args.root.now in
+    let keeps : Keeps held root c.args.loading c.finish.new.loading =
+    keeps_on held _ root c.args.loading c.open_integer.new.loading c.finish.new.loading
+    (keeps_on held _ root c.args.loading c.open_all.new.loading c.open_integer.new.loading
+    (keeps_on held _ root c.args.loading _ c.open_all.new.loading (keeps_same held root c.args.loading _ refl refl) c.in_ok-doors.ensures.texts refl)
+    c.in_ok-integer.ensures.texts c.open_all.ensures.keeps)
+    (keeps_same held root c.open_integer.new.loading c.finish.new.loading c.finish.ensures.texts c.finish.ensures.asked) refl in
+    follows held root c.args.loading c.finish.new.loading c.in_ok-finished_model.field-0.texts keeps c.in_ok-finished_model.ensures.texts
+
+pub returns-clause-opens : goal.returns-clause-opens
+returns-clause-opens g c =
+    let held = g.L.Libraries.told c.args.libraries.now in
+    let root = c.args.root.now in
+    let keeps : Keeps held root c.args.loading c.finish.new.loading =
+    keeps_on held _ root c.args.loading c.open_integer.new.loading c.finish.new.loading
+    (keeps_on held _ root c.args.loading c.open_all.new.loading c.open_integer.new.loading
+    (keeps_on held _ root c.args.loading _ c.open_all.new.loading (keeps_same held root c.args.loading _ refl refl) c.in_ok-doors.ensures.texts refl)
+    c.in_ok-integer.ensures.texts c.open_all.ensures.keeps)
+    (keeps_same held root c.open_integer.new.loading c.finish.new.loading c.finish.ensures.texts c.finish.ensures.asked) refl in
+    opens_from held root c.args.loading c.finish.new.loading c.in_ok-finished_model.field-0.texts c.in_ok-finished_model.field-0.instances keeps c.in_ok-finished_model.ensures.led c.in_ok-finished_model.ensures.texts
+
+pub returns-clause-distinct : goal.returns-clause-distinct
+returns-clause-distinct g c =
+    distinct_end c.args.loading.keys.items c.add_plain.new.keys.items c.finish.new.loading.keys.items _ _ c.requires c.in_ok-first.ensures.pairs
+    (stays_on c.add_plain.new.keys.items c.open_integer.new.loading.keys.items c.finish.new.loading.keys.items
+    (stays_on c.add_plain.new.keys.items c.open_all.new.loading.keys.items c.open_integer.new.loading.keys.items c.in_ok-doors.ensures.distinct c.in_ok-integer.ensures.distinct)
+    (stays_same c.open_integer.new.loading.keys.items c.finish.new.loading.keys.items c.finish.ensures.instances))
+    c.in_ok-finished_model.ensures.instances

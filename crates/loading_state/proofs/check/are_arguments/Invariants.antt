@@ -1,9 +1,0 @@
-use Rattle.std.proofs.Common.{◌≡◌, List, take}
-use Rattle.std.specs.Prelude.{map}
-use Rattle.std.specs.List.{list_all}
-use Rattle.als_tree.specs.Instances.{is_argument, sig_count}
-use Rattle.als_tree.specs.declared.instance.Text.{Text}
-use Rattle.loading_state.proofs.check.are_arguments.Given as goal
-
-abbrev pub invariant-loop-argument : goal.invariant-loop-argument
-invariant-loop-argument l = (texts : List Text) → l.sigs ≡ map (λ t. sig_count t.tree) texts → l.all ≡ list_all (is_argument texts l.instances) (take l.argument-index l.arguments)

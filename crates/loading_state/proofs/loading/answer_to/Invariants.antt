@@ -1,6 +1,0 @@
-use Rattle.std.proofs.Common.{◌≡◌, drop}
-use Rattle.loading_state.specs.Keys.{answer_in}
-use Rattle.loading_state.proofs.loading.answer_to.Given as goal
-
-abbrev pub invariant-loop-answer : goal.invariant-loop-answer
-invariant-loop-answer l = answer_in l.asked l.name ≡ answer_in (drop l.answer-index l.asked) l.name

@@ -1,6 +1,0 @@
-use Rattle.std.proofs.Common.{take}
-use Rattle.loading_state.specs.Opens.{AreFits}
-use Rattle.loading_state.proofs.request.arguments_of.Given as goal
-
-abbrev pub invariant-loop-place : goal.invariant-loop-place
-invariant-loop-place l = AreFits (take l.place l.names) l.arguments

@@ -1,8 +1,0 @@
-use Rattle.std.proofs.Common.{◌≡◌, ◌+◌, ◌++◌, map, take}
-use Rattle.loading_state.specs.Sigs.{declared_as}
-use Rattle.loading_state.proofs.table.Table.add_sigs.Given as goal
-
-abbrev pub invariant-loop-named : goal.invariant-loop-named
-invariant-loop-named l =
-    (l.self.enums.items ≡ l.fn.self.enums.items) × (l.self.declared.items ≡ l.fn.self.declared.items ++ map (declared_as l.is_private) (take l.named-index l.names))
-    × (l.self.sigs ≡ l.fn.self.sigs + l.named-index)

@@ -1,6 +1,0 @@
-use Rattle.std.proofs.Common.{All, take}
-use Rattle.model_test.specs.Kept.{IsCommand}
-use Rattle.model_test.proofs.keeps.are_right_commands.Given as goal
-
-abbrev pub invariant-loop-command : goal.invariant-loop-command
-invariant-loop-command l = All (IsCommand l.model) (take l.command-index l.commands)

@@ -1,9 +1,0 @@
-use Rattle.std.proofs.Common.{List, ◌∷◌, [], ◌++◌, ap, ◌∙◌}
-use Rattle.model_test.specs.declared.names.Named.{Named}
-use Rattle.model_test.proofs.NameLists.{one_more}
-use Rattle.model_test.proofs.names.with_name.Goals as goal
-
-pub returns : goal.returns
-returns c =
-    let n : Named = record { name = c.args.name; columns = c.args.columns } in
-    one_more c.args.names.now c.push.new.self n (c.in_ok-push.ensures.ok ∙ ap (λ (l : List Named). l ++ n ∷ []) c.in_ok-all.ensures)

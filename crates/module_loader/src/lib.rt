@@ -1,9 +1,0 @@
-//! Loads a model: a file and what it opens.
-#![tactic(auto)]
-
-mod loader;
-mod source;
-mod walk;
-
-pub use loader::{load, load_text, load_tree};
-pub use loading_state::LoadFault;

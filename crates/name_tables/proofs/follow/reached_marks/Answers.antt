@@ -1,7 +1,0 @@
-use Rattle.std.proofs.Common.{List, sym, subst}
-use Rattle.name_tables.specs.declared.table.Scope.{Scope}
-use Rattle.name_tables.specs.Marks.{IsLinked}
-use Rattle.name_tables.proofs.follow.reached_marks.Goals as goal
-
-pub reached-requires-clause-linked : goal.reached-requires-clause-linked
-reached-requires-clause-linked c = subst (λ (s : List Scope). IsLinked s) (sym c.as_slice.ensures) c.args.names.now.linked

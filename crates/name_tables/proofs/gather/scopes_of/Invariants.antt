@@ -1,9 +1,0 @@
-use Rattle.std.proofs.Common.{◌≡◌, length}
-use Rattle.name_tables.specs.Marks.{AreScoped}
-use Rattle.name_tables.proofs.gather.scopes_of.Given as goal
-
-abbrev pub invariant-loop-number : goal.invariant-loop-number
-invariant-loop-number l = record {
-  every : length l.scopes ≡ l.number;
-  scoped : AreScoped (length l.instances) l.scopes;
-}

@@ -1,7 +1,0 @@
-use Rattle.std.proofs.Common.{◌≡◌, ◌++◌, drop}
-use Rattle.name_tables.specs.Lookup.{seen_from}
-use Rattle.name_tables.proofs.lookup.all_seen.Given as goal
-
-abbrev pub invariant-loop-number : goal.invariant-loop-number
-invariant-loop-number l =
-    l.all.items ++ seen_from l.marks l.from l.name l.number (drop l.number l.scopes) ≡ seen_from l.marks l.from l.name 0 l.scopes

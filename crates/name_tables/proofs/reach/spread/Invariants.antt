@@ -1,9 +1,0 @@
-use Rattle.name_tables.specs.Marks.{IsBegun}
-use Rattle.name_tables.proofs.Walk.{count_free}
-use Rattle.name_tables.proofs.reach.spread.Given as goal
-
-abbrev pub invariant-loop-target : goal.invariant-loop-target
-invariant-loop-target l = IsBegun l.scopes l.from l.opens l.marks.items
-
-abbrev pub decreases-loop-target : goal.decreases-loop-target
-decreases-loop-target l = count_free l.marks.items

@@ -1,6 +1,0 @@
-use Rattle.std.proofs.Common.{rules}
-use Rattle.paragraph_parser.proofs.Rules.{comma_some}
-use Rattle.paragraph_parser.proofs.sig.fields.Goals as goal
-
-pub returns-clause-comma : goal.returns-clause-comma
-returns-clause-comma c = comma_some c.in_ok-found.found.0 c.in_ok-found.found.1 (search rules)

@@ -1,0 +1,101 @@
+// The reading of a root, and its tree.
+
+ghost use Rattle.std.specs.Prelude.{◌≡◌, IfOk};
+ghost use Rattle.resolve_readings.specs.Readings.{Decides, IsWithin, count_choices};
+ghost use Rattle.resolve_readings.specs.declared.part.Outcome.TheVariants as outcome;
+ghost use Rattle.resolve_drafts.specs.Settled.{outcome_of};
+
+use crate::built::{Built, CallSite};
+use crate::draft::Draft;
+use crate::part::fixed;
+use crate::tree::built;
+use base_lists::Items;
+use resolve_readings::{Found, Meaning, Outcome, Part, Typing, decide, found};
+use std::alloc::{AllocError, Global};
+
+/// A root under its reading.
+#[derive(Drop)]
+pub struct Reading {
+    /// For each name in turn the number of its candidate.
+    pub choice: Items<usize>,
+    pub built: Built,
+    /// What the root means.
+    pub meaning: Option<Meaning>,
+    /// The calls in it, those in nested roots aside.
+    pub calls: Items<CallSite>,
+}
+
+/// What is settled of a root.
+#[derive(Drop)]
+pub enum Settled {
+    Read(Reading),
+    /// No reading is right.
+    NoReading,
+    /// Several are right, and none is the root's reading.
+    Ambiguous,
+    /// There are more than 4,096 readings.
+    TooMany,
+}
+
+fn first(alloc: Global, all: &[Found]) -> Result<Option<Meaning>, AllocError> {
+    match all {
+        [one, ..] => Ok(Some(one.meaning.copy(alloc)?)),
+        [] => Ok(None),
+    }
+}
+
+/// What a part means under a choice.
+fn meaning_under(
+    alloc: Global,
+    typing: &Typing,
+    part: &Part,
+    choice: &[usize],
+) -> Result<Option<Meaning>, AllocError> {
+    let mut at = 0;
+    let fixed = fixed(alloc, part, choice, &mut at)?;
+    let all = found(alloc, typing, &fixed)?;
+    first(alloc, all.as_slice())
+}
+
+/// The root under a choice.
+fn read(
+    alloc: Global,
+    typing: &Typing,
+    draft: &Draft,
+    part: &Part,
+    choice: Items<usize>,
+) -> Result<Settled, AllocError>
+    ensures { IfOk result (λ s. outcome_of s ≡ outcome.Read choice) }
+{
+    let meaning = meaning_under(alloc, typing, part, choice.as_slice())?;
+    let mut at = 0;
+    let mut calls = Vec::new(alloc);
+    let built = built(alloc, draft, choice.as_slice(), &mut at, &mut calls)?;
+    Ok(Settled::Read(Reading {
+        choice,
+        built,
+        meaning,
+        calls: Items::from_vec(calls),
+    }))
+}
+
+/// The reading of a root, given as a draft and as the part by which its readings are judged: the
+/// one right reading, else the one relevant reading, else the only one that is left when readings
+/// that name something of the implicitly opened integers are put aside.
+pub fn settle(
+    alloc: Global,
+    typing: &Typing,
+    draft: &Draft,
+    part: &Part,
+) -> Result<Settled, AllocError>
+    ensures decided { IfOk result (λ s. Decides typing.now part.now (outcome_of s)) }
+    ensures limit { IfOk result (λ s. IsWithin (count_choices part.now) (outcome_of s)) }
+{
+    let outcome = decide(alloc, typing, part)?;
+    match outcome {
+        Outcome::Read(choice) => read(alloc, typing, draft, part, choice),
+        Outcome::NoReading => Ok(Settled::NoReading),
+        Outcome::Ambiguous => Ok(Settled::Ambiguous),
+        Outcome::TooMany => Ok(Settled::TooMany),
+    }
+}

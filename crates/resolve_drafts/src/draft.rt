@@ -1,0 +1,49 @@
+use base_lists::Items;
+use base_types::Place;
+use core_tree::{Comparison, Expr, Formula, IntOp, Multiplicity};
+use resolve_readings::{Binary, Meaning, Unary};
+
+/// What a candidate of a name stands for.
+#[derive(Clone, Copy, Debug, Drop)]
+pub enum Target {
+    /// A sig, by its number in the model.
+    Sig(u32),
+    /// `Int`, by a parameter of a module.
+    Int,
+    /// A field, by its number in the model.
+    Field(u32),
+    /// A field joined to `this`, which is name 0.
+    OwnField(u32),
+    /// A variable, a parameter or a `let` name, by its number.
+    Name(u32),
+    /// A predicate or a function, by its number in the model.
+    Body(u32),
+}
+
+/// A candidate of a name, and what the name then means.
+#[derive(Drop)]
+pub struct Candidate {
+    pub target: Target,
+    pub meaning: Meaning,
+}
+
+/// A part of a root: the candidates of its names, and all that is resolved of it already.
+#[cycle(tree)]
+#[derive(Drop)]
+pub enum Draft {
+    /// A name at its place.
+    Name(Place, Items<Candidate>),
+    /// What has one meaning, with its tree.
+    Known(Meaning, Expr),
+    Single(Unary, Box<Draft>),
+    Pair(Binary, Box<Draft>, Box<Draft>),
+    /// `->`, whether a multiplicity word stands beside it, and its two multiplicities.
+    Arrow(bool, Multiplicity, Multiplicity, Box<Draft>, Box<Draft>),
+    Arithmetic(IntOp, Box<Draft>, Box<Draft>),
+    /// A comparison of two integers.
+    Compare(Comparison, Box<Draft>, Box<Draft>),
+    /// `=> else`, with the condition.
+    Choose(Formula, Box<Draft>, Box<Draft>),
+    /// `let`, with the number of its name and the value.
+    Let(u32, Expr, Box<Draft>),
+}

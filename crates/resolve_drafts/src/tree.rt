@@ -1,0 +1,312 @@
+// The resolved tree of a draft under a choice.
+
+use crate::built::{Built, CallSite, begun, give};
+use crate::draft::{Candidate, Draft, Target};
+use base_types::Place;
+use core_tree::{Comparison, Expr, Formula, IntOp, Multiplicity, RelationOp, UnaryRelation};
+use resolve_readings::{Binary, Meaning, Multiplicity as Word, Unary, What};
+use std::alloc::{AllocError, Global};
+
+/// The tree of a call's name.
+fn body_name(
+    alloc: Global,
+    place: Place,
+    body: u32,
+    meaning: &Meaning,
+    calls: &mut Vec<CallSite>,
+) -> Result<Built, AllocError> {
+    calls.push(CallSite { body, place })?;
+    match &meaning.what {
+        What::Set(_) => Ok(begun(alloc, body, 0, true)),
+        What::Formula => Ok(begun(alloc, body, 0, false)),
+        What::Waiting(parameters, result) => {
+            Ok(begun(alloc, body, parameters.len(), result.is_some()))
+        }
+    }
+}
+
+fn joined(alloc: Global, left: Expr, right: Expr) -> Result<Expr, AllocError> {
+    combined(alloc, RelationOp::Join, left, right)
+}
+
+fn combined(alloc: Global, op: RelationOp, left: Expr, right: Expr) -> Result<Expr, AllocError> {
+    let left = Box::new(alloc, left)?;
+    let right = Box::new(alloc, right)?;
+    Ok(Expr::Combine(op, left, right))
+}
+
+/// The tree of a name that stands for a candidate.
+fn candidate_tree(
+    alloc: Global,
+    place: Place,
+    candidate: &Candidate,
+    calls: &mut Vec<CallSite>,
+) -> Result<Built, AllocError> {
+    match candidate.target {
+        Target::Sig(sig) => Ok(Built::Term(Expr::Sig(sig))),
+        Target::Int => Ok(Built::Term(Expr::Int)),
+        Target::Field(field) => Ok(Built::Term(Expr::Field(field))),
+        Target::OwnField(field) => {
+            let tree = joined(alloc, Expr::Name(0), Expr::Field(field))?;
+            Ok(Built::Term(tree))
+        }
+        Target::Name(name) => Ok(Built::Term(Expr::Name(name))),
+        Target::Body(body) => body_name(alloc, place, body, &candidate.meaning, calls),
+    }
+}
+
+/// The tree of a name under a choice.
+fn name_tree(
+    alloc: Global,
+    place: Place,
+    candidates: &[Candidate],
+    choice: &[usize],
+    at: &mut usize,
+    calls: &mut Vec<CallSite>,
+) -> Result<Built, AllocError> {
+    let number = match choice.get(*at) {
+        None => return Ok(Built::Nothing),
+        Some(number) => *number,
+    };
+    *at = at.saturating_add(1);
+    match candidates.get(number) {
+        None => Ok(Built::Nothing),
+        Some(candidate) => candidate_tree(alloc, place, candidate, calls),
+    }
+}
+
+fn unary(alloc: Global, op: UnaryRelation, inner: Expr) -> Result<Built, AllocError> {
+    let inner = Box::new(alloc, inner)?;
+    Ok(Built::Term(Expr::Unary(op, inner)))
+}
+
+/// An operator on one tree.
+fn single_tree(alloc: Global, operator: Unary, inner: Expr) -> Result<Built, AllocError> {
+    match operator {
+        Unary::Whole | Unary::Body | Unary::Fits(_) => Ok(Built::Term(inner)),
+        Unary::Transpose => unary(alloc, UnaryRelation::Transpose, inner),
+        Unary::Closure => unary(alloc, UnaryRelation::Closure, inner),
+        Unary::ReflexiveClosure => unary(alloc, UnaryRelation::ReflexiveClosure, inner),
+        Unary::Count => Ok(Built::Term(Expr::Count(Box::new(alloc, inner)?))),
+        Unary::Prime => Ok(Built::Term(Expr::Prime(Box::new(alloc, inner)?))),
+    }
+}
+
+/// An operator on what one part became.
+fn single_built(alloc: Global, operator: Unary, inner: Built) -> Result<Built, AllocError> {
+    match inner {
+        Built::Term(tree) => single_tree(alloc, operator, tree),
+        Built::Test(formula) => Ok(Built::Test(formula)),
+        Built::Waiting(_) => Ok(Built::Nothing),
+        Built::Nothing => Ok(Built::Nothing),
+    }
+}
+
+/// Whether a multiplicity other than `set` stands at an arrow, with nothing but arrows above it.
+fn has_words(tree: &Expr) -> bool {
+    match tree {
+        Expr::Product(left, Multiplicity::Set, Multiplicity::Set, right) => {
+            has_words(left) || has_words(right)
+        }
+        Expr::Product(_, _, _, _) => true,
+        _ => false,
+    }
+}
+
+fn multiplicity_of(word: Word) -> Multiplicity {
+    match word {
+        Word::Set => Multiplicity::Set,
+        Word::One => Multiplicity::One,
+        Word::Lone => Multiplicity::Lone,
+        Word::Some => Multiplicity::Some,
+    }
+}
+
+/// `in`, with the word after it.
+fn inside(
+    alloc: Global,
+    word: Option<Word>,
+    left: Expr,
+    right: Expr,
+) -> Result<Formula, AllocError> {
+    let words = has_words(&right);
+    let left = Box::new(alloc, left)?;
+    let right = Box::new(alloc, right)?;
+    match word {
+        Some(word) => Ok(Formula::Within(left, multiplicity_of(word), right)),
+        None if words => Ok(Formula::Within(left, Multiplicity::Set, right)),
+        None => Ok(Formula::Inside(left, right)),
+    }
+}
+
+fn equal(alloc: Global, left: Expr, right: Expr) -> Result<Formula, AllocError> {
+    let left = Box::new(alloc, left)?;
+    let right = Box::new(alloc, right)?;
+    Ok(Formula::Equal(left, right))
+}
+
+/// An operator between two trees.
+fn pair_tree(
+    alloc: Global,
+    operator: Binary,
+    left: Expr,
+    right: Expr,
+) -> Result<Built, AllocError> {
+    let op = match operator {
+        Binary::In(word) => return Ok(Built::Test(inside(alloc, word, left, right)?)),
+        Binary::Equal => return Ok(Built::Test(equal(alloc, left, right)?)),
+        Binary::Apply => return Ok(Built::Term(joined(alloc, right, left)?)),
+        Binary::Dot => RelationOp::Join,
+        Binary::Union => RelationOp::Union,
+        Binary::Difference => RelationOp::Difference,
+        Binary::Override => RelationOp::Override,
+        Binary::Intersection => RelationOp::Intersection,
+        Binary::LeftRestrict => RelationOp::LeftRestrict,
+        Binary::RightRestrict => RelationOp::RightRestrict,
+        Binary::Arrow(_) | Binary::Arithmetic | Binary::Choose | Binary::Order => {
+            return Ok(Built::Nothing);
+        }
+    };
+    Ok(Built::Term(combined(alloc, op, left, right)?))
+}
+
+/// An operator between what two parts became.
+fn pair_built(
+    alloc: Global,
+    operator: Binary,
+    left: Built,
+    right: Built,
+) -> Result<Built, AllocError> {
+    match (operator, left, right) {
+        (operator, Built::Term(left), Built::Term(right)) => {
+            pair_tree(alloc, operator, left, right)
+        }
+        (Binary::Dot, Built::Term(left), Built::Waiting(right)) => give(right, left),
+        (Binary::Apply, Built::Waiting(left), Built::Term(right)) => give(left, right),
+        _ => Ok(Built::Nothing),
+    }
+}
+
+/// An operator between the trees of two parts, where both are expressions.
+#[derive(Drop)]
+enum Two {
+    Both(Expr, Expr),
+    Neither,
+}
+
+fn both(left: Built, right: Built) -> Two {
+    match (left, right) {
+        (Built::Term(left), Built::Term(right)) => Two::Both(left, right),
+        _ => Two::Neither,
+    }
+}
+
+fn arrow(
+    alloc: Global,
+    first: Multiplicity,
+    second: Multiplicity,
+    two: Two,
+) -> Result<Built, AllocError> {
+    match two {
+        Two::Neither => Ok(Built::Nothing),
+        Two::Both(left, right) => {
+            let left = Box::new(alloc, left)?;
+            let right = Box::new(alloc, right)?;
+            Ok(Built::Term(Expr::Product(left, first, second, right)))
+        }
+    }
+}
+
+fn arithmetic(alloc: Global, op: IntOp, two: Two) -> Result<Built, AllocError> {
+    match two {
+        Two::Neither => Ok(Built::Nothing),
+        Two::Both(left, right) => {
+            let left = Box::new(alloc, left)?;
+            let right = Box::new(alloc, right)?;
+            Ok(Built::Term(Expr::Arithmetic(op, left, right)))
+        }
+    }
+}
+
+fn compared(alloc: Global, comparison: Comparison, two: Two) -> Result<Built, AllocError> {
+    match two {
+        Two::Neither => Ok(Built::Nothing),
+        Two::Both(left, right) => {
+            let left = Box::new(alloc, left)?;
+            let right = Box::new(alloc, right)?;
+            Ok(Built::Test(Formula::Compare(comparison, left, right)))
+        }
+    }
+}
+
+fn choice_of(alloc: Global, condition: &Formula, two: Two) -> Result<Built, AllocError> {
+    match two {
+        Two::Neither => Ok(Built::Nothing),
+        Two::Both(left, right) => {
+            let condition = Box::new(alloc, condition.copy(alloc)?)?;
+            let left = Box::new(alloc, left)?;
+            let right = Box::new(alloc, right)?;
+            Ok(Built::Term(Expr::Choose(condition, left, right)))
+        }
+    }
+}
+
+fn let_tree(alloc: Global, name: u32, value: &Expr, body: Built) -> Result<Built, AllocError> {
+    match body {
+        Built::Term(body) => {
+            let value = Box::new(alloc, value.copy(alloc)?)?;
+            let body = Box::new(alloc, body)?;
+            Ok(Built::Term(Expr::Let(name, value, body)))
+        }
+        _ => Ok(Built::Nothing),
+    }
+}
+
+/// The resolved tree of a draft, in which the choice names a candidate for each name in turn.
+pub fn built(
+    alloc: Global,
+    draft: &Draft,
+    choice: &[usize],
+    at: &mut usize,
+    calls: &mut Vec<CallSite>,
+) -> Result<Built, AllocError> {
+    match draft {
+        Draft::Name(place, candidates) => {
+            name_tree(alloc, *place, candidates.as_slice(), choice, at, calls)
+        }
+        Draft::Known(_, tree) => Ok(Built::Term(tree.copy(alloc)?)),
+        Draft::Single(operator, inner) => {
+            let inner = built(alloc, inner, choice, at, calls)?;
+            single_built(alloc, *operator, inner)
+        }
+        Draft::Pair(operator, left, right) => {
+            let left = built(alloc, left, choice, at, calls)?;
+            let right = built(alloc, right, choice, at, calls)?;
+            pair_built(alloc, *operator, left, right)
+        }
+        Draft::Arrow(_, first, second, left, right) => {
+            let left = built(alloc, left, choice, at, calls)?;
+            let right = built(alloc, right, choice, at, calls)?;
+            arrow(alloc, *first, *second, both(left, right))
+        }
+        Draft::Arithmetic(op, left, right) => {
+            let left = built(alloc, left, choice, at, calls)?;
+            let right = built(alloc, right, choice, at, calls)?;
+            arithmetic(alloc, *op, both(left, right))
+        }
+        Draft::Compare(comparison, left, right) => {
+            let left = built(alloc, left, choice, at, calls)?;
+            let right = built(alloc, right, choice, at, calls)?;
+            compared(alloc, *comparison, both(left, right))
+        }
+        Draft::Choose(condition, left, right) => {
+            let left = built(alloc, left, choice, at, calls)?;
+            let right = built(alloc, right, choice, at, calls)?;
+            choice_of(alloc, condition, both(left, right))
+        }
+        Draft::Let(name, value, inner) => {
+            let inner = built(alloc, inner, choice, at, calls)?;
+            let_tree(alloc, *name, value, inner)
+        }
+    }
+}

@@ -1,0 +1,216 @@
+// A root with its reading.
+
+use base_types::Place;
+use core_tree::{Expr, Formula};
+use resolve_context::faults::Broken;
+use resolve_context::meanings::formula_meaning;
+use resolve_context::state::{Root, Setting, State, note_at};
+use resolve_drafts::{Built, CallSite, Draft, Reading, Settled, part_of, settle};
+use resolve_readings::{Meaning, Place as RootPlace, Unary, What};
+use resolve_types::Columns;
+use std::alloc::{AllocError, Global};
+
+/// What a part of a text is: a part of a root, or a formula that has its own roots. A formula is
+/// none where something in it was refused.
+#[derive(Drop)]
+pub enum Piece {
+    Part(Draft),
+    Claim(Option<Formula>),
+}
+
+/// A resolved expression with its type.
+#[derive(Drop)]
+pub struct Resolved {
+    pub tree: Expr,
+    pub columns: Columns,
+}
+
+/// The piece in an expression's place: there a formula is never right.
+pub fn draft_of(piece: Piece) -> Draft {
+    match piece {
+        Piece::Part(draft) => draft,
+        Piece::Claim(_) => Draft::Known(formula_meaning(false), Expr::Empty),
+    }
+}
+
+pub fn single(alloc: Global, operator: Unary, inner: Draft) -> Result<Draft, AllocError> {
+    Ok(Draft::Single(operator, Box::new(alloc, inner)?))
+}
+
+fn add_calls(
+    setting: &Setting<'_>,
+    state: &mut State,
+    calls: &[CallSite],
+) -> Result<(), AllocError> {
+    if setting.is_quiet {
+        return Ok(());
+    }
+    for call in calls {
+        state.calls.push(*call)?;
+    }
+    Ok(())
+}
+
+/// The columns of what a root means, and so many more.
+fn width(meaning: &Meaning, more: u32) -> u32 {
+    match &meaning.what {
+        What::Set(columns) => columns.count.saturating_add(more),
+        _ => 0,
+    }
+}
+
+/// The tree and the meaning of a reading; too many columns are noted.
+fn taken(
+    setting: &Setting<'_>,
+    state: &mut State,
+    at: Place,
+    reading: Reading,
+    more: u32,
+) -> Option<(Built, Meaning)> {
+    let Reading {
+        choice: _,
+        built,
+        meaning,
+        calls: _,
+    } = reading;
+    let Some(meaning) = meaning else {
+        return None;
+    };
+    if meaning.widest > 9 || width(&meaning, more) > 9 {
+        note_at(setting, state, at, Broken::ArityLimit);
+    }
+    Some((built, meaning))
+}
+
+/// The reading of a root in its place; the refusal is noted where it has none. A root in which something
+/// was refused is refused itself only where it has too many readings. Where it is a field's bound, the field
+/// has one column more.
+fn settled(
+    alloc: Global,
+    setting: &Setting<'_>,
+    state: &mut State,
+    root: Root,
+    start: Place,
+    draft: Draft,
+    place: RootPlace,
+    more: u32,
+) -> Result<Option<(Built, Meaning)>, AllocError> {
+    let at = match root.first {
+        Some(first) => first,
+        None => start,
+    };
+    if root.is_unknown {
+        note_at(setting, state, at, Broken::NoReading);
+        return Ok(None);
+    }
+    let draft = single(alloc, Unary::Fits(place), draft)?;
+    let part = part_of(alloc, &draft)?;
+    let outcome = settle(alloc, &setting.known.typing, &draft, &part)?;
+    if root.is_spoilt && !matches!(outcome, Settled::TooMany) {
+        return Ok(None);
+    }
+    match outcome {
+        Settled::Read(reading) => {
+            add_calls(setting, state, reading.calls.as_slice())?;
+            Ok(taken(setting, state, at, reading, more))
+        }
+        Settled::NoReading => {
+            note_at(setting, state, at, Broken::NoReading);
+            Ok(None)
+        }
+        Settled::Ambiguous => {
+            note_at(setting, state, at, Broken::Ambiguous);
+            Ok(None)
+        }
+        Settled::TooMany => {
+            note_at(setting, state, at, Broken::TooManyReadings);
+            Ok(None)
+        }
+    }
+}
+
+/// The expression of a reading, with its type; none where it is none.
+fn term_of(found: (Built, Meaning)) -> Option<Resolved> {
+    let (built, meaning) = found;
+    let Built::Term(tree) = built else {
+        return None;
+    };
+    let Some(columns) = columns_of(meaning) else {
+        return None;
+    };
+    Some(Resolved { tree, columns })
+}
+
+/// The type of what a reading means; none where it is no set.
+fn columns_of(meaning: Meaning) -> Option<Columns> {
+    let Meaning {
+        what,
+        marked: _,
+        relevant: _,
+        integer: _,
+        widest: _,
+    } = meaning;
+    match what {
+        What::Set(columns) => Some(columns),
+        _ => None,
+    }
+}
+
+/// The formula of a reading; none where it is none.
+fn claimed(found: (Built, Meaning)) -> Option<Formula> {
+    let (built, _meaning) = found;
+    match built {
+        Built::Test(formula) => Some(formula),
+        _ => None,
+    }
+}
+
+/// An expression by its reading, in a place where one is wanted.
+pub fn settle_term(
+    alloc: Global,
+    setting: &Setting<'_>,
+    state: &mut State,
+    root: Root,
+    start: Place,
+    draft: Draft,
+    place: RootPlace,
+    more: u32,
+) -> Result<Option<Resolved>, AllocError> {
+    let found = settled(alloc, setting, state, root, start, draft, place, more)?;
+    let Some(found) = found else {
+        return Ok(None);
+    };
+    Ok(term_of(found))
+}
+
+/// A comparison or a call of a predicate by its reading.
+pub fn settle_test(
+    alloc: Global,
+    setting: &Setting<'_>,
+    state: &mut State,
+    root: Root,
+    start: Place,
+    draft: Draft,
+) -> Result<Option<Formula>, AllocError> {
+    let place = RootPlace::Formula;
+    let found = settled(alloc, setting, state, root, start, draft, place, 0)?;
+    let Some(found) = found else {
+        return Ok(None);
+    };
+    Ok(claimed(found))
+}
+
+/// The piece in a formula's place: an expression there is read as a call of a predicate.
+pub fn formula_of(
+    alloc: Global,
+    setting: &Setting<'_>,
+    state: &mut State,
+    root: Root,
+    start: Place,
+    piece: Piece,
+) -> Result<Option<Formula>, AllocError> {
+    match piece {
+        Piece::Claim(formula) => Ok(formula),
+        Piece::Part(draft) => settle_test(alloc, setting, state, root, start, draft),
+    }
+}

@@ -1,0 +1,48 @@
+// The refusals of a model.
+
+ghost use Rattle.std.specs.Prelude.{◌≡◌, true, length};
+ghost use Rattle.resolve_model.specs.Refused.{is_of_readings, IsFault, IsValueFault};
+
+use crate::fault::ResolveFault;
+use base_types::{Refusal, Rule};
+use resolve_expr::faults::{Broken, Noted};
+use resolve_names::place_in;
+use syntax_tree::Loaded;
+
+fn rule_of(broken: Broken) -> Rule
+    ensures { is_of_readings result ≡ true }
+{
+    match broken {
+        Broken::UnknownName => Rule::UnknownName,
+        Broken::Ambiguous => Rule::Ambiguous,
+        Broken::NoReading => Rule::NoReading,
+        Broken::TooManyReadings => Rule::TooManyReadings,
+        Broken::RecursiveCall => Rule::RecursiveCall,
+        Broken::HigherOrder => Rule::HigherOrder,
+        Broken::ArityLimit => Rule::ArityLimit,
+    }
+}
+
+/// The refusal by a broken rule.
+pub fn refused(loaded: &Loaded, noted: Noted) -> ResolveFault
+    ensures { IsFault (length loaded.now.texts) result }
+{
+    match place_in(loaded, noted.instance, noted.place) {
+        // No rule is noted for an instance that isn't there.
+        None => ResolveFault::Memory,
+        Some(place) => ResolveFault::Refused(Refusal {
+            rule: rule_of(noted.broken),
+            place,
+        }),
+    }
+}
+
+/// The refusal by a broken rule in an expression of its own text.
+pub fn refused_value(noted: Noted) -> ResolveFault
+    ensures { IsValueFault result }
+{
+    ResolveFault::Refused(Refusal {
+        rule: rule_of(noted.broken),
+        place: noted.place,
+    })
+}

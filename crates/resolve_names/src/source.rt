@@ -1,0 +1,37 @@
+// The source of what is declared.
+
+ghost use Rattle.std.specs.Prelude.{◌<◌, length, IfSome};
+
+use base_types::Place;
+use syntax_tree::{Loaded, Paragraph, Text};
+
+/// The text of an instance; None where there is no such instance.
+pub fn text_of<'a>(loaded: &'a Loaded, instance: u32) -> Option<&'a Text> {
+    let instance = loaded.instances.as_slice().get(instance as usize)?;
+    loaded.texts.as_slice().get(instance.text as usize)
+}
+
+/// A paragraph of an instance's text; None where there is none.
+pub fn paragraph_at<'a>(
+    loaded: &'a Loaded,
+    instance: u32,
+    paragraph: u32,
+) -> Option<&'a Paragraph> {
+    let text = text_of(loaded, instance)?;
+    text.tree.paragraphs.as_slice().get(paragraph as usize)
+}
+
+/// The place in the text of an instance; None where there is no such instance.
+pub fn place_in(loaded: &Loaded, instance: u32, place: Place) -> Option<Place>
+    ensures { IfSome result (λ p. p.module < length loaded.now.texts) }
+{
+    let instance = loaded.instances.as_slice().get(instance as usize)?;
+    if instance.text as usize >= loaded.texts.len() {
+        return None;
+    }
+    Some(Place {
+        module: instance.text,
+        line: place.line,
+        column: place.column,
+    })
+}

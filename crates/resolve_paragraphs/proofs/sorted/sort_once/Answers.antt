@@ -1,0 +1,7 @@
+use Rattle.std.proofs.lemmas.List.Filters.{dedup_is}
+use Rattle.std.proofs.lemmas.List.Kept.{IsStrictlySortedBy-dedup}
+use Rattle.std.specs.Cmp.Lexicographic.{on_texts, texts_ties}
+use Rattle.resolve_paragraphs.proofs.sorted.sort_once.Goals as goal
+
+pub returns : goal.returns
+returns c = rw (dedup_is _ _ _ c.dedup.ensures.filtered) (IsStrictlySortedBy-dedup (on_texts (λ x. x.now)) (λ x y. texts_ties x.now y.now) _ c.sort_unstable.ensures.sorted)

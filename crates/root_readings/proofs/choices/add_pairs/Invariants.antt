@@ -1,7 +1,0 @@
-use Rattle.std.proofs.Common.{◌≡◌, ◌++◌, take}
-use Rattle.std.specs.List.{filter_map}
-use Rattle.root_readings.specs.Found.{paired}
-use Rattle.root_readings.proofs.choices.add_pairs.Given as goal
-
-abbrev pub invariant-loop-other : goal.invariant-loop-other
-invariant-loop-other l = l.all ≡ l.initial.all ++ filter_map (paired l.typing l.operator l.left) (take l.other-index l.others)

@@ -1,7 +1,0 @@
-use Rattle.std.proofs.Common.{◌≡◌, take}
-use Rattle.sig_types.specs.Types.{pairs}
-use Rattle.root_readings.specs.Found.{paired}
-use Rattle.root_readings.proofs.choices.pair_all.Given as goal
-
-abbrev pub invariant-loop-one : goal.invariant-loop-one
-invariant-loop-one l = l.all ≡ pairs (paired l.typing l.operator) (take l.one-index l.left) l.right

@@ -1,0 +1,5 @@
+pub mod Again
+pub mod Lines
+pub mod Places
+pub mod Rightness
+pub mod Clauses

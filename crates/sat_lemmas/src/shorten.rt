@@ -1,0 +1,74 @@
+// A refutation without the lines that it doesn't need.
+
+ghost use Rattle.std.specs.Prelude.{◌≡◌, ◌<◌, ◌≤◌, ℤ, List, IfOk, IfSome, IsTrue, length, take};
+ghost use Rattle.std.specs.List.{list_any};
+ghost use Rattle.sat_lrat.specs.Step.{Refutes, is_empty_lemma};
+ghost use Rattle.sat_lemmas.specs.Kept.{ArePart};
+
+use crate::copy::copy_marked;
+use crate::mark::mark_needed;
+use crate::stay::{are_right, is_empty_lemma};
+use sat_dimacs::Cnf;
+use sat_lrat::{Line, LineList};
+use std::alloc::{AllocError, Global};
+
+/// How many lines there are up to the first empty lemma, if there is one.
+fn front(lines: &[Line]) -> Option<usize>
+    ensures within { IfSome result (λ count. count ≤ length lines.now) }
+    ensures empty { IfSome result (λ count. IsTrue (list_any is_empty_lemma (take count lines.now))) }
+{
+    for place in 0..lines.len() {
+        if is_empty_lemma(&lines[place]) {
+            return Some(place + 1);
+        }
+    }
+    None
+}
+
+/// Marks the last line, and what it is drawn from.
+fn marks_of(alloc: Global, clauses: usize, lines: &[Line]) -> Result<Vec<bool>, AllocError>
+    ensures { IfOk result (λ marks. length marks.items ≡ length lines.now) }
+{
+    let mut marks = vec![in alloc; false; lines.len()]?;
+    if let Some(last) = marks.last_mut() {
+        *last = true;
+    }
+    mark_needed(clauses, lines, &mut marks);
+    Ok(marks)
+}
+
+/// The lines that the last one is drawn from, if these need no other.
+fn needed(alloc: Global, clauses: usize, lines: &[Line]) -> Result<Option<LineList>, AllocError>
+    ensures refutes { (formula : List (List ℤ)) → length formula ≡ clauses → Refutes formula lines.now →
+        IfOk result (λ found. IfSome found (λ rest. Refutes formula rest)) }
+    ensures part { IfOk result (λ found. IfSome found (λ rest. ArePart rest lines.now)) }
+{
+    let marks = marks_of(alloc, clauses, lines)?;
+    if !are_right(clauses, &marks, lines) {
+        return Ok(None);
+    }
+    let rest = copy_marked(alloc, lines, &marks)?;
+    Ok(Some(rest))
+}
+
+/// Leaves out the lines of a refutation that it doesn't need: those behind the first empty lemma, and the lemmas from which
+/// that one isn't drawn, directly or by others. The only error is want of memory.
+///
+/// The lines are left as they are where they have no empty lemma, or where the numbers of the lemmas aren't those behind the
+/// clauses' in turn.
+pub fn trim(alloc: Global, cnf: &Cnf, lines: LineList) -> Result<LineList, AllocError>
+    // What the lines refute is still refuted.
+    ensures refutes { Refutes cnf.now.clauses lines → IfOk result (λ rest. Refutes cnf.now.clauses rest) }
+    // What is left are some of the lines, in their order.
+    ensures part { IfOk result (λ rest. ArePart rest lines) }
+    ensures few { IfOk result (λ rest. length rest ≤ length lines) }
+{
+    let Some(count) = front(lines.lines()) else {
+        return Ok(lines);
+    };
+    let (first, _) = lines.lines().split_at(count);
+    match needed(alloc, cnf.clauses.len(), first)? {
+        Some(rest) => Ok(rest),
+        None => Ok(lines),
+    }
+}

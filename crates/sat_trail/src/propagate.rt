@@ -1,0 +1,133 @@
+ghost use Rattle.std.specs.Prelude.{◌≡◌, ℕ, ℤ, neg_ℤ, ◌+◌, ◌-◌, ◌*◌, ◌<◌, ◌≤◌, ◌++◌, [], List, length, slice_index, IfNone, IfSome, IsTrue, IsFalse};
+ghost use Rattle.std.specs.List.{Contains};
+ghost use Rattle.sat_trail.specs.Assignment.{value_at};
+ghost use Rattle.sat_trail.specs.Watched.{IsCopied, IsWoven, IsKept, IsWatched, IsTrueIn, IsFalseIn, IsAlike};
+ghost use Rattle.sat_trail.specs.Reasons.{ForcesMore};
+
+use crate::arena::Arena;
+use crate::assigned::Assigned;
+use crate::list_of;
+use crate::watches::Watches;
+
+/// Propagates the true literal at a place, and gives the number of a clause that is false, if there is one.
+fn turn(
+    arena: &Arena,
+    watches: &mut Watches,
+    assigned: &mut Assigned,
+    place: usize,
+    level: u64,
+) -> Option<u64>
+    requires variables { length assigned.old.values ≡ arena.now.variables }
+    requires woven { IsWoven arena.now.literals.items arena.now.ends.items watches.old.at.items watches.old.lists arena.now.variables }
+    requires copied { IsCopied arena.now.literals.items arena.now.ends.items watches.old.at.items watches.old.copies.items }
+    requires none_loose { watches.old.lists.loose ≡ [] }
+    requires in_range { place < length assigned.old.trail }
+    requires watched { IsWatched arena.now.literals.items arena.now.ends.items watches.old.at.items assigned.old.trail (length assigned.old.trail) place }
+    ensures variables { length assigned.new.values ≡ length assigned.old.values }
+    ensures woven { IsWoven arena.now.literals.items arena.now.ends.items watches.new.at.items watches.new.lists arena.now.variables }
+    ensures copied { IsCopied arena.now.literals.items arena.now.ends.items watches.new.at.items watches.new.copies.items }
+    ensures none_loose { watches.new.lists.loose ≡ [] }
+    ensures kept { IsKept arena.now.literals.items arena.now.ends.items watches.old.at.items assigned.old.trail watches.new.at.items assigned.new.trail }
+    ensures forced { ForcesMore arena.now.literals.items arena.now.ends.items level assigned.old assigned.new }
+    ensures watched { IfNone result (IsWatched arena.now.literals.items arena.now.ends.items watches.new.at.items assigned.new.trail (length assigned.new.trail) (place + 1)) }
+    ensures false_clause { IfSome result (λ n. (0 < n) × (n ≤ length arena.now.ends.items) × IsFalseIn arena.now.literals.items arena.now.ends.items assigned.new.trail (n - 1)) }
+{
+    let list = list_of(assigned.falsified(place));
+    watches.lists.detach(list);
+    if let Some(clause) = watches.visit(arena, assigned, level) {
+        watches.restore(arena);
+        return Some(clause);
+    }
+    None
+}
+
+/// Propagates the true literals from a place on, and gives the place reached and the number of a clause that is false, if there is one.
+pub fn advance(
+    arena: &Arena,
+    watches: &mut Watches,
+    assigned: &mut Assigned,
+    start: usize,
+    level: u64,
+) -> (usize, Option<u64>)
+    requires variables { length assigned.old.values ≡ arena.now.variables }
+    requires woven { IsWoven arena.now.literals.items arena.now.ends.items watches.old.at.items watches.old.lists arena.now.variables }
+    requires copied { IsCopied arena.now.literals.items arena.now.ends.items watches.old.at.items watches.old.copies.items }
+    requires none_loose { watches.old.lists.loose ≡ [] }
+    requires in_range { start ≤ length assigned.old.trail }
+    requires watched { IsWatched arena.now.literals.items arena.now.ends.items watches.old.at.items assigned.old.trail (length assigned.old.trail) start }
+    ensures variables { length assigned.new.values ≡ length assigned.old.values }
+    ensures woven { IsWoven arena.now.literals.items arena.now.ends.items watches.new.at.items watches.new.lists arena.now.variables }
+    ensures copied { IsCopied arena.now.literals.items arena.now.ends.items watches.new.at.items watches.new.copies.items }
+    ensures none_loose { watches.new.lists.loose ≡ [] }
+    ensures kept { IsKept arena.now.literals.items arena.now.ends.items watches.old.at.items assigned.old.trail watches.new.at.items assigned.new.trail }
+    ensures forced { ForcesMore arena.now.literals.items arena.now.ends.items level assigned.old assigned.new }
+    ensures reached { result.0 ≤ length assigned.new.trail }
+    ensures watched { IsWatched arena.now.literals.items arena.now.ends.items watches.new.at.items assigned.new.trail (length assigned.new.trail) result.0 }
+    ensures all { IfNone result.1 (result.0 ≡ length assigned.new.trail) }
+    ensures false_clause { IfSome result.1 (λ n. (0 < n) × (n ≤ length arena.now.ends.items) × IsFalseIn arena.now.literals.items arena.now.ends.items assigned.new.trail (n - 1)) }
+{
+    let mut done = start;
+    'trail: while done < assigned.len() {
+        if let Some(clause) = turn(arena, watches, assigned, done, level) {
+            return (done, Some(clause));
+        }
+        done += 1;
+    }
+    (done, None)
+}
+
+/// Propagates the clauses without two different literals from a place on, and gives the place reached and the number of one that is false.
+pub fn advance_short(
+    arena: &Arena,
+    short: &[usize],
+    assigned: &mut Assigned,
+    start: usize,
+    level: u64,
+) -> (usize, Option<u64>)
+    requires variables { length assigned.old.values ≡ arena.now.variables }
+    requires alike { (j : ℕ) → j < length short.now → (slice_index short.now j < length arena.now.ends.items) × IsAlike arena.now.literals.items arena.now.ends.items (slice_index short.now j) }
+    requires in_range { start ≤ length short.now }
+    ensures variables { length assigned.new.values ≡ length assigned.old.values }
+    ensures longer { (ts : List ℤ) × (assigned.new.trail ≡ assigned.old.trail ++ ts) }
+    ensures forced { ForcesMore arena.now.literals.items arena.now.ends.items level assigned.old assigned.new }
+    ensures reached { (start ≤ result.0) × (result.0 ≤ length short.now) }
+    ensures holds { (j : ℕ) → start ≤ j → j < result.0 → IsTrueIn arena.now.literals.items arena.now.ends.items assigned.new.trail (slice_index short.now j) }
+    ensures all { IfNone result.1 (result.0 ≡ length short.now) }
+    ensures false_clause { IfSome result.1 (λ n. (0 < n) × (n ≤ length arena.now.ends.items) × IsFalseIn arena.now.literals.items arena.now.ends.items assigned.new.trail (n - 1)) }
+{
+    let mut done = start;
+    'clauses: while done < short.len() {
+        let clause = short[done];
+        if !satisfy(arena, assigned, clause, level) {
+            return (done, Some(clause as u64 + 1));
+        }
+        done += 1;
+    }
+    (done, None)
+}
+
+/// Makes a clause without two different literals true, unless it is false.
+fn satisfy(arena: &Arena, assigned: &mut Assigned, clause: usize, level: u64) -> bool
+    requires variables { length assigned.old.values ≡ arena.now.variables }
+    requires in_range { clause < length arena.now.ends.items }
+    requires alike { IsAlike arena.now.literals.items arena.now.ends.items clause }
+    ensures variables { length assigned.new.values ≡ length assigned.old.values }
+    ensures longer { (ts : List ℤ) × (assigned.new.trail ≡ assigned.old.trail ++ ts) }
+    ensures forced { ForcesMore arena.now.literals.items arena.now.ends.items level assigned.old assigned.new }
+    ensures holds { IsTrue result → IsTrueIn arena.now.literals.items arena.now.ends.items assigned.new.trail clause }
+    ensures false_clause { IsFalse result → IsFalseIn arena.now.literals.items arena.now.ends.items assigned.new.trail clause }
+{
+    let first = arena.start(clause);
+    if first == arena.ends[clause] {
+        return false;
+    }
+    let literal = arena.literals[first];
+    if assigned.is_true(literal) {
+        return true;
+    }
+    if assigned.is_false(literal) {
+        return false;
+    }
+    assigned.put(literal, level, clause as u64 + 1);
+    true
+}

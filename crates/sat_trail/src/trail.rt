@@ -1,0 +1,339 @@
+ghost use Rattle.std.specs.Prelude.{◌≡◌, ◌≢◌, ℕ, ℤ, pos, neg_ℤ, unsigned_abs, ◌+◌, ◌-◌, ◌*◌, ◌<◌, ◌≤◌, ◌⊎◌, ◌++◌, ◌∷◌, [], List, length, take, slice_index, slice_index_or, slice_set, slice_get, Some, IfNone, IfSome, IfOk, OnErr, IsTrue, false};
+ghost use Rattle.std.specs.List.{Contains, All};
+ghost use Rattle.sat_trail.specs.Literal.{IsLiteral};
+ghost use Rattle.sat_trail.specs.Literal as spec;
+ghost use Rattle.sat_dimacs.specs.Literal.{IsWithin};
+ghost use Rattle.sat_trail.specs.Assignment.{value_at, IsTold};
+ghost use Rattle.sat_trail.specs.Watched.{IsTrueIn, IsFalseIn, IsArena};
+ghost use Rattle.sat_trail.specs.Sound.{IsFree, IsOpen};
+ghost use Rattle.sat_trail.specs.State.{clause_at, Keeps, Adds};
+ghost use Rattle.sat_trail.specs.Reasons.{ForcesMore, AreReasoned, AreApart, IsPut};
+
+use crate::add::{bound, latest, lower};
+use crate::arena::Arena;
+use crate::assigned::Assigned;
+use crate::list_of;
+use crate::propagate::{advance, advance_short};
+use crate::watches::Watches;
+use sat_dimacs::{Clause, Cnf};
+use sat_lists::{NodeLists, push_in_room};
+use std::alloc::{AllocError, Global};
+use std::marker::Model;
+
+/// Whether neither of two facts holds.
+fn are_neither(one: bool, other: bool) -> bool
+    ensures { IsTrue result → (one ≡ false) × (other ≡ false) }
+{
+    !one && !other
+}
+
+/// The clauses of a search and its partial assignment.
+#[derive(Drop)]
+pub struct Trail {
+    arena: Arena,
+    watches: Watches,
+    short: Vec<usize>,
+    assigned: Assigned,
+    lens: Vec<usize>,
+    dones: Vec<usize>,
+    short_dones: Vec<usize>,
+    top: usize,
+    done: usize,
+    short_done: usize,
+}
+
+impl Model for Trail {
+    ghost use Rattle.sat_trail.specs.State.{Search};
+
+    ghost Value = { Search };
+
+    ghost use Rattle.sat_trail.specs.Search.{search_of, IsTrail};
+
+    ghost view = { search_of };
+
+    ghost invariant = { IsTrail };
+}
+
+impl Trail {
+    /// The clauses of a formula, under the numbers from 1 on in their order, with nothing assigned.
+    ///
+    /// The only error is want of memory.
+    pub fn new(alloc: Global, cnf: &Cnf) -> Result<Trail, AllocError>
+        ensures variables { IfOk result (λ t. t.variables ≡ cnf.now.variables) }
+        ensures clauses { IfOk result (λ t. Keeps t cnf.now.clauses) }
+        ensures nothing_assigned { IfOk result (λ t. (t.assignment.trail ≡ []) × (t.limits ≡ [])) }
+    {
+        let mut trail = Trail::empty(alloc, cnf.variables as usize)?;
+        for clause in cnf.clauses.clauses() {
+            trail.add_clause(clause)?;
+        }
+        Ok(trail)
+    }
+
+    /// No clause, over so many variables.
+    fn empty(alloc: Global, variables: usize) -> Result<Trail, AllocError>
+        ensures variables { IfOk result (λ t. t.variables ≡ variables) }
+        ensures clauses { IfOk result (λ t. t.ends ≡ []) }
+        ensures nothing_assigned { IfOk result (λ t. (t.assignment.trail ≡ []) × (t.limits ≡ [])) }
+    {
+        if variables > usize::MAX / 4 {
+            return Err(AllocError);
+        }
+        Ok(Trail {
+            arena: Arena::new(alloc, variables),
+            watches: Watches {
+                at: Vec::new(alloc),
+                copies: Vec::new(alloc),
+                lists: NodeLists::new(alloc, 2 * variables + 1)?,
+            },
+            short: Vec::new(alloc),
+            assigned: Assigned::new(alloc, variables)?,
+            lens: vec![in alloc; 0; variables]?,
+            dones: vec![in alloc; 0; variables]?,
+            short_dones: vec![in alloc; 0; variables]?,
+            top: 0,
+            done: 0,
+            short_done: 0,
+        })
+    }
+
+    /// Adds a clause behind the others, and gives its number, which is how many there are then.
+    ///
+    /// It takes time in the clause's length and the number of open levels. The only error is want of memory, and the
+    /// trail is then as before.
+    pub fn add_clause(&mut self, clause: &Clause) -> Result<u64, AllocError>
+        requires { IsWithin self.old.variables clause.now }
+        ensures added { IfOk result (λ n. Adds self.old self.new clause.now × (n ≡ length self.new.ends)) }
+        ensures assignment { (self.new.variables ≡ self.old.variables) × (self.new.assignment ≡ self.old.assignment) × (self.new.limits ≡ self.old.limits) }
+        ensures err { OnErr result (self.new ≡ self.old) }
+    {
+        self.add_literals(clause.literals())
+    }
+
+    /// Adds a clause of these literals.
+    fn add_literals(&mut self, literals: &[i64]) -> Result<u64, AllocError>
+        requires { All (IsLiteral self.old.variables) literals.now }
+        ensures added { IfOk result (λ n. Adds self.old self.new literals.now × (n ≡ length self.new.ends)) }
+        ensures assignment { (self.new.variables ≡ self.old.variables) × (self.new.assignment ≡ self.old.assignment) × (self.new.limits ≡ self.old.limits) }
+        ensures err { OnErr result (self.new ≡ self.old) }
+    {
+        let one = latest(&self.assigned, literals, 0);
+        if one < literals.len() {
+            let two = latest(&self.assigned, literals, literals[one]);
+            if two < literals.len() {
+                return self.add_long(literals, one, two);
+            }
+        }
+        self.add_short(literals)
+    }
+
+    /// Adds a clause that watches the literals at two places.
+    fn add_long(&mut self, literals: &[i64], one: usize, two: usize) -> Result<u64, AllocError>
+        requires literals { All (IsLiteral self.old.variables) literals.now }
+        requires places { (one < length literals.now) × (two < length literals.now) }
+        requires different { value_at literals.now one ≢ value_at literals.now two }
+        ensures added { IfOk result (λ n. Adds self.old self.new literals.now × (n ≡ length self.new.ends)) }
+        ensures assignment { (self.new.variables ≡ self.old.variables) × (self.new.assignment ≡ self.old.assignment) × (self.new.limits ≡ self.old.limits) }
+        ensures err { OnErr result (self.new ≡ self.old) }
+    {
+        self.arena.reserve(literals.len())?;
+        self.watches.at.reserve(2)?;
+        self.watches.copies.reserve(2)?;
+        self.watches
+            .lists
+            .add_pair(list_of(literals[one]), list_of(literals[two]))?;
+        let first = self.arena.literals.len();
+        push_in_room(&mut self.watches.at, first + one);
+        push_in_room(&mut self.watches.at, first + two);
+        push_in_room(&mut self.watches.copies, literals[one]);
+        push_in_room(&mut self.watches.copies, literals[two]);
+        self.arena.push(literals);
+        let limit = bound(&self.assigned, literals[one]).min(bound(&self.assigned, literals[two]));
+        self.done = self.done.min(limit);
+        lower(&mut self.dones, self.top, limit);
+        Ok(self.arena.ends.len() as u64)
+    }
+
+    /// Adds a clause without two different literals.
+    fn add_short(&mut self, literals: &[i64]) -> Result<u64, AllocError>
+        requires literals { All (IsLiteral self.old.variables) literals.now }
+        requires alike { (p q : ℕ) → p < length literals.now → q < length literals.now → value_at literals.now p ≡ value_at literals.now q }
+        ensures added { IfOk result (λ n. Adds self.old self.new literals.now × (n ≡ length self.new.ends)) }
+        ensures assignment { (self.new.variables ≡ self.old.variables) × (self.new.assignment ≡ self.old.assignment) × (self.new.limits ≡ self.old.limits) }
+        ensures err { OnErr result (self.new ≡ self.old) }
+    {
+        self.arena.reserve(literals.len())?;
+        self.watches.at.reserve(2)?;
+        self.watches.copies.reserve(2)?;
+        self.short.reserve(1)?;
+        let spare = 2 * self.arena.variables;
+        self.watches.lists.add_pair(spare, spare)?;
+        push_in_room(&mut self.watches.at, 0);
+        push_in_room(&mut self.watches.at, 0);
+        push_in_room(&mut self.watches.copies, 0);
+        push_in_room(&mut self.watches.copies, 0);
+        push_in_room(&mut self.short, self.arena.ends.len());
+        self.arena.push(literals);
+        Ok(self.arena.ends.len() as u64)
+    }
+
+    /// Whether neither a literal nor its negation is true.
+    pub fn is_free(&self, literal: i64) -> bool
+        requires { IsLiteral self.now.variables literal }
+        ensures { IsTrue result → IsFree self.now.assignment.trail literal }
+    {
+        are_neither(
+            self.assigned.is_true(literal),
+            self.assigned.is_false(literal),
+        )
+    }
+
+    /// Opens a level with a free literal made true. It has no reason.
+    pub fn assign(&mut self, literal: i64)
+        requires literal { IsLiteral self.old.variables literal }
+        requires free { IsFree self.old.assignment.trail literal }
+        ensures clauses { (self.new.literals ≡ self.old.literals) × (self.new.ends ≡ self.old.ends) × (self.new.variables ≡ self.old.variables) }
+        ensures trail { self.new.assignment.trail ≡ self.old.assignment.trail ++ literal ∷ [] }
+        ensures limits { self.new.limits ≡ self.old.limits ++ length self.old.assignment.trail ∷ [] }
+        ensures put { IsPut self.old.assignment self.new.assignment literal (length self.old.limits + 1) 0 }
+    {
+        let len = self.assigned.len();
+        self.assigned.put(literal, self.top as u64 + 1, 0);
+        self.lens[self.top] = len;
+        self.dones[self.top] = self.done;
+        self.short_dones[self.top] = self.short_done;
+        self.top += 1;
+    }
+
+    /// Takes back the levels above one.
+    pub fn undo_to(&mut self, level: u64)
+        requires { level ≤ length self.old.limits }
+        ensures clauses { (self.new.literals ≡ self.old.literals) × (self.new.ends ≡ self.old.ends) × (self.new.variables ≡ self.old.variables) }
+        ensures trail { self.new.assignment.trail ≡ take (slice_index_or self.old.limits level (length self.old.assignment.trail)) self.old.assignment.trail }
+        ensures limits { self.new.limits ≡ take level self.old.limits }
+        ensures kept { (self.new.assignment.levels ≡ self.old.assignment.levels) × (self.new.assignment.reasons ≡ self.old.assignment.reasons) }
+    {
+        let level = level as usize;
+        if level < self.top {
+            self.top = level;
+            self.assigned.cut(self.lens[level]);
+            self.done = self.dones[level];
+            self.short_done = self.short_dones[level];
+        }
+    }
+
+    /// Makes true what the clauses force, with the clause as its reason, and gives the number of a clause that is false, if there is one.
+    pub fn propagate(&mut self) -> Option<u64>
+        ensures clauses { (self.new.literals ≡ self.old.literals) × (self.new.ends ≡ self.old.ends) × (self.new.variables ≡ self.old.variables) }
+        ensures longer { (ts : List ℤ) × (self.new.assignment.trail ≡ self.old.assignment.trail ++ ts) }
+        ensures forced { ForcesMore self.new.literals self.new.ends (length self.old.limits) self.old.assignment self.new.assignment }
+        ensures limits { self.new.limits ≡ self.old.limits }
+        ensures none { IfNone result ((i : ℕ) → i < length self.new.ends → IsTrueIn self.new.literals self.new.ends self.new.assignment.trail i ⊎ IsOpen self.new.literals self.new.ends self.new.assignment.trail i) }
+        ensures false_clause { IfSome result (λ n. (0 < n) × (n ≤ length self.new.ends) × IsFalseIn self.new.literals self.new.ends self.new.assignment.trail (n - 1)) }
+    {
+        let level = self.top as u64;
+        let (short_done, found) = advance_short(
+            &self.arena,
+            self.short.as_slice(),
+            &mut self.assigned,
+            self.short_done,
+            level,
+        );
+        self.short_done = short_done;
+        if found.is_some() {
+            return found;
+        }
+        let (done, found) = advance(
+            &self.arena,
+            &mut self.watches,
+            &mut self.assigned,
+            self.done,
+            level,
+        );
+        self.done = done;
+        found
+    }
+
+    /// The value of each variable: 1 true, -1 false, 0 free.
+    pub fn values(&self) -> &[i8]
+        ensures values { result.now ≡ self.now.assignment.values }
+        ensures variables { length result.now ≡ self.now.variables }
+        ensures told { IsTold self.now.assignment.trail result.now }
+    {
+        self.assigned.values()
+    }
+
+    /// The true literals in the order in which they were put, at most one of each variable. Each has its level and,
+    /// unless it opened one, its reason. The clauses lie one after another.
+    #[inline]
+    pub fn trail(&self) -> &[i64]
+        ensures trail { result.now ≡ self.now.assignment.trail }
+        ensures literals { All (IsLiteral self.now.variables) result.now }
+        ensures apart { AreApart result.now }
+        ensures fits { length result.now ≤ self.now.variables }
+        ensures reasoned { AreReasoned self.now }
+        ensures arena { IsArena self.now.literals self.now.ends self.now.variables }
+    {
+        self.assigned.trail()
+    }
+
+    /// How many literals were true when the last level was opened: 0 at level 0.
+    #[inline]
+    pub fn base(&self) -> usize
+        ensures { result ≡ slice_index self.now.limits (length self.now.limits - 1) }
+    {
+        let top = self.top;
+        if top == 0 {
+            return 0;
+        }
+        self.lens[top - 1]
+    }
+
+    /// The present level.
+    pub fn top(&self) -> u64
+        ensures { result ≡ length self.now.limits }
+    {
+        self.top as u64
+    }
+
+    /// The level of a variable.
+    pub fn level(&self, variable: u64) -> u64
+        requires variable { (0 < variable) × (variable ≤ self.now.variables) }
+        ensures { result ≡ slice_index self.now.assignment.levels (variable - 1) }
+    {
+        self.assigned.level(variable as usize - 1)
+    }
+
+    /// The clause that forced a variable, or none where it opened a level.
+    pub fn reason(&self, variable: u64) -> Option<u64>
+        requires variable { (0 < variable) × (variable ≤ self.now.variables) }
+        ensures reason { IfSome result (λ n. slice_index self.now.assignment.reasons (variable - 1) ≡ n) }
+        ensures in_range { IfSome result (λ n. (0 < n) × (n ≤ length self.now.ends)) }
+        ensures chosen { IfNone result ((j : ℕ) → j < length self.now.assignment.trail → spec.index (value_at self.now.assignment.trail j) ≡ variable - 1 → Contains self.now.limits j) }
+        ensures forced { IfSome result (λ n. (j : ℕ) → j < length self.now.assignment.trail → spec.index (value_at self.now.assignment.trail j) ≡ variable - 1 → Contains self.now.limits j → ⊥) }
+    {
+        let clause = self.assigned.reason(variable as usize - 1);
+        if clause == 0 || clause > self.arena.ends.len() as u64 {
+            return None;
+        }
+        Some(clause)
+    }
+
+    /// Where the negation of a false literal stands on the trail; of another literal any number.
+    pub fn place(&self, literal: i64) -> usize
+        requires { IsLiteral self.now.variables literal }
+        ensures { Contains self.now.assignment.trail (neg_ℤ literal) → slice_get self.now.assignment.trail result ≡ Some (neg_ℤ literal) }
+    {
+        self.assigned.last_place(literal)
+    }
+
+    /// The literals of a clause.
+    pub fn clause(&self, number: u64) -> &[i64]
+        requires number { (0 < number) × (number ≤ length self.now.ends) }
+        ensures clause { result.now ≡ clause_at self.now (number - 1) }
+        ensures literals { All (IsLiteral self.now.variables) result.now }
+    {
+        let clause = number as usize - 1;
+        &self.arena.literals[self.arena.start(clause)..self.arena.ends[clause]]
+    }
+}

@@ -1,0 +1,200 @@
+ghost use Rattle.std.specs.Prelude.{◌≡◌, ◌≢◌, ℕ, ℤ, neg_ℤ, ◌+◌, ◌-◌, ◌*◌, ◌/◌, ◌%◌, ◌<◌, ◌≤◌, ◌⊎◌, ◌++◌, ◌∷◌, [], List, length, slice_index, slice_set, IsTrue, IsFalse, IfNone, IfSome, MatchOption, drop, ◌^◌};
+ghost use Rattle.std.specs.List.{Contains};
+ghost use Rattle.sat_lists.specs.Linked.{list_at};
+ghost use Rattle.sat_trail.specs.Assignment.{value_at};
+ghost use Rattle.sat_trail.specs.Watched.{IsPair, IsCopied, IsWoven, IsKept, IsVisited, IsTaken, IsTrueIn, IsFalseIn, InClause, watched, sibling, start_of};
+ghost use Rattle.sat_trail.specs.Found.{IsFound};
+ghost use Rattle.sat_trail.specs.Reasons.{ForcesMore};
+
+use crate::arena::Arena;
+use crate::assigned::Assigned;
+use crate::list_of;
+use sat_lists::NodeLists;
+
+/// The places of the two watched literals of each clause, and the lists of the nodes that watch each literal.
+#[derive(Drop)]
+pub struct Watches {
+    pub at: Vec<usize>,
+    /// The literal that each node watches, so that a visit mostly reads no clause.
+    pub copies: Vec<i64>,
+    pub lists: NodeLists,
+}
+
+/// The other node of a node's clause.
+#[inline]
+fn other_node(node: usize) -> usize
+    requires { node + 1 < 2 ^ 64 }
+    ensures { result ≡ sibling node }
+{
+    if node % 2 == 0 { node + 1 } else { node - 1 }
+}
+
+/// The first place of a literal that isn't false and isn't `other`, or `last`.
+#[inline]
+fn find_first(arena: &Arena, assigned: &Assigned, first: usize, last: usize, other: i64) -> usize
+    requires variables { length assigned.now.values ≡ arena.now.variables }
+    requires ordered { first ≤ last }
+    requires in_range { last ≤ length arena.now.literals.items }
+    ensures within { (first ≤ result) × (result ≤ last) }
+    ensures unlike { result < last → value_at arena.now.literals.items result ≢ other }
+    ensures not_false { result < last → Contains assigned.now.trail (neg_ℤ (value_at arena.now.literals.items result)) → ⊥ }
+    ensures closed { (p : ℕ) → first ≤ p → p < result → (value_at arena.now.literals.items p ≡ other) ⊎ Contains assigned.now.trail (neg_ℤ (value_at arena.now.literals.items p)) }
+{
+    for place in first..last {
+        let literal = arena.literals[place];
+        if literal != other && !assigned.is_false(literal) {
+            return place;
+        }
+    }
+    last
+}
+
+/// The place of a literal that isn't false and isn't `other`, or `last`. It is looked for behind the place that was
+/// watched so far, and only then from the first on, since those before it are mostly still false.
+#[inline]
+fn find_open(
+    arena: &Arena,
+    assigned: &Assigned,
+    first: usize,
+    last: usize,
+    other: i64,
+    from: usize,
+) -> usize
+    requires variables { length assigned.now.values ≡ arena.now.variables }
+    requires ordered { first ≤ last }
+    requires in_range { last ≤ length arena.now.literals.items }
+    ensures within { (first ≤ result) × (result ≤ last) }
+    ensures unlike { result < last → value_at arena.now.literals.items result ≢ other }
+    ensures not_false { result < last → Contains assigned.now.trail (neg_ℤ (value_at arena.now.literals.items result)) → ⊥ }
+    ensures closed { result ≡ last → (p : ℕ) → first ≤ p → p < last → (value_at arena.now.literals.items p ≡ other) ⊎ Contains assigned.now.trail (neg_ℤ (value_at arena.now.literals.items p)) }
+{
+    if first <= from && from < last {
+        let place = find_first(arena, assigned, from, last, other);
+        if place < last {
+            return place;
+        }
+    }
+    find_first(arena, assigned, first, last, other)
+}
+
+/// What the clause of a node is.
+enum Found {
+    True,
+    Open(usize),
+    Forced(i64),
+    False,
+}
+
+impl Watches {
+    /// Looks at the clause of a node whose literal is false.
+    #[inline]
+    fn inspect(&self, arena: &Arena, assigned: &Assigned, node: usize) -> Found
+        requires variables { length assigned.now.values ≡ arena.now.variables }
+        requires two_each { length self.now.at.items ≡ 2 * length arena.now.ends.items }
+        requires copied { IsCopied arena.now.literals.items arena.now.ends.items self.now.at.items self.now.copies.items }
+        requires in_range { node < length self.now.at.items }
+        requires pair { IsPair arena.now.literals.items arena.now.ends.items self.now.at.items (node / 2) }
+        ensures { IsFound arena.now.literals.items arena.now.ends.items self.now.at.items assigned.now.trail node result }
+    {
+        let other = self.copies[other_node(node)];
+        if assigned.is_true(other) {
+            return Found::True;
+        }
+        let clause = node / 2;
+        let last = arena.ends[clause];
+        let from = self.at[node];
+        let place = find_open(arena, assigned, arena.start(clause), last, other, from);
+        if place < last {
+            return Found::Open(place);
+        }
+        if assigned.is_false(other) {
+            return Found::False;
+        }
+        Found::Forced(other)
+    }
+
+    /// Moves the first loose node to the list of the literal that it watches.
+    #[inline]
+    fn settle(&mut self, arena: &Arena, node: usize)
+        requires woven { IsWoven arena.now.literals.items arena.now.ends.items self.old.at.items self.old.lists arena.now.variables }
+        requires copied { IsCopied arena.now.literals.items arena.now.ends.items self.old.at.items self.old.copies.items }
+        requires first { self.old.lists.loose ≡ node ∷ drop 1 self.old.lists.loose }
+        ensures woven { IsWoven arena.now.literals.items arena.now.ends.items self.new.at.items self.new.lists arena.now.variables }
+        ensures at { self.new.at.items ≡ self.old.at.items }
+        ensures copies { self.new.copies.items ≡ self.old.copies.items }
+        ensures loose { self.new.lists.loose ≡ drop 1 self.old.lists.loose }
+    {
+        let list = list_of(self.copies[node]);
+        self.lists.settle(list);
+    }
+
+    /// Takes the first loose node: it is settled, unless its clause is false.
+    #[inline]
+    fn take(&mut self, arena: &Arena, assigned: &mut Assigned, node: usize, level: u64) -> bool
+        requires variables { length assigned.old.values ≡ arena.now.variables }
+        requires woven { IsWoven arena.now.literals.items arena.now.ends.items self.old.at.items self.old.lists arena.now.variables }
+        requires copied { IsCopied arena.now.literals.items arena.now.ends.items self.old.at.items self.old.copies.items }
+        requires first { self.old.lists.loose ≡ node ∷ drop 1 self.old.lists.loose }
+        ensures variables { length assigned.new.values ≡ length assigned.old.values }
+        ensures copied { IsCopied arena.now.literals.items arena.now.ends.items self.new.at.items self.new.copies.items }
+        ensures taken { IsTrue result → IsTaken arena.now.literals.items arena.now.ends.items arena.now.variables self.old.at.items assigned.old.trail self.old.lists.loose self.new.at.items assigned.new.trail self.new.lists }
+        ensures false_clause { IsFalse result → (node < length self.old.at.items) × IsFalseIn arena.now.literals.items arena.now.ends.items assigned.old.trail (node / 2) }
+        ensures unchanged { IsFalse result → (self.new ≡ self.old) × (assigned.new ≡ assigned.old) }
+        ensures forced { ForcesMore arena.now.literals.items arena.now.ends.items level assigned.old assigned.new }
+    {
+        match self.inspect(arena, assigned, node) {
+            Found::True => {
+                self.settle(arena, node);
+                true
+            }
+            Found::Open(place) => {
+                self.at[node] = place;
+                self.copies[node] = arena.literals[place];
+                self.settle(arena, node);
+                true
+            }
+            Found::Forced(literal) => {
+                assigned.put(literal, level, (node / 2) as u64 + 1);
+                self.settle(arena, node);
+                true
+            }
+            Found::False => false,
+        }
+    }
+
+    /// Takes the loose nodes in turn, up to one whose clause is false, and gives that clause's number.
+    pub fn visit(&mut self, arena: &Arena, assigned: &mut Assigned, level: u64) -> Option<u64>
+        requires variables { length assigned.old.values ≡ arena.now.variables }
+        requires woven { IsWoven arena.now.literals.items arena.now.ends.items self.old.at.items self.old.lists arena.now.variables }
+        requires copied { IsCopied arena.now.literals.items arena.now.ends.items self.old.at.items self.old.copies.items }
+        ensures variables { length assigned.new.values ≡ length assigned.old.values }
+        ensures woven { IsWoven arena.now.literals.items arena.now.ends.items self.new.at.items self.new.lists arena.now.variables }
+        ensures copied { IsCopied arena.now.literals.items arena.now.ends.items self.new.at.items self.new.copies.items }
+        ensures kept { IsKept arena.now.literals.items arena.now.ends.items self.old.at.items assigned.old.trail self.new.at.items assigned.new.trail }
+        ensures forced { ForcesMore arena.now.literals.items arena.now.ends.items level assigned.old assigned.new }
+        ensures none_loose { IfNone result (self.new.lists.loose ≡ []) }
+        ensures visited { IfNone result ((w : ℤ) → Contains assigned.old.trail (neg_ℤ w) → IsVisited arena.now.literals.items arena.now.ends.items self.old.at.items self.old.lists.loose assigned.old.trail w → IsVisited arena.now.literals.items arena.now.ends.items self.new.at.items self.new.lists.loose assigned.new.trail w) }
+        ensures false_clause { IfSome result (λ n. (0 < n) × (n ≤ length arena.now.ends.items) × IsFalseIn arena.now.literals.items arena.now.ends.items assigned.new.trail (n - 1)) }
+    {
+        'nodes: while let Some(node) = self.lists.first() {
+            if !self.take(arena, assigned, node, level) {
+                return Some((node / 2) as u64 + 1);
+            }
+        }
+        None
+    }
+
+    /// Puts what is left of the loose nodes back.
+    pub fn restore(&mut self, arena: &Arena)
+        requires woven { IsWoven arena.now.literals.items arena.now.ends.items self.old.at.items self.old.lists arena.now.variables }
+        requires copied { IsCopied arena.now.literals.items arena.now.ends.items self.old.at.items self.old.copies.items }
+        ensures woven { IsWoven arena.now.literals.items arena.now.ends.items self.new.at.items self.new.lists arena.now.variables }
+        ensures at { self.new.at.items ≡ self.old.at.items }
+        ensures copies { self.new.copies.items ≡ self.old.copies.items }
+        ensures none_loose { self.new.lists.loose ≡ [] }
+    {
+        'nodes: while let Some(node) = self.lists.first() {
+            self.settle(arena, node);
+        }
+    }
+}

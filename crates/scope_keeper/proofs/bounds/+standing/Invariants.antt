@@ -1,4 +1,0 @@
-use Rattle.scope_keeper.proofs.bounds.+standing.Given as goal
-
-abbrev pub decreases-standing : goal.decreases-standing
-decreases-standing l = l.more

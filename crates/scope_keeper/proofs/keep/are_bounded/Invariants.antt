@@ -1,6 +1,0 @@
-use Rattle.std.proofs.Common.{ℕ, Contains, take}
-use Rattle.core_meaning.specs.Kept.{InSigBound}
-use Rattle.scope_keeper.proofs.keep.are_bounded.Given as goal
-
-abbrev pub invariant-loop-member : goal.invariant-loop-member
-invariant-loop-member l = (a : ℕ) → Contains (take l.member-index l.members) a → InSigBound l.setting.model l.setting.scopes l.place l.sig a

@@ -1,6 +1,0 @@
-use Rattle.std.proofs.Common.{All, take}
-use Rattle.scope_rules.specs.Numbers.{IsListed}
-use Rattle.scope_rules.proofs.keeps.are_listed.Given as goal
-
-abbrev pub invariant-loop-place : goal.invariant-loop-place
-invariant-loop-place l = All (IsListed l.numbers) (take l.place l.entries)

@@ -1,3 +1,0 @@
-mod Happening
-mod Meanings
-mod Satisfying

@@ -1,6 +1,0 @@
-use Rattle.std.proofs.Common.{◌≡◌, map, take}
-use Rattle.set_operators.proofs.AtomLaw.{first_number}
-use Rattle.set_operators.proofs.rows.atoms_in.Given as goal
-
-abbrev pub invariant-loop-tuple : goal.invariant-loop-tuple
-invariant-loop-tuple l = l.all.items ≡ map first_number (take l.tuple-index l.tuples)

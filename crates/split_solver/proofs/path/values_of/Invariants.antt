@@ -1,6 +1,0 @@
-use Rattle.std.proofs.Common.{◌≡◌, map, take}
-use Rattle.split_solver.specs.Steps.{is_true}
-use Rattle.split_solver.proofs.path.values_of.Given as goal
-
-abbrev pub invariant-loop-value : goal.invariant-loop-value
-invariant-loop-value l = l.values.items ≡ map is_true (take l.value-index l.path.values.items)

@@ -1,0 +1,6 @@
+use Rattle.std.proofs.Common.{◌≡◌, ◌++◌, ◌<◌, length}
+use Rattle.syntax_tree.specs.Spelling.{kinds, bindings_spelling}
+use Rattle.syntax_expr.proofs.grammar.Grammar.bindings.Given as goal
+
+abbrev pub invariant-loop-turn : goal.invariant-loop-turn
+invariant-loop-turn g l = (0 < length l.found) × (kinds l.fn.cursor ≡ bindings_spelling l.found ++ kinds l.cursor)

@@ -1,0 +1,6 @@
+use Rattle.std.proofs.Common.{arith}
+use Rattle.syntax_expr.proofs.Places.{capped}
+use Rattle.syntax_expr.proofs.parse.are_shallow.Goals as goal
+
+pub returns : goal.returns
+returns c = grind (arith, capped)

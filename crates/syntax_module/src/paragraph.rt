@@ -1,0 +1,61 @@
+//! Paragraphs.
+
+ghost use Rattle.std.specs.Prelude.{◌≡◌, ◌++◌, ◌∷◌, map, IfOk, IsTrue};
+ghost use Rattle.syntax_tree.specs.declared.token.Word.TheVariants as w;
+ghost use Rattle.syntax_tree.specs.Spelling.{kinds, joined};
+ghost use Rattle.syntax_tree.specs.ModuleWords.{claim_words, sig_words, enum_words, pred_words, fun_words, command_words, paragraph_words};
+ghost use Rattle.syntax_tree.specs.Levels.{every};
+ghost use Rattle.syntax_tree.specs.ModuleRules.{paragraph_right};
+ghost use Rattle.syntax_expr.specs.Reads.{Reads};
+
+use crate::bodies::{claim, fun, pred};
+use crate::command::command;
+use crate::sig::{enumeration, sig};
+use crate::word::sees_private;
+use base_lists::Items;
+use base_types::limits::TREE_DEPTH;
+use std::alloc::Global;
+use syntax_expr::{Cursor, ParseFault};
+use syntax_tree::{Paragraph, Word};
+
+/// The word that says what the paragraph is, where the next token is no name.
+fn leading(cursor: &Cursor<'_>) -> Option<Word> {
+    if sees_private(cursor.rest(), Word::Pred) {
+        return Some(Word::Pred);
+    }
+    if sees_private(cursor.rest(), Word::Fun) {
+        return Some(Word::Fun);
+    }
+    cursor.word()
+}
+
+fn paragraph(alloc: Global, cursor: &mut Cursor<'_>) -> Result<Paragraph, ParseFault>
+    ensures right { IfOk result (λ found. IsTrue (paragraph_right TREE_DEPTH found)) }
+    ensures reads { Reads paragraph_words cursor.old result cursor.new }
+{
+    match leading(cursor) {
+        Some(Word::Enum) => Ok(Paragraph::Enum(enumeration(alloc, cursor)?)),
+        Some(Word::Fact) => Ok(Paragraph::Fact(claim(alloc, cursor, Word::Fact)?)),
+        Some(Word::Assert) => Ok(Paragraph::Assert(claim(alloc, cursor, Word::Assert)?)),
+        Some(Word::Pred) => Ok(Paragraph::Pred(pred(alloc, cursor)?)),
+        Some(Word::Fun) => Ok(Paragraph::Fun(fun(alloc, cursor)?)),
+        Some(Word::Run | Word::Check) | None => Ok(Paragraph::Command(command(alloc, cursor)?)),
+        Some(_) => Ok(Paragraph::Sig(sig(alloc, cursor)?)),
+    }
+}
+
+/// The paragraphs up to the end of the text.
+pub fn paragraphs(alloc: Global, cursor: &mut Cursor<'_>) -> Result<Items<Paragraph>, ParseFault>
+    ensures right { IfOk result (λ found. IsTrue (every (paragraph_right TREE_DEPTH) found)) }
+    ensures reads { Reads (λ found. joined (map paragraph_words found)) cursor.old result cursor.new }
+{
+    let mut found = Items::new(alloc);
+    for _turn in 0..cursor.left() {
+        if cursor.is_at_end() {
+            break;
+        }
+        let next = paragraph(alloc, cursor)?;
+        found.push(next)?;
+    }
+    Ok(found)
+}

@@ -1,0 +1,25 @@
+-- What a refusal of a list of tokens says.
+use Rattle.std.specs.Prelude.{Bool, true, false, IsTrue, List, ⊤}
+use Rattle.std.specs.List.{list_any}
+use Rattle.base_types.specs.declared.place.Place.{Place}
+use Rattle.base_types.specs.declared.place.Rule.{Rule}
+use Rattle.base_types.specs.declared.place.Rule.TheVariants as rule
+use Rattle.syntax_tree.specs.declared.token.Token.{Token}
+use Rattle.syntax_places.specs.Pieces.{same_place}
+use Rattle.syntax_expr.specs.declared.fault.ParseFault.{ParseFault}
+use Rattle.syntax_expr.specs.declared.fault.ParseFault.TheVariants as fault
+
+-- some token has this place
+abbrev pub has_token_at : Place → List Token → Bool
+has_token_at p = list_any (λ t. same_place p t.place)
+
+-- the two rules that the grammar has
+abbrev pub is_of_grammar : Rule → Bool
+is_of_grammar rule.Syntax = true
+is_of_grammar rule.TooDeep = true
+is_of_grammar _ = false
+
+-- A refusal is under a rule of the grammar, at a token of the list.
+abbrev pub IsOfTokens : List Token → ParseFault → Type 0
+IsOfTokens tokens fault.Memory = ⊤
+IsOfTokens tokens (fault.Refused r) = IsTrue (is_of_grammar r.rule) × IsTrue (has_token_at r.place tokens)

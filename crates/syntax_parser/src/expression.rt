@@ -1,0 +1,108 @@
+//! Expressions, bounds and blocks.
+
+ghost use Rattle.std.specs.Prelude.{◌≡◌, ◌++◌, ◌<◌, ◌≤◌, ◌-◌, ◌&&◌, nat_le, length, take, drop, IfOk, IfErr, IsTrue};
+ghost use Rattle.syntax_tree.specs.Words.{multiplicity_words};
+ghost use Rattle.syntax_tree.specs.Spelling.{spelling, EndsWell};
+ghost use Rattle.syntax_tree.specs.Levels as levels;
+ghost use Rattle.syntax_tree.specs.Depth.{depth_of};
+ghost use Rattle.syntax_tree.specs.ModuleRules.{value_right, block_right};
+ghost use Rattle.syntax_places.specs.Pieces.{pieces, worded_pieces, at_places};
+ghost use Rattle.syntax_expr.specs.Reads.{Spells};
+ghost use Rattle.syntax_parser.specs.Refuses.{IsOfTokens};
+
+use crate::refused::fault_from;
+use base_types::limits::TREE_DEPTH;
+use std::alloc::Global;
+use syntax_expr::{ParseFault, Parsed, ParsedBound};
+use syntax_places::{has_bound_places, has_places};
+use syntax_tree::Token;
+
+/// The tree, where each of its places is that of its token. The rules of the parser keep no other
+/// place; it is tested once more on the tree itself.
+fn placed(tokens: &[Token], from: usize, parsed: Parsed) -> Result<Parsed, ParseFault>
+    requires order { from ≤ parsed.next }
+    requires within { parsed.next < length tokens.now }
+    ensures same { IfOk result (λ p. p ≡ parsed) }
+    ensures placed { IfOk result (λ p. IsTrue (at_places (pieces p.tree) (take (p.next - from) (drop from tokens.now)))) }
+    ensures refused { IfErr result (λ e. IsOfTokens (drop from tokens.now) e) }
+{
+    if !has_places(&parsed.tree, &tokens[from..parsed.next]) {
+        return Err(ParseFault::Memory);
+    }
+    Ok(parsed)
+}
+
+/// The same for a bound.
+fn placed_bound(
+    tokens: &[Token],
+    from: usize,
+    parsed: ParsedBound,
+) -> Result<ParsedBound, ParseFault>
+    requires order { from ≤ parsed.next }
+    requires within { parsed.next < length tokens.now }
+    ensures same { IfOk result (λ p. p ≡ parsed) }
+    ensures placed { IfOk result (λ p. IsTrue (at_places (worded_pieces p.word p.tree) (take (p.next - from) (drop from tokens.now)))) }
+    ensures refused { IfErr result (λ e. IsOfTokens (drop from tokens.now) e) }
+{
+    if !has_bound_places(parsed.word, &parsed.tree, &tokens[from..parsed.next]) {
+        return Err(ParseFault::Memory);
+    }
+    Ok(parsed)
+}
+
+/// The expression that begins at this place in the list. The tree keeps the rules on levels, is of
+/// depth 250 at most, and keeps the places of its tokens.
+///
+/// # Errors
+/// `Refused` under `Syntax` or `TooDeep` at a token of the list, or `Memory`.
+pub fn parse_expr(alloc: Global, tokens: &[Token], from: usize) -> Result<Parsed, ParseFault>
+    requires ends { EndsWell tokens.now }
+    requires in_range { from < length tokens.now }
+    ensures spells { IfOk result (λ p. Spells tokens.now from p.next (spelling p.tree)) }
+    ensures placed { IfOk result (λ p. IsTrue (at_places (pieces p.tree) (take (p.next - from) (drop from tokens.now)))) }
+    ensures right { IfOk result (λ p. IsTrue (value_right TREE_DEPTH p.tree)) }
+    ensures refused { IfErr result (λ e. IsOfTokens (drop from tokens.now) e) }
+{
+    match syntax_expr::parse_expr(alloc, tokens, from) {
+        Ok(parsed) => placed(tokens, from, parsed),
+        Err(fault) => Err(fault_from(tokens, from, fault)),
+    }
+}
+
+/// The bound that begins at this place in the list. The tree keeps the rules on levels, is of depth
+/// 250 at most, and keeps the places of its tokens.
+///
+/// # Errors
+/// `Refused` under `Syntax` or `TooDeep` at a token of the list, or `Memory`.
+pub fn parse_bound(alloc: Global, tokens: &[Token], from: usize) -> Result<ParsedBound, ParseFault>
+    requires ends { EndsWell tokens.now }
+    requires in_range { from < length tokens.now }
+    ensures spells { IfOk result (λ p. Spells tokens.now from p.next (multiplicity_words p.word ++ spelling p.tree)) }
+    ensures placed { IfOk result (λ p. IsTrue (at_places (worded_pieces p.word p.tree) (take (p.next - from) (drop from tokens.now)))) }
+    ensures right { IfOk result (λ p. IsTrue (levels.is_bound p.tree && nat_le (depth_of p.tree) TREE_DEPTH)) }
+    ensures refused { IfErr result (λ e. IsOfTokens (drop from tokens.now) e) }
+{
+    match syntax_expr::parse_bound(alloc, tokens, from) {
+        Ok(parsed) => placed_bound(tokens, from, parsed),
+        Err(fault) => Err(fault_from(tokens, from, fault)),
+    }
+}
+
+/// The block that begins at this place in the list. The tree keeps the rules on levels, is of depth
+/// 250 at most, and keeps the places of its tokens.
+///
+/// # Errors
+/// `Refused` under `Syntax` or `TooDeep` at a token of the list, or `Memory`.
+pub fn parse_block(alloc: Global, tokens: &[Token], from: usize) -> Result<Parsed, ParseFault>
+    requires ends { EndsWell tokens.now }
+    requires in_range { from < length tokens.now }
+    ensures spells { IfOk result (λ p. Spells tokens.now from p.next (spelling p.tree)) }
+    ensures placed { IfOk result (λ p. IsTrue (at_places (pieces p.tree) (take (p.next - from) (drop from tokens.now)))) }
+    ensures right { IfOk result (λ p. IsTrue (block_right TREE_DEPTH p.tree)) }
+    ensures refused { IfErr result (λ e. IsOfTokens (drop from tokens.now) e) }
+{
+    match syntax_expr::parse_block(alloc, tokens, from) {
+        Ok(parsed) => placed(tokens, from, parsed),
+        Err(fault) => Err(fault_from(tokens, from, fault)),
+    }
+}

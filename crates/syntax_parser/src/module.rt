@@ -1,0 +1,47 @@
+//! Modules.
+
+ghost use Rattle.std.specs.Prelude.{◌≡◌, IfOk, IfErr, IsTrue};
+ghost use Rattle.syntax_tree.specs.Spelling.{kinds, EndsWell};
+ghost use Rattle.syntax_tree.specs.ModuleWords.{module_words};
+ghost use Rattle.syntax_tree.specs.ModuleRules.{module_right};
+ghost use Rattle.syntax_places.specs.Pieces.{at_places};
+ghost use Rattle.syntax_places.specs.ModulePieces.{module_pieces};
+ghost use Rattle.syntax_parser.specs.Refuses.{IsOfTokens};
+
+use crate::refused::of_tokens;
+use base_types::limits::TREE_DEPTH;
+use std::alloc::Global;
+use syntax_expr::ParseFault;
+use syntax_places::has_module_places;
+use syntax_tree::{Module, Token};
+
+/// The module, where each of its places is that of its token. The rules of the parser keep no other
+/// place; it is tested once more on the module itself.
+fn placed(tokens: &[Token], tree: Module) -> Result<Module, ParseFault>
+    ensures same { IfOk result (λ m. m ≡ tree) }
+    ensures placed { IfOk result (λ m. IsTrue (at_places (module_pieces m) tokens.now)) }
+    ensures refused { IfErr result (λ e. IsOfTokens tokens.now e) }
+{
+    if !has_module_places(&tree, tokens) {
+        return Err(ParseFault::Memory);
+    }
+    Ok(tree)
+}
+
+/// The module that the tokens spell. Its trees keep the rules on levels, are of depth 250 at most,
+/// and it keeps the places of its tokens.
+///
+/// # Errors
+/// `Refused` under `Syntax` or `TooDeep` at a token of the list, or `Memory`.
+pub fn parse_module(alloc: Global, tokens: &[Token]) -> Result<Module, ParseFault>
+    requires { EndsWell tokens.now }
+    ensures spells { IfOk result (λ m. kinds tokens.now ≡ module_words m) }
+    ensures placed { IfOk result (λ m. IsTrue (at_places (module_pieces m) tokens.now)) }
+    ensures right { IfOk result (λ m. IsTrue (module_right TREE_DEPTH m)) }
+    ensures refused { IfErr result (λ e. IsOfTokens tokens.now e) }
+{
+    match syntax_module::parse_module(alloc, tokens) {
+        Ok(tree) => placed(tokens, tree),
+        Err(fault) => Err(of_tokens(fault, tokens)),
+    }
+}

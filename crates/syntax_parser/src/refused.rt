@@ -1,0 +1,57 @@
+//! Refusals of a list of tokens.
+
+ghost use Rattle.std.specs.Prelude.{◌≡◌, ◌<◌, length, drop};
+ghost use Rattle.syntax_places.specs.Pieces.{same_place};
+ghost use Rattle.syntax_parser.specs.Refuses.{has_token_at, is_of_grammar, IsOfTokens};
+
+use base_types::{Place, Rule};
+use syntax_expr::ParseFault;
+use syntax_tree::Token;
+
+fn same_place(a: Place, b: Place) -> bool
+    ensures { result ≡ same_place a b }
+{
+    a.module == b.module && a.line == b.line && a.column == b.column
+}
+
+/// Whether some token has this place.
+fn has_token_at(place: Place, tokens: &[Token]) -> bool
+    ensures { result ≡ has_token_at place tokens.now }
+{
+    tokens.iter().any(|token| same_place(place, token.place))
+}
+
+/// Whether the rule is one of the two that the grammar has.
+fn is_of_grammar(rule: Rule) -> bool
+    ensures { result ≡ is_of_grammar rule }
+{
+    matches!(rule, Rule::Syntax | Rule::TooDeep)
+}
+
+/// A fault in reading these tokens. The rules of the parser refuse nothing but tokens of the list,
+/// under a rule of the grammar; that is tested once more on the list itself, and where it did not
+/// hold the fault would be `Memory`.
+pub fn of_tokens(fault: ParseFault, tokens: &[Token]) -> ParseFault
+    ensures { IsOfTokens tokens.now result }
+{
+    match fault {
+        ParseFault::Memory => ParseFault::Memory,
+        ParseFault::Refused(refusal) => {
+            let of_grammar = is_of_grammar(refusal.rule);
+            let at_token = has_token_at(refusal.place, tokens);
+            if of_grammar && at_token {
+                return ParseFault::Refused(refusal);
+            }
+            ParseFault::Memory
+        }
+    }
+}
+
+/// A fault in reading from this place in the list on.
+pub fn fault_from(tokens: &[Token], from: usize, fault: ParseFault) -> ParseFault
+    requires { from < length tokens.now }
+    ensures { IsOfTokens (drop from tokens.now) result }
+{
+    let (_before, rest) = tokens.split_at(from);
+    of_tokens(fault, rest)
+}

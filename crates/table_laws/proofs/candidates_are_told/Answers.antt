@@ -1,5 +1,0 @@
-use Rattle.table_laws.proofs.candidates_are_told.Goals as goal
-use Rattle.table_laws.proofs.Told.{candidates_told}
-
-pub returns : goal.returns
-returns c = candidates_told c.rows_rise.ensures

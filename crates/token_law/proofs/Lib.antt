@@ -1,4 +1,0 @@
-pub mod Symbols
-pub mod Longest
-pub mod Pieces
-pub mod Divided

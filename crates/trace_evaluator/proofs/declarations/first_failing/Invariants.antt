@@ -1,6 +1,0 @@
-use Rattle.std.proofs.Common.{◌<◌, ℕ}
-use Rattle.trace_evaluator.specs.Asked.{AllAre}
-use Rattle.trace_evaluator.proofs.declarations.first_failing.Given as goal
-
-abbrev pub invariant-loop-position : goal.invariant-loop-position
-invariant-loop-position l = (i : ℕ) → i < l.position → AllAre l.judge i

@@ -1,8 +1,0 @@
-use Rattle.evaluation_setting.specs.Settings.{SettingValue}
-use Rattle.std.proofs.Common.{IfOk, subst}
-use Rattle.trace_evaluator.specs.Asked.{AllAre, IsFirstWithout}
-use Rattle.trace_evaluator.proofs.declarations.first_of_model.Goals as goal
-
-pub returns : goal.returns
-returns c =
-    subst (λ (s : SettingValue). IfOk c.first_failing.result (λ o. IsFirstWithout (AllAre s) o)) c.in_ok-judge.ensures c.first_failing.ensures

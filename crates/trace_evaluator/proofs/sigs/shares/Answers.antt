@@ -1,8 +1,0 @@
-use Rattle.tuple_sets.specs.Sets.{In}
-use Rattle.evaluation_steps.specs.Judged.{set_in}
-use Rattle.trace_evaluator.proofs.SetLaw.{shared}
-use Rattle.trace_evaluator.proofs.sigs.shares.Goals as goal
-
-pub returns : goal.returns
-returns c =
-    shared c.in_ok-common.common (λ t. In t (set_in c.args.a.now)) (λ t. In t (set_in c.args.b.now)) c.in_ok-common.ensures c.has.result c.has.ensures

@@ -1,4 +1,0 @@
-use Rattle.trace_form.proofs.atom_index.put.Goals as goal
-
-pub returns : goal.returns
-returns c = λ q. c.in_ok-insert.ensures.updates.0 (record { ref_ptr = (0, 0); now = q })

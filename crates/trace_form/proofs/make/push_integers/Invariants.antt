@@ -1,6 +1,0 @@
-use Rattle.std.proofs.Common.{◌≡◌, ◌++◌}
-use Rattle.trace_form.specs.Made.{integer_texts}
-use Rattle.trace_form.proofs.make.push_integers.Given as goal
-
-abbrev pub invariant-loop-place : goal.invariant-loop-place
-invariant-loop-place l = l.atoms ≡ l.initial.atoms ++ integer_texts l.bits l.place

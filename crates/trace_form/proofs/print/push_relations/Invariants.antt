@@ -1,6 +1,0 @@
-use Rattle.std.proofs.Common.{◌≡◌, ◌++◌, flat_map, take}
-use Rattle.trace_form.specs.Text.{relation_text}
-use Rattle.trace_form.proofs.print.push_relations.Given as goal
-
-abbrev pub invariant-loop-relation : goal.invariant-loop-relation
-invariant-loop-relation l = l.out.items ≡ l.initial.out.items ++ flat_map (λ r. relation_text l.atoms l.state r) (take l.relation-index l.relations)

@@ -1,6 +1,0 @@
-use Rattle.std.proofs.Common.{◌≡◌}
-use Rattle.trace_form.specs.Reading.{orders_before}
-use Rattle.trace_form.proofs.read.orders_of.Given as goal
-
-abbrev pub invariant-loop-place : goal.invariant-loop-place
-invariant-loop-place l = l.orders.items ≡ orders_before l.relations l.place

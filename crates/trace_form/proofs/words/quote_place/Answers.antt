@@ -1,7 +1,0 @@
-use Rattle.std.proofs.Common.{arith}
-use Rattle.trace_form.specs.Reading.{is_quote}
-use Rattle.trace_form.proofs.Nowhere.{nowhere}
-use Rattle.trace_form.proofs.words.quote_place.Goals as goal
-
-pub returns-clause-place : goal.returns-clause-place
-returns-clause-place c = nowhere is_quote c.args.text.now c.loop-place.place 0 (omega arith) c.loop-place.invariant

@@ -1,4 +1,0 @@
-use Rattle.trace_judge.proofs.judge.judged_fact.Goals as goal
-
-pub returns : goal.returns
-returns c = (c.in_ok-fact.ensures, c.in_ok-holds.ensures)

@@ -1,8 +1,0 @@
--- The refusal of an expression that is too long.
-use Rattle.std.specs.Prelude.{ℕ}
-use Rattle.alloy_base.specs.declared.place.Refusal.{Refusal}
-use Rattle.alloy_base.specs.declared.place.Rule.TheVariants.{LargeFile}
-
--- a text that is too long, by its number
-abbrev pub large_text : ℕ → Refusal
-large_text number = record { rule = LargeFile; place = record { «module» = number; line = 1; column = 1 } }

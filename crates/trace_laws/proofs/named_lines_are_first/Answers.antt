@@ -1,7 +1,0 @@
-use Rattle.std.proofs.Common.{refl}
-use Rattle.trace_form.specs.Reading.{trace_way}
-use Rattle.trace_laws.proofs.named_lines_are_first.Goals as goal
-use Rattle.trace_laws.proofs.Named.{named_first}
-
-pub returns : goal.returns
-returns c = λ labels text line have fault. named_first labels text line have (trace_way labels text) refl fault

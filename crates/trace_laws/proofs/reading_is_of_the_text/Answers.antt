@@ -1,6 +1,0 @@
-use Rattle.trace_laws.proofs.reading_is_of_the_text.Goals as goal
-use Rattle.trace_laws.proofs.Built.{allow_of}
-use Rattle.trace_laws.proofs.Ended.{text_of_read}
-
-pub returns : goal.returns
-returns c = λ labels text lasso rest lines have way. text_of_read labels (allow_of labels have) text lasso rest lines way

@@ -1,4 +1,0 @@
-use Rattle.tree_evaluator.proofs.walk.Walk.+backward.Given as goal
-
-abbrev pub decreases-backward : goal.decreases-backward
-decreases-backward g l = l.deep

@@ -1,4 +1,0 @@
-use Rattle.tree_evaluator.proofs.walk.Walk.+every.Given as goal
-
-abbrev pub decreases-every : goal.decreases-every
-decreases-every g l = l.deep

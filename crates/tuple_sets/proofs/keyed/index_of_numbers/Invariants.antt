@@ -1,6 +1,0 @@
-use Rattle.std.proofs.Common.{◌≡◌, take}
-use Rattle.tuple_sets.specs.Index.{index_of}
-use Rattle.tuple_sets.proofs.keyed.index_of_numbers.Given as goal
-
-abbrev pub invariant-loop-number : goal.invariant-loop-number
-invariant-loop-number l = l.index ≡ index_of (take l.number-index l.numbers)

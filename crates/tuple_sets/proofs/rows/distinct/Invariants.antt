@@ -1,5 +1,0 @@
-use Rattle.tuple_sets.proofs.DistinctLaw.{Distinct}
-use Rattle.tuple_sets.proofs.rows.distinct.Given as goal
-
-abbrev pub invariant-loop-place : goal.invariant-loop-place
-invariant-loop-place l = Distinct l.arity l.tuples l.kept.items l.place

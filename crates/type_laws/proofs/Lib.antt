@@ -1,9 +1,0 @@
-mod Climbs
-mod Closed
-mod Fields
-mod Held
-mod Members
-mod Ranges
-mod Rows
-mod Standing
-mod Terms

@@ -1,5 +1,0 @@
-use Rattle.type_laws.proofs.Fields.{fields_lie}
-use Rattle.type_laws.proofs.fields_lie_in_their_bounds.Goals as goal
-
-pub returns : goal.returns
-returns c = fields_lie

@@ -1,9 +1,0 @@
-use alloy_base::Refusal;
-
-/// Why there is no model.
-#[derive(Clone, Copy, Debug, PartialEq, Eq, Drop)]
-pub enum ResolveFault {
-    /// A rule on names, sigs, fields or readings is broken; with its place.
-    Refused(Refusal),
-    Memory,
-}

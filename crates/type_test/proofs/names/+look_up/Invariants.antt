@@ -1,5 +1,0 @@
-use Rattle.std.proofs.Common.{length}
-use Rattle.type_test.proofs.names.+look_up.Given as goal
-
-abbrev pub decreases-look_up : goal.decreases-look_up
-decreases-look_up l = length l.names.now

@@ -1,6 +1,0 @@
-use Rattle.std.proofs.Common.{◌≡◌, take}
-use Rattle.type_test.specs.Same.{added}
-use Rattle.type_test.proofs.sets.add_each.Given as goal
-
-abbrev pub invariant-loop-row : goal.invariant-loop-row
-invariant-loop-row l = l.all ≡ added l.initial.all (take l.row-index l.rows)

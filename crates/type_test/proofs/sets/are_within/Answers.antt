@@ -1,7 +1,0 @@
-use Rattle.std.proofs.Common.{◌∙◌, sym, ap}
-use Rattle.type_test.specs.Same.{has_row}
-use Rattle.type_test.proofs.Added.{within_more}
-use Rattle.type_test.proofs.sets.are_within.Goals as goal
-
-pub loop-row-preserved : goal.loop-row-preserved
-loop-row-preserved c = within_more c.args.rows.now c.args.others.now c.loop-row.row-index c.row-item.result c.loop-row-test.true c.row-item.is c.loop-row.invariant (sym (c.is_among.ensures ∙ ap (has_row c.args.others.now) c.as_slice.ensures) ∙ c.if-not-is_among.false)

@@ -1,7 +1,0 @@
-use Rattle.std.proofs.Common.{◌≡◌, false, take}
-use Rattle.std.specs.List.{list_any}
-use Rattle.type_test.specs.Same.{same_row}
-use Rattle.type_test.proofs.sets.is_among.Given as goal
-
-abbrev pub invariant-loop-other : goal.invariant-loop-other
-invariant-loop-other l = list_any (same_row l.row) (take l.other-index l.rows) ≡ false

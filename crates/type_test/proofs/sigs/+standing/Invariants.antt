@@ -1,4 +1,0 @@
-use Rattle.type_test.proofs.sigs.+standing.Given as goal
-
-abbrev pub decreases-standing : goal.decreases-standing
-decreases-standing l = l.steps

@@ -1,2 +1,0 @@
-pub mod BitLaw
-pub mod PowLaw
