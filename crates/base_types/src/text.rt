@@ -56,6 +56,13 @@ impl Bytes {
         })
     }
 
+    /// The bytes of a vector, which is taken over and not copied.
+    pub fn from_vec(items: Vec<u8>) -> Bytes
+        ensures { result ≡ items.items }
+    {
+        Bytes { bytes: items }
+    }
+
     /// The bytes.
     pub fn bytes(&self) -> &[u8]
         ensures { result.now ≡ self.now }
