@@ -8,7 +8,7 @@ ghost use Rattle.bound_uppers.specs.Kinds.{span_in, spans_from, HasSpans, FitSpa
 use core_meaning::{Scopes, SigScope};
 use std::alloc::{AllocError, Global};
 
-/// The greatest number of atoms and integers together.
+/// The greatest number of atoms and integers together: `base_types::limits::ATOMS` (Atoms, S66).
 pub const MOST_NUMBERS: u32 = 16384;
 
 /// There are fewer sigs than this.

@@ -25,7 +25,7 @@ use core_tree::{Field, Model, Row, Sig, SigKind};
 use core_tuples::{Tuple, TupleSet};
 use std::alloc::{AllocError, Global};
 
-/// The most variables that a table has.
+/// The most variables that a table has, its loop indices among them (Cells, S67).
 pub const MOST_CELLS: u64 = 1_000_000;
 
 /// A relation before its tuples are made.

@@ -76,6 +76,7 @@ fn taken(
     let Some(meaning) = meaning else {
         return None;
     };
+    // ArityLimit, S47: a relation has at most nine columns.
     if meaning.widest > 9 || width(&meaning, more) > 9 {
         note_at(setting, state, at, Broken::ArityLimit);
     }

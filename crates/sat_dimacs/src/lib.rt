@@ -18,10 +18,10 @@ pub use read::{CnfFault, read_cnf};
 pub use table::{Row, Table, has_feed};
 pub use truth::satisfies;
 
-/// The most variables that a header in a text may name.
+/// The most variables that a header in a text may name (C01).
 pub const MOST_VARIABLES: u64 = 100_000_000;
 
-/// The most clauses that a header in a text may name.
+/// The most clauses that a header in a text may name (C01).
 pub const MOST_CLAUSES: u64 = 100_000_000;
 
 #[cfg(test)]
