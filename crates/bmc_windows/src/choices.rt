@@ -1,7 +1,6 @@
 // Small questions on tuples and atoms.
 
 use core_tuples::Tuple;
-use std::alloc::{AllocError, Global};
 
 /// The first number of a tuple; 0 of one without numbers.
 pub fn first_number(tuple: &Tuple) -> u32 {
@@ -20,11 +19,4 @@ pub fn is_apart(earlier: &[u32], apart: u32, atom: u32) -> bool {
         }
     }
     true
-}
-
-/// The atoms with one more at the end.
-pub fn with_last(alloc: Global, earlier: &[u32], atom: u32) -> Result<Vec<u32>, AllocError> {
-    let mut all = earlier.to_vec(alloc)?;
-    all.push(atom)?;
-    Ok(all)
 }
