@@ -16,26 +16,6 @@ pub fn has_private(words: &[FieldWord]) -> bool {
     false
 }
 
-/// Whether `var` stands among them.
-pub fn has_var(words: &[FieldWord]) -> bool {
-    for word in words {
-        if matches!(*word, FieldWord::Var) {
-            return true;
-        }
-    }
-    false
-}
-
-/// Whether `disj` stands among them.
-pub fn has_disj(words: &[FieldWord]) -> bool {
-    for word in words {
-        if matches!(*word, FieldWord::Disj) {
-            return true;
-        }
-    }
-    false
-}
-
 pub fn bound_word(word: Option<Word>) -> Option<BoundWord> {
     match word {
         None => None,
