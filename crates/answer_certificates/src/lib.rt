@@ -1,11 +1,12 @@
 //! The fewest states with which a target has a lasso.
 //!
-//! Facts that rule out every lasso together with the declarations and the command, none of them to spare.
+//! Facts that rule out every lasso together with the declarations and the command. They are found by deletion; not proved:
+//! that each of them is needed.
 //!
 //! A law: what facts that rule out every lasso mean for the model.
 //!
-//! Searches whose answers say why they are the best: a trace of the fewest states, with clauses that say what a shorter one
-//! is and lines that refute them, and facts that rule out every trace, none of them to spare.
+//! Searches whose answers come with certificates: a trace of the fewest states, with clauses that say what a shorter one
+//! is and lines that refute them, and facts that rule out every trace.
 #![tactic(auto)]
 
 mod answer;

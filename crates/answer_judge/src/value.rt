@@ -56,9 +56,11 @@ fn valued(
         value,
         position,
     )?;
+    // for the proof: this call's clause says that it is a set of tuples
     let _ = set.arity();
     let text = value_text(alloc, &prepared.labels.atoms, &set)?;
     let shown = Bytes::copy(alloc, &text)?;
+    // for the proof: only the clauses name the text of the trace
     let _ = trace;
     Ok(TraceAnswer::Valued(shown))
 }

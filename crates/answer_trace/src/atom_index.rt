@@ -82,6 +82,7 @@ impl<'a> AtomIndex<'a> {
     pub fn find(&self, text: &[u8]) -> Option<u32>
         ensures { result ≡ number_of self.now text.now }
     {
+        // for the proof: a field is read, so that the invariant of the index is at hand
         let _ = self.atoms.len();
         self.numbers.get(text).copied()
     }

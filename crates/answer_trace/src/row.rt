@@ -91,8 +91,10 @@ fn put_last(set: &mut TupleSet, tuple: Tuple) -> Result<(), AllocError>
     ensures ok { OnOk result (set.new ≡ record { arity = set.old.arity; tuples = set.old.tuples ++ tuple ∷ [] }) }
     ensures err { OnErr result (set.new ≡ set.old) }
 {
+    // for the proof: this call's clause says that it is a set of tuples
     let _before = set.len();
     set.insert(tuple)?;
+    // for the proof: this call's clause says that it is a set of tuples still
     let _count = set.len();
     Ok(())
 }

@@ -134,6 +134,7 @@ fn fixed_nodes<G: Gates>(
         → (row_value (G.node_value gates.new x) row j ≡ true) ↔ IsEver x true cells states j) }
 {
     let row = ever_nodes(alloc, gates, cells, true, count, 1)?;
+    // for the proof: only the clauses name the number of states
     let _ = states;
     Ok(row)
 }

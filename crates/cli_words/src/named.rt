@@ -19,7 +19,7 @@ pub enum Mode {
     Eval,
     /// Searches for a trace of fewest states.
     Least,
-    /// Names facts that rule out every trace, none of them to spare.
+    /// Names facts that rule out every trace, found by deletion.
     Core,
 }
 

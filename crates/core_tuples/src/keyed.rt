@@ -52,6 +52,7 @@ impl Keyed {
         ensures same { result.now ≡ self.now }
         ensures fits { FitsIndex self.now }
     {
+        // for the proof: a field is read, so that the invariant of the tuple is at hand
         let _ = &self.index;
         &self.tuple
     }

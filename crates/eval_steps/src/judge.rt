@@ -68,6 +68,7 @@ impl<'a> Judge<'a> {
     pub fn setting(&self) -> &Setting<'a>
         ensures { result.now ≡ self.now }
     {
+        // for the proof: a field is read, so that the invariant of the judge is at hand
         let _ = &self.weights;
         &self.setting
     }
@@ -82,6 +83,7 @@ impl<'a> Judge<'a> {
         ensures now { result.now ≡ self.now.model.bodies }
         ensures weighed { HasWeights self.now }
     {
+        // for the proof: a field is read, so that the invariant of the judge is at hand
         let _ = &self.weights;
         &self.setting.model().bodies
     }
@@ -133,6 +135,7 @@ impl<'a> Judge<'a> {
         ensures repeats { (scope : Scope) → result < 2 ^ 32 - 1 → NamesRepeat self.now scope names → ClaimRepeats self.now (claim_of formula.now) scope result }
         ensures more { names ≤ result }
     {
+        // for the proof: this call's clauses say that the lasso has a loop
         let _ = self.period();
         let bodies = self.bodies();
         let weight = of_formula(bodies, &self.weights, MOST, formula);
@@ -147,6 +150,7 @@ impl<'a> Judge<'a> {
     pub fn fact_rounds(&self, fact: &Formula) -> u32
         ensures { (atoms : List Binding) → result < 2 ^ 32 - 1 → Again self.now (claim_of fact.now) (atom_names atoms) result }
     {
+        // for the proof: this call's clauses say that the lasso has a loop
         let _ = self.period();
         let bodies = self.bodies();
         of_formula(bodies, &self.weights, MOST, fact)
@@ -156,6 +160,7 @@ impl<'a> Judge<'a> {
     pub fn bound_rounds(&self, bound: &Expr) -> u32
         ensures { (atoms : List Binding) (n : ℕ) (m : Multiplicity) → result < 2 ^ 32 - 1 → Again self.now (within (value_term n) m (term_of bound.now)) (atom_names atoms) result }
     {
+        // for the proof: this call's clauses say that the lasso has a loop
         let _ = self.period();
         let bodies = self.bodies();
         of_expr(bodies, &self.weights, MOST, bound)
@@ -243,6 +248,7 @@ pub fn claim_place(judge: &Judge, formula: &Formula, position: u64) -> Result<u6
 pub fn term_place(judge: &Judge, expr: &Expr, position: u64) -> Result<u64, EvaluationFault>
     ensures { IfOk result (λ place. (t : List ℕ) → Means judge.now (term_of expr.now) no_names place t ↔ Means judge.now (term_of expr.now) no_names position t) }
 {
+    // for the proof: this call's clauses say that the lasso has a loop
     let _ = judge.period();
     let rounds = term_repeats(judge, expr, &Scope::Empty);
     if rounds >= MANY {

@@ -194,6 +194,7 @@ pub fn atom_at(set: &TupleSet, place: usize) -> u32
     requires columns { set.now.arity ≡ 1 }
     ensures { slice_get set.now.tuples place ≡ Some (result ∷ []) }
 {
+    // for the proof: this call's clause says that it is a set of tuples
     let _ = set.len();
     let tuple = set.tuple(place);
     let numbers = tuple.numbers();

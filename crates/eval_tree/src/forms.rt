@@ -93,6 +93,7 @@ impl<
                 self.tuples(b, &inner, position)
             }
             Expr::Call(body, arguments) => {
+                // for the proof: this call's clause says that the weights are those of the bodies
                 let _ = self.judge.bodies();
                 let start = Scope::Empty;
                 self.enter_term(*body, arguments, 0, scope, &start, position, self.deep)
@@ -167,6 +168,7 @@ impl<
                 self.holds(f, &inner, position)
             }
             Formula::Call(body, arguments) => {
+                // for the proof: this call's clause says that the weights are those of the bodies
                 let _ = self.judge.bodies();
                 let start = Scope::Empty;
                 self.enter_claim(*body, arguments, 0, scope, &start, position, self.deep)

@@ -34,6 +34,7 @@ pub fn put<G: Gates>(
     ensures belongs { AllBelong (G.belongs gates.now) matrix.new.entries }
     ensures ok { OnOk result (IsPut matrix.old tuple node matrix.new) }
 {
+    // for the proof: only the clauses name the gates
     let _ = gates;
     if !is_row(&tuple, matrix.arity()) {
         return Err(AllocError);

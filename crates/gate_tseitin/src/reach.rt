@@ -101,6 +101,7 @@ fn mark_reached(marks: &mut [bool], store: &CircuitStore, sure: Node, roots: &[N
     ensures fewest { (other : List Bool) → AreReached store.now sure roots.now other → Grows marks.old other → Grows marks.new other }
     ensures layered { IsLayered store.now }
 {
+    // for the proof: this call's clauses say what a store keeps
     let _gates = store.gates();
     mark(marks, sure);
     mark_all(marks, roots);

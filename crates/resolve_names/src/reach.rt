@@ -63,6 +63,7 @@ fn spread(scopes: &[Scope], from: usize, opens: &[Link], marks: &mut Vec<bool>)
     ensures begun { IsBegun scopes.now from opens.now marks.new.items }
     ensures closed { IsClosed scopes.now marks.new.items }
 {
+    // for the proof: only the clauses name the instance and its opens
     let _ = from;
     let _ = opens;
     while let Some(target) = next(scopes, marks.as_slice()) {
@@ -97,6 +98,7 @@ fn mark_all(scopes: &[Scope], from: usize, opens: &[Link], marks: &mut Vec<bool>
     requires own { (o : Link) → Contains opens.now o → HasOpen scopes.now from o }
     ensures { IsBegun scopes.now from opens.now marks.new.items }
 {
+    // for the proof: only the clauses name the instance and the scopes
     let _ = from;
     let _ = scopes;
     for open in opens {

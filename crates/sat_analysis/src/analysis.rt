@@ -77,6 +77,7 @@ impl Analysis {
         ensures literals { OnOk result (All (IsLiteral trail.now.variables) self.new.literals.items) }
         ensures learnt { OnOk result (IsLearnt trail.now self.new.literals.items self.new.hints.items self.new.back_to) }
     {
+        // for the proof: this call's clauses say what a trail keeps
         let _literals = trail.trail();
         self.clear();
         self.met = resolve_all(
@@ -156,6 +157,7 @@ fn negation_at(trail: &Trail, place: usize) -> i64
     requires { place < length trail.now.assignment.trail }
     ensures { result ≡ neg_ℤ (value_at trail.now.assignment.trail place) }
 {
+    // for the proof: this call's clauses say how many values there are
     let _values = trail.values();
     -trail.trail()[place]
 }
