@@ -74,6 +74,7 @@ impl<'a> AtomIndex<'a> {
     pub fn new(alloc: Global, atoms: &'a TextList) -> Result<AtomIndex<'a>, AllocError>
         ensures { IfOk result (λ i. i ≡ atoms.now) }
     {
+        // Atoms, S66: there are at most 16,384 atoms and integers.
         let numbers = numbers_of(alloc, atoms, atoms.len().min(16384))?;
         Ok(AtomIndex { atoms, numbers })
     }

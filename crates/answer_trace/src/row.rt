@@ -163,6 +163,7 @@ fn read_set(
 ) -> Result<Option<TupleSet>, AllocError>
     ensures { IfOk result (λ o. o ≡ set_of index.now columns text.now) }
 {
+    // ArityLimit, S47: a relation has at most nine columns.
     if columns < 1 || columns > 9 {
         return Ok(None);
     }
@@ -178,6 +179,7 @@ fn read_set(
 pub fn no_tuple(alloc: Global, columns: u32) -> Option<TupleSet>
     ensures { result ≡ hidden_set columns None }
 {
+    // ArityLimit, S47: a relation has at most nine columns.
     if columns < 1 || columns > 9 {
         return None;
     }
@@ -188,6 +190,7 @@ pub fn no_tuple(alloc: Global, columns: u32) -> Option<TupleSet>
 pub fn one_atom(alloc: Global, columns: u32, atom: u32) -> Result<Option<TupleSet>, AllocError>
     ensures { IfOk result (λ o. o ≡ hidden_set columns (Some atom)) }
 {
+    // Atoms, S66: there are at most 16,384 atoms and integers.
     if columns != 1 || atom >= 16384 {
         return Ok(None);
     }

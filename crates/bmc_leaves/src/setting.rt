@@ -18,6 +18,7 @@ pub struct Setting<'a> {
 
 /// How many variables a list has; 0 where a tuple can't have so many numbers.
 pub fn columns_of(list: &[Variable]) -> u32 {
+    // ArityLimit, S47: a relation has at most nine columns.
     if list.len() <= 9 {
         list.len() as u32
     } else {

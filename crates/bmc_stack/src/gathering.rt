@@ -83,6 +83,7 @@ fn matrix_at<G: Gates>(
     requires { AreStored (G.belongs gates.now) store.now }
     ensures { IfOk result (λ m. AllBelong (G.belongs gates.now) m.entries) }
 {
+    // ArityLimit, S47: a relation has at most nine columns.
     if columns < 1 || columns > 9 {
         return Ok(Matrix::empty(alloc, 1));
     }

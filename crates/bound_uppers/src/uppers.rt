@@ -49,6 +49,7 @@ fn columns_of(columns: u32) -> u32
     if columns < 1 {
         return 1;
     }
+    // ArityLimit, S47: a relation has at most nine columns.
     if columns > 9 {
         return 9;
     }
@@ -270,6 +271,7 @@ fn atom_set(alloc: Global, spans: &Spans, rows: &[Tuple], atom: u64) -> Result<T
     requires columns { All (λ r. length r ≡ 1) rows.now }
     ensures { IfOk result (λ s. HasJust s 1 (λ t. InRows spans.now rows.now t × (t ≡ atom ∷ []))) }
 {
+    // Atoms, S66: there are at most 16,384 atoms and integers.
     if atom >= 16384 {
         let none = TupleSet::empty(alloc, 1);
         return Ok(none);

@@ -125,6 +125,7 @@ impl TupleSet {
 fn is_row(tuple: &Tuple, arity: u32) -> bool
     ensures { IsTrue result ↔ ((length tuple.now ≡ arity) × All IsNumber tuple.now) }
 {
+    // Atoms, S66: there are at most 16,384 atoms and integers.
     tuple.numbers().len() == arity as usize && tuple.numbers().iter().all(|x| *x < 16384)
 }
 

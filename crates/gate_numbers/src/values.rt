@@ -22,6 +22,7 @@ fn is_universe(universe: Universe) -> bool
     if universe.bits < 1 || universe.bits > 12 {
         return false;
     }
+    // Atoms, S66: there are at most 16,384 atoms and integers.
     u64::from(universe.atoms) + 2_u64.pow(universe.bits) <= 16384
 }
 

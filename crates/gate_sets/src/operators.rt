@@ -81,6 +81,7 @@ fn multiply<G: Gates>(
     ensures means { IfOk result (λ m. (x : ℕ → Bool) → MeansSet (G.node_value gates.new x) m
         (product_tuples (set_of (G.node_value gates.old x) a.now) (set_of (G.node_value gates.old x) b.now))) }
 {
+    // ArityLimit, S47: a relation has at most nine columns.
     if a.arity() + b.arity() > 9 {
         return Err(AllocError);
     }

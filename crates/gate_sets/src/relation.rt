@@ -18,6 +18,7 @@ fn is_row(tuple: &Tuple, arity: u32) -> bool
     ensures columns { IsTrue result → length tuple.now ≡ arity }
     ensures numbers { IsTrue result → All IsNumber tuple.now }
 {
+    // Atoms, S66: there are at most 16,384 atoms and integers.
     tuple.numbers().len() == arity as usize && tuple.numbers().iter().all(|x| *x < 16384)
 }
 

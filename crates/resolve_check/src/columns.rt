@@ -11,6 +11,7 @@ use core_tree::{Multiplicity, RelationOp, Variable};
 pub fn few(columns: u64) -> Option<u32>
     ensures { result ≡ fits.few columns }
 {
+    // ArityLimit, S47: a relation has at most nine columns.
     if 1 <= columns && columns <= 9 {
         Some(columns as u32)
     } else {
