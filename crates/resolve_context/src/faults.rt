@@ -5,12 +5,19 @@ use base_types::Place;
 /// A rule that names and expressions may break.
 #[derive(Clone, Copy, Debug, Drop)]
 pub enum Broken {
+    /// S40: a name names nothing there.
     UnknownName,
+    /// S41: an expression has several readings.
     Ambiguous,
+    /// S42: an expression has no reading.
     NoReading,
+    /// S43: a root has more readings than 4,096.
     TooManyReadings,
+    /// S44: a predicate or function calls itself, directly or not.
     RecursiveCall,
+    /// S45: a variable of a quantifier or comprehension would range over relations.
     HigherOrder,
+    /// S47: an expression or a field has more than 9 columns.
     ArityLimit,
 }
 

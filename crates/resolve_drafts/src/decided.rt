@@ -29,11 +29,11 @@ pub struct Reading {
 #[derive(Drop)]
 pub enum Settled {
     Read(Reading),
-    /// No reading is right.
+    /// S42: no reading is right.
     NoReading,
-    /// Several are right, and none is the root's reading.
+    /// S41: several are right, and none is the root's reading.
     Ambiguous,
-    /// There are more than 4,096 readings.
+    /// S43: there are more than 4,096 readings.
     TooMany,
 }
 

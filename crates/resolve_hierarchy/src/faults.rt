@@ -12,9 +12,13 @@ use syntax_tree::Loaded;
 /// A rule that the declarations of sigs and fields may break.
 #[derive(Clone, Copy, Debug, Drop)]
 pub enum Broken {
+    /// S31: a parent's name doesn't mean exactly one sig.
     NoParent,
+    /// S32: a sig is its own ancestor.
     ParentCycle,
+    /// S33: `Int` or a subset sig is extended.
     ExtendsSubset,
+    /// S34: two fields of one sig, or of sigs that overlap, have one name.
     FieldTwice,
 }
 

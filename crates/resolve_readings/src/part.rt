@@ -104,10 +104,10 @@ pub struct Found {
 pub enum Outcome {
     /// Its reading.
     Read(Items<usize>),
-    /// No choice is right.
+    /// S42: no choice is right.
     NoReading,
-    /// Several are right, and none is the root's reading.
+    /// S41: several are right, and none is the root's reading.
     Ambiguous,
-    /// There are more than 4,096 choices.
+    /// S43: there are more than 4,096 choices.
     TooMany,
 }
