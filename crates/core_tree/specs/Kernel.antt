@@ -1,5 +1,4 @@
--- The operators of the kernel, which are left once derived operators are written out. Which formulas are left is
--- `IsLeft` of form_kernel.
+-- The kernel of the language: what is left of calls, `let` and derived operators written out.
 use Rattle.core_tree.specs.declared.operators.Multiplicity.TheVariants.{Set}
 use Rattle.core_tree.specs.declared.operators.Comparison.{Comparison}
 use Rattle.core_tree.specs.declared.operators.Comparison.TheVariants.{Equal, Less, AtMost, Greater, AtLeast}
@@ -12,6 +11,7 @@ use Rattle.core_tree.specs.declared.operators.TemporalBinary.{TemporalBinary}
 use Rattle.core_tree.specs.declared.operators.TemporalBinary.TheVariants.{Until, Since}
 use Rattle.core_tree.specs.Trees.{Variables, no_variables, more_variables}
 
+-- The operators and forms of bounds that are left. Which formulas are left is `IsLeft` of form_kernel.
 abbrev pub IsKernelComparison : Comparison → Type 0
 IsKernelComparison Equal = Unit {0}
 IsKernelComparison Less = Unit {0}
