@@ -1,7 +1,7 @@
 //! The analysis of a loaded model: from its trees to a trace or to clauses with their refutation.
 //!
-//! [`prepare_loaded`] resolves a model and makes what a search needs; [`analyse_loaded`] searches. A
-//! law says what it means of the model that its target is ruled out (`laws`).
+//! [`prepare_loaded`] resolves a model and makes what a search needs; [`analyse_loaded`] searches.
+//! A law says what it means of the model that its target is ruled out (`laws`).
 #![tactic(auto)]
 
 mod answer;

@@ -115,11 +115,12 @@ fn labels_of(alloc: Global, model: &Model, scopes: &Scopes) -> Result<Labels, Al
     make_labels(alloc, model, scopes)
 }
 
-/// Resolves and bounds a loaded model and writes its formulas in the kernel of the language. The model
-/// keeps what resolved models keep, but for the rows of its fields' types, of which no clause speaks.
+/// Resolves and bounds a loaded model and writes its formulas in the kernel of the language. The
+/// model keeps what resolved models keep, but for the rows of its fields' types, of which no
+/// clause speaks.
 ///
-/// A refusal is the first broken rule: on names, sigs, fields and readings, then of the command and its scopes, with the
-/// name of the text that has its place.
+/// A refusal is the first broken rule: on names, sigs, fields and readings, then of the command
+/// and its scopes, with the name of the text that has its place.
 pub fn prepare_loaded(alloc: Global, loaded: Loaded, command: u32) -> Result<Prepared, AnalyseFault>
     ensures kept { IfOk result (λ prepared. IsModelButTypes prepared.model) }
     ensures loaded { IfOk result (λ prepared. prepared.loaded ≡ loaded) }

@@ -16,7 +16,8 @@ use sat_decide::{Boxed, Chooser};
 use std::alloc::{AllocError, Global};
 use syntax_tree::Loaded;
 
-/// Looks for a lasso that satisfies the declarations and facts of a loaded model and the command of that number.
+/// Looks for a lasso that satisfies the declarations and facts of a loaded model and the command
+/// of that number.
 ///
 /// Where there is none of as many states as the command's scopes have, the answer has clauses that just such lassos
 /// satisfy, and lines that refute them. Only under a budget the search may end before it knows. Refused as

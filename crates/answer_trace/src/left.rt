@@ -38,7 +38,8 @@ impl<'a> Left<'a> {
         ensures value { result ≡ self.now.lines }
         ensures bound { result < 2 ^ 63 }
     {
-        // for the proof: a field is read, so that the invariant of the bytes and their lines is at hand
+        // for the proof: a field is read, so that the invariant of the bytes and their lines is at
+        // hand
         let _ = self.bytes;
         self.lines
     }

@@ -1,7 +1,8 @@
-//! Limits within which the analyser works. Past each of them a source is refused by the rule that is named.
-//! The other limits stand where they are tested: the digits of a literal in `syntax_lexer` (S03), the readings of a
-//! root in `resolve_readings` (S43), the columns of a relation in `resolve_expr` (S47), the variables of the table in
-//! `bound_uppers` (S67), and the numbers of a clause file's header in `sat_dimacs` (C01).
+//! Limits within which the analyser works. Past each of them a source is refused by the rule that
+//! is named. The other limits stand where they are tested: the digits of a literal in
+//! `syntax_lexer` (S03), the readings of a root in `resolve_readings` (S43), the columns of a
+//! relation in `resolve_expr` (S47), the variables of the table in `bound_uppers` (S67), and the
+//! numbers of a clause file's header in `sat_dimacs` (C01).
 
 /// Bytes of a module's text, and of the text of one expression (S04).
 pub const MODULE_BYTES: usize = 1_048_576;

@@ -547,8 +547,8 @@ pub fn push_formula<G: Gates>(
     let kept = kept_of(alloc, gates, store, setting, formula)?;
     let mut plan = new_plan(alloc, kept);
     first(&mut plan, Task::Holds(formula, 0))?;
-    // The bound only makes the loop end. Memory would be wanting before so many tasks are done, and the answer behind the
-    // loop is want of memory.
+    // The bound only makes the loop end. Memory would be wanting before so many tasks are done,
+    // and the answer behind the loop is want of memory.
     for _turn in 0..u64::MAX {
         let more = advance(alloc, gates, store, &mut plan, setting)?;
         if !more {

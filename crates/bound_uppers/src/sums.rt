@@ -23,7 +23,8 @@ pub fn added(a: u64, b: u64) -> Result<u64, AllocError>
     }
 }
 
-/// The product of two numbers. Overflow is answered as want of memory: that many things would not fit.
+/// The product of two numbers. Overflow is answered as want of memory: that many things would not
+/// fit.
 pub fn multiplied(a: u64, b: u64) -> Result<u64, AllocError>
     ensures { IfOk result (λ n. n ≡ a * b) }
 {

@@ -25,8 +25,8 @@ use syntax_tree::Loaded;
 /// The name of the text of a ring.
 const RING: &str = "make";
 
-/// The answer of a search on the text of a module, whose model is loaded first. The text is there for the proof: only the
-/// clauses name it.
+/// The answer of a search on the text of a module, whose model is loaded first. The text is there
+/// for the proof: only the clauses name it.
 #[tactic(auto, using(crate::proofs::OnModel::found_on, crate::proofs::OnModel::search_fault_on, crate::proofs::OnModel::later_of))]
 pub fn search<L: Libraries>(
     alloc: Global,

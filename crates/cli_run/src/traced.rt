@@ -24,8 +24,8 @@ use syntax_tree::Loaded;
 /// The name of the text of an expression.
 const EXPRESSION: &str = "expr";
 
-/// The answer of a run that reads a trace of the module with this text, whose model is loaded first. The text is there
-/// for the proof: only the clauses name it.
+/// The answer of a run that reads a trace of the module with this text, whose model is loaded
+/// first. The text is there for the proof: only the clauses name it.
 #[tactic(auto, using(crate::proofs::OnModel::after_on, crate::proofs::OnModel::later_of, crate::proofs::Allowed::then_later))]
 pub fn traced<L: Libraries>(
     alloc: Global,

@@ -11,7 +11,8 @@ use Rattle.core_tree.specs.declared.operators.TemporalBinary.{TemporalBinary}
 use Rattle.core_tree.specs.declared.operators.TemporalBinary.TheVariants.{Until, Since}
 use Rattle.core_tree.specs.Trees.{Variables, no_variables, more_variables}
 
--- The operators and forms of bounds that are left. Which formulas are left is `IsLeft` of form_kernel.
+-- The operators and forms of bounds that are left. Which formulas are left is `IsLeft` of
+-- form_kernel.
 abbrev pub IsKernelComparison : Comparison → Type 0
 IsKernelComparison Equal = Unit {0}
 IsKernelComparison Less = Unit {0}

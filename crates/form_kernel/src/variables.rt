@@ -13,7 +13,8 @@ use crate::build::{both, lone, not};
 use core_tree::{Expr, Formula, RelationOp, Variable};
 use std::alloc::{AllocError, Global};
 
-/// The most variables that stand in one comprehension: a relation has at most so many columns (ArityLimit, S47).
+/// The most variables that stand in one comprehension: a relation has at most so many columns
+/// (ArityLimit, S47).
 pub const MOST_COLUMNS: usize = 9;
 
 /// `e - x` for the variable `x`.

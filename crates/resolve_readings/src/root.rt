@@ -102,7 +102,8 @@ pub fn decide(alloc: Global, typing: &Typing, root: &Part) -> Result<Outcome, Al
     ensures decided { IfOk result (λ o. Decides typing.now root.now o) }
     ensures limit { IfOk result (λ o. IsWithin (count_choices root.now) o) }
 {
-    // TooManyReadings, S43: a root has at most 4,096 readings. The count stops at 4,097, one past the limit.
+    // TooManyReadings, S43: a root has at most 4,096 readings. The count stops at 4,097, one past
+    // the limit.
     if choices(root) > 4096 {
         return Ok(Outcome::TooMany);
     }
