@@ -20,7 +20,6 @@ pub mod comparing;
 pub mod sizes;
 pub mod values;
 
-use crate::{Question, Tally, compare, sizes_of};
 use answer_analysis::{Prepared, prepare_loaded};
 use answer_search::clauses_of;
 use anyhow::Result;
