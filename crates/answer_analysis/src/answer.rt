@@ -1,4 +1,4 @@
-// What an analysis comes to.
+//! What an analysis comes to.
 
 use answer_trace::Labels;
 use core_meaning::Lasso;

@@ -1,4 +1,4 @@
-// Why there is no analysis.
+//! Why there is no analysis.
 
 ghost use Rattle.answer_analysis.specs.Found.{IsLoadedFault};
 

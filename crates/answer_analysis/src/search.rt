@@ -1,4 +1,4 @@
-// The search for a lasso.
+//! The search for a lasso.
 
 ghost use Rattle.std.specs.Prelude.{◌≡◌, ◌≤◌, ℕ, length, Option, IfOk, IfErr, IsTrue};
 ghost use Rattle.bound_uppers.specs.Shortest.{HasFewestStates};

@@ -1,4 +1,4 @@
-// What is to be analysed.
+//! What is to be analysed.
 
 use base_types::{Bytes, Name};
 

@@ -1,4 +1,4 @@
-// What the searches come to.
+//! What the searches come to.
 
 use core_meaning::Lasso;
 use sat_lrat::Proof;

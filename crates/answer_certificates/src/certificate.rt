@@ -1,4 +1,4 @@
-// What a search that certifies its answer comes to.
+//! What a search that certifies its answer comes to.
 
 ghost use Rattle.std.specs.Prelude.{◌≡◌, IfOk};
 ghost use Rattle.answer_analysis.specs.Found.{IsTraceOf};

@@ -1,4 +1,4 @@
-// What the facts come to.
+//! What the facts come to.
 
 use core_meaning::Lasso;
 use core_tree::ItemList;

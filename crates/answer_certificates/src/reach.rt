@@ -1,4 +1,4 @@
-// Which facts a refutation needs.
+//! Which facts a refutation needs.
 
 ghost use Rattle.std.specs.Prelude.{◌≡◌, length};
 

@@ -1,4 +1,4 @@
-// A text that is no trace.
+//! A text that is no trace.
 
 ghost use Rattle.std.specs.Prelude.{IfOk};
 ghost use Rattle.answer_trace.specs.Faults.{Faults};

@@ -1,4 +1,4 @@
-// What a search comes to.
+//! What a search comes to.
 
 use core_meaning::Lasso;
 use sat_lrat::Proof;

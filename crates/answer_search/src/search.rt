@@ -1,4 +1,4 @@
-// The search for a lasso.
+//! The search for a lasso.
 
 ghost use Rattle.std.specs.Prelude.{◌≡◌, IfOk, length};
 ghost use Rattle.answer_search.specs.Clauses.{RulesOut, SaysTarget};

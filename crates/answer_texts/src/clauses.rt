@@ -1,4 +1,4 @@
-// Answers with clauses.
+//! Answers with clauses.
 
 ghost use Rattle.std.specs.Prelude.{◌≡◌, ◌++◌, OnOk, IfOk, codes};
 ghost use Rattle.answer_texts.specs.Answers.{none_line, unknown_line, block_text, absent_text, unknown_text};

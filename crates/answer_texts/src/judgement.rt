@@ -1,4 +1,4 @@
-// What was found on a trace.
+//! What was found on a trace.
 
 use crate::fact::FactName;
 use core_tree::ItemList;

@@ -1,4 +1,4 @@
-// What the variables of the clauses stand for.
+//! What the variables of the clauses stand for.
 
 use answer_trace::{Labels, RelationLabel, push_tuple};
 use bound_uppers::Bounds;

@@ -1,4 +1,4 @@
-// The summary of a ring.
+//! The summary of a ring.
 
 use std::alloc::{AllocError, Global};
 

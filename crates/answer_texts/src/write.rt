@@ -1,4 +1,4 @@
-// Pieces of lines.
+//! Pieces of lines.
 
 ghost use Rattle.std.specs.Prelude.{◌≡◌, ◌++◌, OnOk, decimal};
 

@@ -1,4 +1,4 @@
-// The parts of a line of a trace.
+//! The parts of a line of a trace.
 
 ghost use Rattle.std.specs.Prelude.{◌≡◌, ◌<◌, ◌≤◌, length, codes, IfSome, option_map, option_copied, Some};
 ghost use Rattle.std.specs.List.{position_or_len};

@@ -1,4 +1,4 @@
-// Forms that models have, and that are plain.
+//! Forms that models have, and that are plain.
 
 ghost use Rattle.std.specs.Prelude.{ℕ};
 ghost use Rattle.core_tree.specs.declared.operators.Multiplicity.{Multiplicity as MultiplicityWord};

@@ -1,4 +1,4 @@
-// Which sets without parts a formula names.
+//! Which sets without parts a formula names.
 
 use core_tree::{Expr, Formula, Variable};
 

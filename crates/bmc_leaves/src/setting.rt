@@ -1,4 +1,4 @@
-// In what formulas are read.
+//! In what formulas are read.
 
 use bmc_windows::Frame;
 use bound_uppers::{Bounds, Layout};

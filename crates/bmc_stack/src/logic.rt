@@ -1,4 +1,4 @@
-// Steps on the stack of rows that are made of others.
+//! Steps on the stack of rows that are made of others.
 
 ghost use Rattle.std.specs.Prelude.{◌≡◌, ◌∷◌, [], ◌++◌, ◌*◌, ◌≤◌, ℕ, Bool, List, Some, OnOk, length, slice_get};
 ghost use Rattle.gate_trait.specs.declared.node.Node.{Node as CircuitNode};

@@ -1,4 +1,4 @@
-// What is built.
+//! What is built.
 
 ghost use Rattle.std.specs.Prelude.{◌≡◌, ◌-◌, length};
 

@@ -1,4 +1,4 @@
-// Tasks on all values of variables.
+//! Tasks on all values of variables.
 
 ghost use Rattle.std.specs.Prelude.{OnOk};
 ghost use Rattle.core_tree.specs.Trees.{claim_of, variable_of};

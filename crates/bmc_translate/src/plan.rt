@@ -1,4 +1,4 @@
-// What is still to be done, and what stands between the steps.
+//! What is still to be done, and what stands between the steps.
 
 ghost use Rattle.std.specs.Prelude.{◌≡◌, ◌∷◌, [], OnOk, IfOk};
 ghost use Rattle.bmc_leaves.specs.Shown.{Atoms, atom_in};

@@ -1,4 +1,4 @@
-// Small questions on tuples and atoms.
+//! Small questions on tuples and atoms.
 
 use core_tuples::Tuple;
 use std::alloc::{AllocError, Global};

@@ -1,4 +1,4 @@
-// Numbers at all places.
+//! Numbers at all places.
 
 ghost use Rattle.std.specs.Prelude.{◌≡◌, ◌<◌, ◌∷◌, [], ◌++◌, ℕ, Some, IfOk, OnOk, IfSome, length, replicate, slice_get};
 ghost use Rattle.bmc_windows.specs.Pairing.{ArePairs, IsMoved, AddsPair};

@@ -1,4 +1,4 @@
-// Laws of lassos and of the table.
+//! Laws of lassos and of the table.
 
 ghost use Rattle.bound_uppers.specs.Shortest.{Unrolls};
 ghost use Rattle.bound_uppers.specs.Table.{RowsInOrder};

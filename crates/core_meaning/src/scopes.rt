@@ -1,4 +1,4 @@
-// The scopes of a command.
+//! The scopes of a command.
 
 ghost use Rattle.std.specs.Prelude.{◌≡◌, IfOk};
 

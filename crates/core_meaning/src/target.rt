@@ -1,4 +1,4 @@
-// What a lasso is looked for.
+//! What a lasso is looked for.
 
 use crate::scopes::Scopes;
 use core_tree::FormulaList;

@@ -1,4 +1,4 @@
-// The call rank of a body.
+//! The call rank of a body.
 
 ghost use Rattle.std.specs.Prelude.{◌≡◌, ◌<◌, length, slice_index, map};
 

@@ -1,4 +1,4 @@
-// The parts of a resolved model.
+//! The parts of a resolved model.
 
 use crate::list::ItemList;
 use crate::operators::Multiplicity;

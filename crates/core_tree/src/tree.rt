@@ -1,4 +1,4 @@
-// Resolved formulas and expressions.
+//! Resolved formulas and expressions.
 
 use crate::operators::{
     Comparison, Connective, IntOp, Multiplicity, Quantity, RelationOp, TemporalBinary,

@@ -1,4 +1,4 @@
-// What names stand for.
+//! What names stand for.
 
 ghost use Rattle.std.specs.Prelude.{ℕ, List};
 ghost use Rattle.core_tree.specs.declared.model.Body.{Body};

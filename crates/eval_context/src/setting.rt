@@ -1,4 +1,4 @@
-// What formulas are judged in.
+//! What formulas are judged in.
 
 ghost use Rattle.std.specs.Prelude.{◌≡◌, ◌<◌, ◌≤◌, ◌+◌, ◌^◌, length, IfOk};
 ghost use Rattle.core_meaning.specs.Kept.{atom_count};

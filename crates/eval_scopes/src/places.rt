@@ -1,4 +1,4 @@
-// What a relation is at all positions together.
+//! What a relation is at all positions together.
 
 ghost use Rattle.std.specs.Prelude.{◌≡◌, ◌↔◌, ◌⊎◌, ℕ, List, false, IfOk, IsTrue};
 ghost use Rattle.core_tuples.specs.Sets.{In};

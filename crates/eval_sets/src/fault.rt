@@ -1,4 +1,4 @@
-// Why an evaluation gives no answer.
+//! Why an evaluation gives no answer.
 
 use std::alloc::AllocError;
 

@@ -1,4 +1,4 @@
-// The operators on sets.
+//! The operators on sets.
 
 ghost use Rattle.std.specs.Prelude.{◌≡◌, ◌∷◌, [], ℕ, IfOk};
 ghost use Rattle.core_tuples.specs.Sets.{In};

@@ -1,4 +1,4 @@
-// The walks along a relation.
+//! The walks along a relation.
 
 ghost use Rattle.std.specs.Prelude.{◌≡◌, IfOk};
 ghost use Rattle.core_tuples.specs.Sets.{In, HasJust};

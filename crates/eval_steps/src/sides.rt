@@ -1,4 +1,4 @@
-// The sides of arrows.
+//! The sides of arrows.
 
 ghost use Rattle.std.specs.Prelude.{◌≡◌, ◌≤◌, ℕ, List, length, IfOk, OnOk, IsTrue};
 ghost use Rattle.core_tree.specs.Trees.{term_of};

@@ -1,4 +1,4 @@
-// Steps of the walk over trees and positions.
+//! Steps of the walk over trees and positions.
 
 ghost use Rattle.std.specs.Prelude.{◌≡◌, ◌↔◌, ◌+◌, ◌-◌, ◌<◌, IfOk, IsTrue};
 ghost use Rattle.eval_steps.specs.Judged.{Says};

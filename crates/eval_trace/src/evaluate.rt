@@ -1,4 +1,4 @@
-// What is asked of a model on a lasso.
+//! What is asked of a model on a lasso.
 
 ghost use Rattle.std.specs.Prelude.{◌↔◌, IfOk, IsTrue};
 ghost use Rattle.core_tree.specs.Trees.{term_of, claim_of};

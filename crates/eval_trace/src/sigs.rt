@@ -1,4 +1,4 @@
-// Whether the declaration of a sig holds.
+//! Whether the declaration of a sig holds.
 
 ghost use Rattle.std.specs.Prelude.{◌≡◌, ◌↔◌, ℕ, List, IfOk, IsTrue, MatchOption};
 ghost use Rattle.core_tuples.specs.Sets.{In};

@@ -1,4 +1,4 @@
-// Bounds, and the multiplicities of their arrows.
+//! Bounds, and the multiplicities of their arrows.
 
 ghost use Rattle.std.specs.Prelude.{◌≡◌, ◌↔◌, List, length, ℕ, IfOk, IsTrue};
 ghost use Rattle.core_tree.specs.Trees.{term_of};

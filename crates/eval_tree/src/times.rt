@@ -1,4 +1,4 @@
-// Temporal operators.
+//! Temporal operators.
 
 ghost use Rattle.std.specs.Prelude.{◌↔◌, ◌+◌, IfOk, IsTrue};
 ghost use Rattle.core_tree.specs.Trees.{claim_of};

@@ -1,4 +1,4 @@
-// What the names of a formula stand for while it is written out.
+//! What the names of a formula stand for while it is written out.
 
 ghost use Rattle.core_tree.specs.declared.model.Body.{Body};
 ghost use Rattle.std.specs.Prelude.{List, ℕ};

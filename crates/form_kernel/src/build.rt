@@ -1,4 +1,4 @@
-// Formulas of the kernel made from others.
+//! Formulas of the kernel made from others.
 
 ghost use Rattle.std.specs.Prelude.{◌≡◌, IfOk};
 ghost use Rattle.core_tree.specs.declared.operators.Quantity.TheVariants.{Some as SomeOf, One as OneOf, Lone as LoneOf};

@@ -1,4 +1,4 @@
-// Derived operators over kernel formulas and expressions.
+//! Derived operators over kernel formulas and expressions.
 
 ghost use Rattle.std.specs.Prelude.{◌≡◌, IfOk, [], map};
 ghost use Rattle.core_tree.specs.Trees.{claim_of, term_of, variable_of, negation};

@@ -1,4 +1,4 @@
-// What the types of a model's bounds are made of.
+//! What the types of a model's bounds are made of.
 
 use base_lists::Items;
 use core_tree::{Column, Field, Model, Sig, SigKind};

@@ -1,4 +1,4 @@
-// Relation parameters made fields.
+//! Relation parameters made fields.
 
 ghost use Rattle.std.specs.Prelude.{◌≡◌, length, IfOk};
 

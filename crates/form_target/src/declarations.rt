@@ -1,4 +1,4 @@
-// All formulas of a model's declarations.
+//! All formulas of a model's declarations.
 
 ghost use Rattle.std.specs.Prelude.{◌≡◌, ◌↔◌, ◌+◌, ℕ, All, IfOk, OnOk};
 ghost use Rattle.core_tree.specs.Models.{IsModel};

@@ -1,4 +1,4 @@
-// The formulas that a lasso is to satisfy.
+//! The formulas that a lasso is to satisfy.
 
 ghost use Rattle.std.specs.Prelude.{◌≡◌, List, [], ◌∷◌, ◌++◌, map, All, IfOk};
 ghost use Rattle.core_tree.specs.declared.operators.TemporalUnary.TheVariants.{Always as AlwaysOf};

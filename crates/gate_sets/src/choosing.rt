@@ -1,4 +1,4 @@
-// Sets that depend on the value of a node.
+//! Sets that depend on the value of a node.
 
 ghost use Rattle.std.specs.Prelude.{◌≡◌, ◌&&◌, ℕ, Bool, List, IfOk, OnOk};
 ghost use Rattle.gate_trait.specs.Built.{Keeps};

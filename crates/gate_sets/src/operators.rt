@@ -1,4 +1,4 @@
-// Operators on sets.
+//! Operators on sets.
 
 ghost use Rattle.std.specs.Prelude.{◌≡◌, ◌≤◌, ◌+◌, ℕ, Bool, IfOk, OnOk, IsTrue};
 ghost use Rattle.gate_trait.specs.Built.{Keeps};

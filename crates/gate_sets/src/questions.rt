@@ -1,4 +1,4 @@
-// Tests of sets.
+//! Tests of sets.
 
 ghost use Rattle.std.specs.Prelude.{◌≡◌, ◌↔◌, ℕ, Bool, true, IfOk};
 ghost use Rattle.gate_trait.specs.Built.{Keeps};
