@@ -1,7 +1,7 @@
-//! The analysis of a model: from its texts to a trace, or to clauses that no lasso of the model satisfies with lines that
-//! refute them.
+//! The analysis of a model, from its texts to a trace or to clauses with their refutation.
 //!
-//! [`prepare`] loads and resolves a model and makes what a search needs; [`analyse`] searches.
+//! [`prepare`] loads and resolves a model and makes what a search needs; [`analyse`] searches. A
+//! law says what it means of the model that its target is ruled out (`laws`).
 #![tactic(auto)]
 
 mod answer;

@@ -1,4 +1,4 @@
-//! What is to be analysed.
+//! The settings of an analysis: the root, the command, and the budget of lemmas.
 
 use base_types::{Bytes, Name};
 

@@ -1,4 +1,4 @@
-//! Forms that models have, and that are plain.
+//! A law: what the declarations of some fields ask has a plain form.
 
 ghost use Rattle.std.specs.Prelude.{ℕ};
 ghost use Rattle.core_tree.specs.declared.operators.Multiplicity.{Multiplicity as MultiplicityWord};
