@@ -1,5 +1,4 @@
--- The kernel of the language: the forms that are left once calls, `let` and derived operators are
--- written out.
+-- The kernel of the language: what is left of calls, `let` and derived operators written out.
 use Rattle.core_tree.specs.declared.operators.Multiplicity.TheVariants.{Set}
 use Rattle.core_tree.specs.declared.operators.Quantity.{Quantity}
 use Rattle.core_tree.specs.declared.operators.Quantity.TheVariants.{Some, No, One, Lone}
