@@ -1,12 +1,9 @@
-//! Laws of the texts of traces: a text is that of one lasso, and what a definition of reading by lines makes of a text.
+//! Laws of the texts of traces: a text is that of one lasso, and reading gives that lasso.
 //!
-//! `answer_trace` defines the text of a lasso and how lines are read. The functions do nothing; a caller that
-//! needs a law calls it.
-//!
-//! A law: the labels of a model are labels under which there are lassos.
-//!
-//! `answer_trace` makes the labels of a model, and `answer_laws` says what holds of texts under labels that have lassos. The
-//! function does nothing; a caller that needs the law calls it.
+//! `answer_trace` defines the text of a lasso, how lines are read, and the labels of a model. The
+//! laws say that a text under some labels is of one lasso, which line reading names as the first
+//! fault, and that the labels of a model have lassos. Each stands in the clauses of an empty
+//! function; a caller that needs it calls it.
 #![tactic(auto)]
 
 ghost use Rattle.std.specs.Prelude.{◌≡◌, ◌++◌, ℕ, List, [], ◌∷◌, codes, decimal, Some, true};

@@ -1,10 +1,9 @@
-//! What the variables of a search's clauses stand for, as the rows that are printed before them.
+//! The printed texts of answers.
 //!
-//! The list of a module's commands.
-//!
-//! The printed texts of answers: clauses with the lines that belong to them, the summary of a ring, and the text of a ring.
-//!
-//! The printed texts of judgements on a trace, of a trace that is the shortest, and of facts that rule out every trace.
+//! They are the rows that say what the variables of clauses stand for (`rows`), the list of a
+//! module's commands (`lines`), clauses with the lines that belong to them (`clauses`), judgements
+//! on a trace (`judged`), a trace that is the shortest and facts that rule out every trace
+//! (`certified`), and a ring with its summary (`ring`, `summary`).
 #![tactic(auto)]
 
 mod rows;

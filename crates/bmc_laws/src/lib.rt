@@ -1,6 +1,5 @@
-//! When a set of clauses encodes a model and a command, and what its assignments then tell.
-//!
-//! Laws of tables of variables and of the lassos for which their values stand.
+//! When clauses encode a model and a command, and what their assignments tell of lassos.
+//! Each lasso within the bounds is one for which some values of the table's variables stand.
 #![tactic(auto)]
 
 ghost use Rattle.std.specs.Prelude.{◌≡◌, ℕ, ℤ, Bool, List};

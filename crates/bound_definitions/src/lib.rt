@@ -1,5 +1,6 @@
-//! The scopes of a command and the rules on them, as definitions (specs/), and the numbers that a
-//! command lists for the bitwidth, the states and all top-level sigs.
+//! The scopes of a command and the rules on them, as definitions (specs/).
+//! With them stand the numbers that a command lists for the bitwidth, the states and all top-level
+//! sigs, and the rules that give a sig its number (`known`).
 #![tactic(auto)]
 
 ghost use Rattle.std.specs.Prelude.{◌≡◌};

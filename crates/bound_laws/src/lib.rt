@@ -1,4 +1,4 @@
-//! A law: the lassos that satisfy a model and a command are among those that a search looks through.
+//! A law: the lassos that satisfy a model and a command are among those of the search.
 #![tactic(auto)]
 
 ghost use Rattle.bound_laws.specs.Satisfying.{SatisfyingAreCandidates};

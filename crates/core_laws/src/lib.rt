@@ -1,8 +1,8 @@
-//! Laws of the meaning of models.
+//! Laws of the meaning of models, each in the clauses of an empty function; a caller calls it.
 //!
-//! A law: what a lasso satisfies is told by the sequence of states that it shows.
-//!
-//! A law: where the declarations of a model hold, its fields lie in their upper bounds.
+//! They say that an expression has one number of tuples and stands for one integer, that what a
+//! lasso satisfies is told by the sequence of states that it shows, and that fields lie in their
+//! upper bounds where the declarations of a model hold.
 #![tactic(auto)]
 
 ghost use Rattle.std.specs.Prelude.{◌≡◌, ℕ, ℤ, List};

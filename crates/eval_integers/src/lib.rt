@@ -1,8 +1,6 @@
-//! Integers of a bitwidth, wrapped in two's complement: their bits, the five operators, and
-//! comparisons.
-//!
-//! Integers of a setting's bitwidth: what sets stand for in integer places, and the operators and
-//! comparisons on these, which give sets of one integer.
+//! Integers of a bitwidth, wrapped in two's complement, as the evaluator has them.
+//! They are their bits, the five operators and comparisons, and what sets stand for in integer
+//! places.
 #![tactic(auto)]
 
 pub mod numbers;

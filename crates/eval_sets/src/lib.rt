@@ -1,5 +1,6 @@
-//! Operators on sets of tuples, for sets of any columns. A set that is empty fits every operator;
-//! where an operator would give tuples that no set holds, the answer is the fault `Unfit`.
+//! Operators on sets of tuples, for sets of any columns.
+//! A set that is empty fits every operator; where an operator would give tuples that no set holds,
+//! the answer is the fault `Unfit`.
 #![tactic(auto)]
 
 pub mod fault;

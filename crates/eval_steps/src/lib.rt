@@ -1,5 +1,6 @@
-//! What a walk over expressions and formulas is made of: what they are judged by, sets that were
-//! found, choices of atoms, steps over trees and positions, and sides of arrows.
+//! What a walk over expressions and formulas is made of.
+//! That is what they are judged by, sets that were found, choices of atoms, steps over trees and
+//! positions, and sides of arrows.
 #![tactic(auto)]
 
 pub mod earlier;

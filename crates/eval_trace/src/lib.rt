@@ -1,5 +1,6 @@
-//! What a model says of a lasso, judged by its meaning alone: the truth of a formula, the tuples of
-//! an expression, the first position at which a declaration fails, and whether scopes are kept.
+//! What a model says of a lasso, judged by its meaning alone.
+//! That is the truth of a formula, the tuples of an expression, the first position at which a
+//! declaration fails, and whether scopes are kept.
 #![tactic(auto)]
 
 pub mod declarations;

@@ -1,5 +1,5 @@
-//! Operators of the language on sets and integers, as circuits: one operator at one position, from
-//! its operands.
+//! Operators of the language on sets and integers, as circuits.
+//! Each is one operator at one position, from its operands.
 #![tactic(auto)]
 
 pub mod combined;

@@ -1,5 +1,6 @@
-//! Circuits of sets: relations over their variables, and each operator and test on matrices. Where the
-//! operands don't fit, the answer is the error of memory: so each answer that there is is exact.
+//! Circuits of sets: relations over their variables, and each operator and test on matrices.
+//! Where the operands don't fit, the answer is the error of memory: so each answer that there is
+//! is exact.
 #![tactic(auto)]
 
 pub mod choosing;

@@ -2,7 +2,7 @@ use Rattle.std.proofs.Common.{◌≡◌, ◌<◌, ℕ, suc, Bool, length}
 use Rattle.gate_trait.specs.Built.{Keeps, AllIn}
 use Rattle.gate_temporal.specs.Rows.{row_value}
 use Rattle.gate_temporal.specs.Times.{since_to}
-use Rattle.gate_temporal.proofs.forward.since.Given as goal
+use Rattle.gate_temporal.proofs.past.since.Given as goal
 
 -- the places so far, and the value that the next place looks back to
 abbrev pub invariant-loop-place : goal.invariant-loop-place

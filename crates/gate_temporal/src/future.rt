@@ -1,4 +1,4 @@
-//! The operators that look ahead.
+//! The operator `until`, which looks ahead: two passes from the last place to the first.
 
 ghost use Rattle.std.specs.Prelude.{◌≡◌, ◌<◌, ◌-◌, ◌↔◌, ℕ, Bool, length, IfOk, IsTrue, All, Contains};
 ghost use Rattle.gate_trait.specs.Built.{Keeps, AllIn};

@@ -1,7 +1,7 @@
 use Rattle.std.proofs.Common.{◌≡◌, ◌<◌, ℕ, Bool, length, ◌-◌, ◌≤◌, All, Contains}
 use Rattle.gate_temporal.specs.Rows.{row_value}
 use Rattle.gate_trait.specs.declared.node.Node.{Node}
-use Rattle.gate_temporal.proofs.backward.reversed.Given as goal
+use Rattle.gate_temporal.proofs.future.reversed.Given as goal
 
 -- the last nodes so far
 abbrev pub invariant-loop-rest : goal.invariant-loop-rest

@@ -3,7 +3,7 @@ use Rattle.gate_temporal.specs.Rows.{row_value}
 use Rattle.gate_temporal.specs.Times.{until_to}
 use Rattle.gate_temporal.proofs.Kept.{keeps_trans, values_more, there_more, long_more, here_value}
 use Rattle.gate_temporal.proofs.TimeLaws.{until_step, until_index}
-use Rattle.gate_temporal.proofs.backward.backward.Goals as goal
+use Rattle.gate_temporal.proofs.future.backward.Goals as goal
 
 pub loop-place-preserved : goal.loop-place-preserved
 loop-place-preserved g c =

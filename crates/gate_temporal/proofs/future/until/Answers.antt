@@ -5,7 +5,7 @@ use Rattle.gate_trait.specs.Built.{AllIn}
 use Rattle.gate_temporal.specs.Times.{until_to}
 use Rattle.gate_temporal.proofs.Kept.{row_kept, value_get, all_from, if_ok_to}
 use Rattle.gate_temporal.proofs.TimeLaws.{until_passes, until_both}
-use Rattle.gate_temporal.proofs.backward.until.Goals as goal
+use Rattle.gate_temporal.proofs.future.until.Goals as goal
 
 pub returns-clause-belongs : goal.returns-clause-belongs
 returns-clause-belongs g c =

@@ -2,7 +2,7 @@ use Rattle.std.proofs.Common.{◌≡◌, ◌<◌, ℕ, Bool, length, ◌+◌, �
 use Rattle.gate_trait.specs.Built.{Keeps, AllIn}
 use Rattle.gate_temporal.specs.Rows.{row_value}
 use Rattle.gate_temporal.specs.Times.{until_to}
-use Rattle.gate_temporal.proofs.backward.backward.Given as goal
+use Rattle.gate_temporal.proofs.future.backward.Given as goal
 
 -- the places from here to the end, the last first
 abbrev pub invariant-loop-place : goal.invariant-loop-place

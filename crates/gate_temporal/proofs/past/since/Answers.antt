@@ -3,7 +3,7 @@ use Rattle.gate_temporal.specs.Rows.{row_value}
 use Rattle.gate_temporal.specs.Times.{since_to}
 use Rattle.gate_temporal.proofs.Kept.{keeps_trans, values_more, there_more, long_more, here_value}
 use Rattle.gate_temporal.proofs.TimeLaws.{since_step, since_law, true_same}
-use Rattle.gate_temporal.proofs.forward.since.Goals as goal
+use Rattle.gate_temporal.proofs.past.since.Goals as goal
 
 pub loop-place-preserved : goal.loop-place-preserved
 loop-place-preserved g c =

@@ -2,7 +2,7 @@ use Rattle.std.proofs.Common.{◌≡◌, ◌<◌, ◌+◌, ◌-◌, ℕ, List, l
 use Rattle.gate_trait.specs.declared.node.Node.{Node}
 use Rattle.gate_temporal.specs.Rows.{row_value}
 use Rattle.gate_temporal.proofs.Kept.{value_get, values_push, long_more, contains_get, all_push}
-use Rattle.gate_temporal.proofs.backward.reversed.Goals as goal
+use Rattle.gate_temporal.proofs.future.reversed.Goals as goal
 
 pub loop-rest-preserved : goal.loop-rest-preserved
 loop-rest-preserved c =

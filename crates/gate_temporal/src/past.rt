@@ -1,4 +1,4 @@
-//! The operators that look back.
+//! The operator `since`, which looks back: one pass from the first place to the last.
 
 ghost use Rattle.std.specs.Prelude.{◌≡◌, ◌<◌, ◌↔◌, ℕ, Bool, length, IfOk, IsTrue};
 ghost use Rattle.gate_trait.specs.Built.{Keeps, AllIn};
