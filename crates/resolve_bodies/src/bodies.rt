@@ -1,4 +1,4 @@
-// The predicates and functions of a model.
+//! The predicates and functions of a model.
 
 use crate::Edge;
 use crate::head::{Head, head_of};

@@ -1,4 +1,4 @@
-// Calls on a cycle of calls.
+//! Calls on a cycle of calls.
 
 ghost use Rattle.std.specs.Prelude.{◌<◌, length, IfOk, IfSome};
 

@@ -1,4 +1,4 @@
-// A call in a body.
+//! A call in a body.
 
 use base_types::Place;
 use std::alloc::{AllocError, Global};

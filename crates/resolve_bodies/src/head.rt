@@ -1,4 +1,4 @@
-// The parameters of a body and its result bound.
+//! The parameters of a body and its result bound.
 
 use base_lists::Items;
 use base_types::Name;

@@ -1,4 +1,4 @@
-// What stands in the braces of a body.
+//! What stands in the braces of a body.
 
 use crate::head::Head;
 use core_tree::{Expr, Formula};

@@ -1,4 +1,4 @@
-// In what order no body calls a later one.
+//! In what order no body calls a later one.
 
 ghost use Rattle.std.specs.Prelude.{◌≡◌, ◌<◌, length, All, IsTrue, IfOk, IfSome};
 ghost use Rattle.resolve_bodies.specs.Falls.{DoesFall, AreFalling, IsOrder};

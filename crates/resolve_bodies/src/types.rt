@@ -1,4 +1,4 @@
-// The types of bodies.
+//! The types of bodies.
 
 use crate::head::{Head, head_of};
 use resolve_expr::known::{Known, Signature};

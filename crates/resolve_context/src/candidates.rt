@@ -1,4 +1,4 @@
-// The candidates of a name.
+//! The candidates of a name.
 
 use crate::faults::Broken;
 use crate::known::{Known, is_integer, literal_number, sig_type};

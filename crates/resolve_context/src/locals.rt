@@ -1,4 +1,4 @@
-// Variables, parameters and `let` names.
+//! Variables, parameters and `let` names.
 
 use base_types::Name;
 use resolve_types::Columns;

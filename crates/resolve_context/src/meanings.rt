@@ -1,4 +1,4 @@
-// Types of one column, and what names and constants mean.
+//! Types of one column, and what names and constants mean.
 
 use base_lists::Items;
 use resolve_readings::{Meaning, What};

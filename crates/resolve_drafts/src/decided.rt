@@ -1,4 +1,4 @@
-// The reading of a root, and its tree.
+//! The reading of a root, and its tree.
 
 ghost use Rattle.std.specs.Prelude.{◌≡◌, IfOk};
 ghost use Rattle.resolve_readings.specs.Readings.{Decides, IsWithin, count_choices};

@@ -1,4 +1,4 @@
-// The part by which a draft's readings are judged.
+//! The part by which a draft's readings are judged.
 
 use crate::draft::{Candidate, Draft};
 use base_lists::Items;

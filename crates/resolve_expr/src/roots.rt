@@ -1,4 +1,4 @@
-// A root with its reading.
+//! A root with its reading.
 
 use base_types::Place;
 use core_tree::{Expr, Formula};

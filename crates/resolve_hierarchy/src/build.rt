@@ -1,4 +1,4 @@
-// The hierarchy of all sigs.
+//! The hierarchy of all sigs.
 
 ghost use Rattle.std.specs.Prelude.{length, IfErr};
 ghost use Rattle.resolve_hierarchy.specs.Refused.{IsFault};

@@ -1,5 +1,5 @@
-// The lines and members of sigs that are their own ancestors, or have such an ancestor: the first
-// refusal may be that of fields in such sigs.
+//! The lines and members of sigs that are their own ancestors, or have such an ancestor: the first
+//! refusal may be that of fields in such sigs.
 
 use crate::parents::{Above, Parent};
 use crate::search::{Search, add_parents, search_from};

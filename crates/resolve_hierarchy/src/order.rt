@@ -1,5 +1,5 @@
-// An order of the sigs in which each stands behind its parents, and sigs that are their own
-// ancestors.
+//! An order of the sigs in which each stands behind its parents, and sigs that are their own
+//! ancestors.
 
 use crate::faults::{Broken, Noted, note};
 use crate::parents::{Above, Parent};

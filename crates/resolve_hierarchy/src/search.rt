@@ -1,4 +1,4 @@
-// Searches that go from sigs to their parents.
+//! Searches that go from sigs to their parents.
 
 use crate::parents::Parent;
 use resolve_types::Member;

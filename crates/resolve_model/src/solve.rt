@@ -1,4 +1,4 @@
-// The model of all loaded texts.
+//! The model of all loaded texts.
 
 ghost use Rattle.std.specs.Prelude.{length, IfOk, IfErr};
 ghost use Rattle.resolve_check.specs.Kept.{IsModelButTypes};

@@ -1,4 +1,4 @@
-// An expression that is read as a value in the root.
+//! An expression that is read as a value in the root.
 
 ghost use Rattle.std.specs.Prelude.{IfOk, IfErr};
 ghost use Rattle.core_tree.specs.Trees.{term_of};

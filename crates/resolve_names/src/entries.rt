@@ -1,4 +1,4 @@
-// What a text declares, with a number for each sig, field and body.
+//! What a text declares, with a number for each sig, field and body.
 
 use crate::table::{BodyEntry, Decl, Declared, FieldEntry, SigEntry};
 use base_lists::Items;

@@ -1,4 +1,4 @@
-// The opens of an instance.
+//! The opens of an instance.
 
 ghost use Rattle.std.specs.Prelude.{◌<◌, All, IfOk, OnOk};
 

@@ -1,4 +1,4 @@
-// The declarations that a name stands for.
+//! The declarations that a name stands for.
 
 ghost use Rattle.std.specs.Prelude.{◌≡◌, [], ◌++◌, ◌<◌, ◌==◌, length, slice_get, IfOk, OnOk};
 ghost use Rattle.std.specs.List.{filter_map, cons_option};

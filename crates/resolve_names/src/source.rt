@@ -1,4 +1,4 @@
-// The source of what is declared.
+//! The source of what is declared.
 
 ghost use Rattle.std.specs.Prelude.{◌<◌, length, IfSome};
 

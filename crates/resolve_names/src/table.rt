@@ -1,4 +1,4 @@
-// The names of all instances.
+//! The names of all instances.
 
 ghost use Rattle.resolve_names.specs.Marks.{IsLinked};
 

@@ -1,4 +1,4 @@
-// Names that a module declares twice.
+//! Names that a module declares twice.
 
 ghost use Rattle.std.specs.Prelude.{◌≡◌, ◌<◌, IfOk, IfSome, length};
 ghost use Rattle.resolve_names.specs.Refused.{IsTwice};

@@ -1,4 +1,4 @@
-// The formulas that commands ask.
+//! The formulas that commands ask.
 
 use core_tree::{Assert, Body, Expr, Formula, Parameter, Quantity, Variable};
 use std::alloc::{AllocError, Global};

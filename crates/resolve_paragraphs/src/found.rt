@@ -1,4 +1,4 @@
-// What the name of a command stands for.
+//! What the name of a command stands for.
 
 use crate::words::last_text;
 use core_tree::Assert;

@@ -1,4 +1,4 @@
-// What the parts of a model are made from.
+//! What the parts of a model are made from.
 
 use crate::always_true;
 use core_tree::Formula;

@@ -1,4 +1,4 @@
-// The names of commands.
+//! The names of commands.
 
 use base_types::{Name, Place};
 use std::alloc::{AllocError, Global};

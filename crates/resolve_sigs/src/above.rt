@@ -1,4 +1,4 @@
-// The ancestors of a sig.
+//! The ancestors of a sig.
 
 use resolve_hierarchy::{Hierarchy, Kind};
 use resolve_types::Member;

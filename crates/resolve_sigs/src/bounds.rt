@@ -1,4 +1,4 @@
-// The bound of a field by its reading.
+//! The bound of a field by its reading.
 
 use crate::above_of;
 use resolve_expr::expression::prepare;

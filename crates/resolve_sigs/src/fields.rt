@@ -1,4 +1,4 @@
-// What the paragraphs say of fields.
+//! What the paragraphs say of fields.
 
 use crate::labels::{joined, sig_label};
 use base_types::Name;

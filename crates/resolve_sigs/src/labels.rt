@@ -1,4 +1,4 @@
-// The labels of sigs.
+//! The labels of sigs.
 
 use base_types::Name;
 use resolve_names::{SigEntry, paragraph_at};

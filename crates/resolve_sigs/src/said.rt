@@ -1,4 +1,4 @@
-// What a sig's paragraph says of it.
+//! What a sig's paragraph says of it.
 
 use base_types::Place;
 use core_tree::{Multiplicity, Origin};

@@ -1,4 +1,4 @@
-// The bounds of all fields.
+//! The bounds of all fields.
 
 use crate::bounds::{field_bound, field_type};
 use crate::field_group;

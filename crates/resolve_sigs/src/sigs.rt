@@ -1,4 +1,4 @@
-// The sigs of the model.
+//! The sigs of the model.
 
 use crate::exact::all_exact;
 use crate::labels::{joined, sig_label};

@@ -1,4 +1,4 @@
-// The types of bounds.
+//! The types of bounds.
 
 use crate::Columns;
 use crate::ground::{Ground, int_type, no_columns, nothing, static_sig};

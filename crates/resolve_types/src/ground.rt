@@ -1,4 +1,4 @@
-// What types are made of.
+//! What types are made of.
 
 use crate::{Columns, Member};
 use base_lists::Items;

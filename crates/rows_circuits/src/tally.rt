@@ -1,4 +1,4 @@
-// How many results are right.
+//! How many results are right.
 
 use std::alloc::AllocError;
 

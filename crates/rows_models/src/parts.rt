@@ -1,4 +1,4 @@
-// The parts of an answer that has clauses and a proof.
+//! The parts of an answer that has clauses and a proof.
 use std::alloc::{AllocError, Global};
 
 /// The clauses and the proof of an answer.

@@ -1,4 +1,4 @@
-// A row of a table.
+//! A row of a table.
 use anyhow::{Context, Result, bail};
 use std::alloc::Global;
 
