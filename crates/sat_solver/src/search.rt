@@ -1,3 +1,5 @@
+//! The calls of the search: they take turns until the clauses are refuted, satisfied, or too hard.
+
 ghost use Rattle.std.specs.Prelude.{◌≡◌, ℕ, ℤ, List, Option, IfOk, IsTrue};
 ghost use Rattle.sat_dimacs.specs.Literal.{IsSolution};
 ghost use Rattle.sat_lrat.specs.Outcome.{Answers};

@@ -1,3 +1,5 @@
+//! The arena holds the literals of all clauses in one array, and no clause has memory of its own.
+
 ghost use Rattle.std.specs.Prelude.{◌≡◌, ℕ, ◌+◌, ◌<◌, ◌≤◌, ◌++◌, ◌∷◌, [], length, slice_index, vec_len, vec_capacity, OnOk};
 ghost use Rattle.std.specs.List.{All};
 ghost use Rattle.sat_trail.specs.Literal.{IsLiteral};

@@ -1,3 +1,8 @@
+//! The partial assignment: the true literals in their order, with the level and reason of each.
+//!
+//! The order is that in which they became true, which makes the list a trail: what is taken back
+//! is its end. The level and the reason of a variable are kept until it is assigned again.
+
 ghost use Rattle.std.specs.Prelude.{◌≡◌, ℕ, neg_ℤ, unsigned_abs, ◌+◌, ◌-◌, ◌<◌, ◌≤◌, ◌^◌, ◌↔◌, ◌++◌, ◌∷◌, [], ℤ, pos, length, take, replicate, slice_get, slice_set, slice_index, Some, IsTrue, IfOk};
 ghost use Rattle.std.specs.List.{All, Contains};
 ghost use Rattle.sat_trail.specs.Literal.{IsLiteral};
