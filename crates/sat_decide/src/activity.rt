@@ -15,7 +15,7 @@
 //! The variables wait in a binary heap by weight. Search undoes decisions without telling the
 //! chooser. So a variable that comes out assigned is set aside, and at a pick the chooser looks
 //! which of its picks are still true: what was set aside behind the first that isn't may be free,
-//! and waits again (`picks`). That takes no time for each variable that is assigned or undone.
+//! and waits again (`picks`).
 //!
 //! The sign is the one that the variable had when the chooser last saw it assigned, at a bump or
 //! out of the heap (phase saving); at first it is false.

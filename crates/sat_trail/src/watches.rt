@@ -17,10 +17,10 @@
 //! Sörensson 2003.) One list more, behind those of the literals, has the nodes of the clauses that
 //! watch nothing.
 //!
-//! A walk. When a literal becomes false, its list is detached: it is `loose` then, and the list
-//! itself is empty. Each loose node in turn is settled: it goes to the list of the literal that it
-//! watches now, which may be the old one. A false clause ends the walk; its node and those behind
-//! it are put back.
+//! A walk. When a false literal's turn comes, its list is detached: it is `loose` then, and the
+//! list itself is empty. Each loose node in turn is settled: it goes to the list of the literal
+//! that it watches now, which may be the old one. A false clause ends the walk; its node and those
+//! behind it are put back.
 //!
 //! Why linked lists in flat arrays. A node is a number, and one array has the next node of each.
 //! So to settle a node changes three numbers, whatever the lengths of the lists, and takes no
