@@ -1,4 +1,5 @@
 //! Truth values of variables.
+
 ghost use Rattle.std.specs.Prelude.{◌≡◌, ◌-◌, ◌<◌, ◌≤◌, length, IfOk, slice_index_or, false};
 
 use std::alloc::{AllocError, Global};

@@ -1,4 +1,5 @@
 //! What the text of the root model comes to.
+
 ghost use Rattle.std.specs.Prelude.{◌≤◌, length};
 ghost use Rattle.syntax_tree.specs.Instances.{literals_of};
 

@@ -1,4 +1,5 @@
 //! A text that is refused, and a library that failed.
+
 ghost use Rattle.std.specs.Prelude.{◌≡◌, IfOk};
 ghost use Rattle.cli_run.specs.Files.{at_start};
 

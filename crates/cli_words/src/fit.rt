@@ -1,4 +1,5 @@
 //! Whether settings fit their mode.
+
 ghost use Rattle.std.specs.Prelude.{◌≡◌};
 ghost use Rattle.cli_words.specs.Settings.{fits, has_input, has_second, is_ring_size};
 

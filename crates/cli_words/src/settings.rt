@@ -1,4 +1,5 @@
 //! The settings that the words give.
+
 ghost use Rattle.std.specs.Prelude.{◌≡◌, IfOk, map, option_map, string_bytes};
 ghost use Rattle.cli_words.specs.Given.{lent, GivesTexts, IsGiven};
 ghost use Rattle.cli_words.specs.Settings.{choices_in, settings_in, settings_of};

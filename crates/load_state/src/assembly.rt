@@ -1,4 +1,5 @@
 //! A model is put together.
+
 ghost use Rattle.std.specs.Prelude.{◌≡◌, IfOk, map};
 ghost use Rattle.syntax_tree.specs.Instances.{sig_count};
 ghost use Rattle.load_state.specs.Keys.{pair_of, pairs_of, texts_of};

@@ -1,4 +1,5 @@
 //! Why a model could not be loaded.
+
 use base_types::{Name, Refusal};
 use std::alloc::{AllocError, AllocFailed};
 

@@ -1,4 +1,5 @@
 //! The labels of instances.
+
 use crate::loading::Key;
 use base_types::Name;
 use std::alloc::{AllocError, Global};

@@ -1,4 +1,5 @@
 //! The names under which the text of a path is sought.
+
 ghost use Rattle.std.specs.Prelude.{◌≡◌, ◌++◌, IfOk, OnOk, string_bytes};
 ghost use Rattle.load_state.specs.Names.{folder_of, slashed, path_bytes, file_name, last_part};
 

@@ -1,4 +1,5 @@
 //! One call of the analyser.
+
 use crate::row::{Held, Origin, Row};
 use anyhow::Result;
 use base_library::EmbeddedLibrary;

@@ -1,4 +1,5 @@
 //! A row of a table.
+
 use anyhow::{Context, Result, bail};
 use std::alloc::Global;
 

@@ -1,4 +1,5 @@
 //! Libraries of a few files.
+
 use base_types::MemoryLibrary;
 use std::alloc::{AllocError, Global};
 
