@@ -1,4 +1,4 @@
-//! The settings that are chosen by names and numbers.
+//! Some settings are chosen by names and numbers, each of them from a few.
 
 ghost use Rattle.std.specs.Prelude.{◌≡◌};
 ghost use Rattle.std.specs.Prelude.{option_and_then};

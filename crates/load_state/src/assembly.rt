@@ -1,4 +1,4 @@
-//! A model is put together.
+//! A model is put together from its texts, its instances and their opens.
 
 ghost use Rattle.std.specs.Prelude.{◌≡◌, IfOk, map};
 ghost use Rattle.syntax_tree.specs.Instances.{sig_count};

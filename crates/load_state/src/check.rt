@@ -1,4 +1,4 @@
-//! Which numbers of a model are in range.
+//! Tests that all numbers of a loaded model are in range.
 
 ghost use Rattle.std.specs.Prelude.{◌≡◌, nat_lt, false, List, map};
 ghost use Rattle.std.specs.List.{list_all};

@@ -1,4 +1,4 @@
-//! What has been loaded so far.
+//! What has been loaded so far: answers for names, texts, instances and their opens.
 
 ghost use Rattle.std.specs.Prelude.{◌≡◌, ◌++◌, [], ◌∷◌, OnOk, IfOk, MatchOption, slice_get, Some};
 ghost use Rattle.std.specs.Bool.{Decides};
