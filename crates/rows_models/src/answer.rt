@@ -1,4 +1,4 @@
-//! One call of the analyser.
+//! Runs the analyser once, as a row says.
 
 use crate::row::{Held, Origin, Row};
 use anyhow::Result;

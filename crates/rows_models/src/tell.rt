@@ -1,4 +1,4 @@
-//! Printing what the analyser answers to a row.
+//! Prints what the analyser answers to a row.
 
 use crate::answer::{answer_to, shelf_of};
 use crate::parts::cut;
