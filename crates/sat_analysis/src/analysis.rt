@@ -12,7 +12,7 @@
 //! below were propagated to their ends, at the latest the decision itself. The graph is cut just
 //! behind it: the conflict side was resolved away, and the learnt clause has the negations of the
 //! literals of the reason side with an edge into the other: that of the UIP, and the met ones of
-//! lower levels. (Learning with reasons on the trail: Eén and Sörensson 2003.)
+//! lower levels. (Implication graphs and their UIPs: GRASP, Marques-Silva and Sakallah 1999.)
 //!
 //! The met literals below the last level are then parted into those that stay and those that
 //! others force (`minimise`). The UIP's negation is the clause's one literal of the last level. So

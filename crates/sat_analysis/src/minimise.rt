@@ -12,10 +12,10 @@
 //! that stays noted: later tries may end there, and its reasons are among the hints. A failure
 //! isn't remembered.
 //!
-//! A try fails at a literal that has no reason, since it is a decision. It also fails, before any
-//! reason is read, at a literal of a level from which no literal was met: to remove such a literal
-//! one comes to that level's decision. Levels are compared by their rests at 64, as bits of one
-//! number, so a few hopeless tries aren't seen at once; they fail later.
+//! A try fails at a literal that has no reason, since it is a decision. It also fails, before the
+//! reason of that literal is read, at one of a level from which no literal was met: to remove it
+//! one would come to that level's decision in the end. Levels are compared by their rests at 64,
+//! as bits of one number, so a few hopeless tries aren't seen at once; they fail later.
 //!
 //! Literals of level 0 are always redundant. They leave by the same way, down to the clauses that
 //! force them, since the hints have to name these.

@@ -1,4 +1,4 @@
-//! The calls of the search: they take turns until the clauses are refuted, satisfied, or too hard.
+//! The search takes turns until clauses are refuted or satisfied, or the budget is spent.
 
 ghost use Rattle.std.specs.Prelude.{◌≡◌, ℕ, ℤ, List, Option, IfOk, IsTrue};
 ghost use Rattle.sat_dimacs.specs.Literal.{IsSolution};

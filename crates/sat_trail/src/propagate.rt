@@ -21,9 +21,9 @@
 //! every such clause is true or has two different free literals.
 //!
 //! Short clauses have no two different literals: the empty clause, and those of one literal, which
-//! may stand in them several times. They can't watch two literals, and are taken first, each once,
-//! in the order in which they came: the empty one is a conflict, and any other is true, false, or
-//! unit.
+//! may stand in them several times. They can't watch two literals, and are taken first, in the
+//! order in which they came, and again where what made them true was taken back. The empty clause
+//! is a conflict, and any other is true, false, or unit.
 
 ghost use Rattle.std.specs.Prelude.{◌≡◌, ℕ, ℤ, neg_ℤ, ◌+◌, ◌-◌, ◌*◌, ◌<◌, ◌≤◌, ◌++◌, [], List, length, slice_index, IfNone, IfSome, IsTrue, IsFalse};
 ghost use Rattle.std.specs.List.{Contains};
