@@ -56,10 +56,15 @@ fn note_sign(signs: &mut [bool], variable: usize, is_true: bool) {
 #[derive(Drop)]
 pub struct Activity {
     alloc: Global,
+    /// The variables that wait, by weight.
     heap: WeightHeap,
+    /// The sign of each variable when it was last seen assigned: true for a positive literal.
     signs: Vec<bool>,
+    /// The decisions that may still be true.
     picks: Picks,
+    /// What a bump adds at present.
     step: u64,
+    /// Whether there was a bump or a decay since the last pick.
     has_conflict: bool,
 }
 

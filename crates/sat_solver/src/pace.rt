@@ -54,14 +54,23 @@ const EAGER_TIMES: u64 = 4;
 #[derive(Clone, Copy, Debug, Drop)]
 pub(crate) struct Pace {
     is_steady: bool,
+    /// How many conflicts the present phase has if it is steady; an eager one has four times that.
     phase: u64,
+    /// How many conflicts the present phase has left.
     phase_left: u64,
+    /// The fast moving average of the levels of learnt clauses, times `SCALE`.
     short_average: u64,
+    /// The slow one.
     long_average: u64,
+    /// How many learnt clauses were counted.
     count: u64,
+    /// How many conflicts an eager phase waits at least until it restarts.
     to_restart: u64,
+    /// How many conflicts a steady phase waits until it restarts.
     left: u64,
+    /// With `span`, the two numbers of reluctant doubling.
     turn: u64,
+    /// The present number of Luby's series.
     span: u64,
 }
 

@@ -11,8 +11,11 @@ use std::alloc::{AllocError, Global};
 /// The literals of all clauses, one clause after another, and where each clause ends.
 #[derive(Drop)]
 pub struct Arena {
+    /// The literals of all clauses.
     pub literals: Vec<i64>,
+    /// The place behind the last literal of each clause.
     pub ends: Vec<usize>,
+    /// How many variables there are.
     pub variables: usize,
     ghost in_order: { IsArena literals.items ends.items variables },
 }

@@ -42,11 +42,17 @@ fn are_same(a: i8, b: i8) -> bool
 /// The true literals in the order in which they were put, with the value, the place and the reason of each variable.
 #[derive(Drop)]
 pub struct Assigned {
+    /// The value of each variable: 1 true, -1 false, 0 free.
     values: Vec<i8>,
+    /// Where each variable that has a value stands on the trail.
     places: Vec<usize>,
+    /// The decision level of each variable, as it was last given one.
     levels: Vec<u64>,
+    /// The clause that forced each variable when it was last assigned, from 1 on; 0 of a decision.
     reasons: Vec<u64>,
+    /// The true literals in their order, at the first `len` places.
     trail: Vec<i64>,
+    /// How many literals are true.
     len: usize,
 }
 

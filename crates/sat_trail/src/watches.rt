@@ -42,9 +42,11 @@ use sat_lists::NodeLists;
 /// The places of the two watched literals of each clause, and the lists of the nodes that watch each literal.
 #[derive(Drop)]
 pub struct Watches {
+    /// At which place of the arena the literal stands that each node watches.
     pub at: Vec<usize>,
     /// The literal that each node watches, so that a visit mostly reads no clause.
     pub copies: Vec<i64>,
+    /// The nodes that watch each literal.
     pub lists: NodeLists,
 }
 
