@@ -12,7 +12,7 @@
 //! the step or a weight passes 2^58, all are shifted down by 30 bits. That keeps the order, but
 //! may make equal what was different, such as small old weights.
 //!
-//! The variables wait in a binary heap by weight. Search undoes decisions without telling the
+//! The variables wait in a binary heap by weight. A search undoes decisions without telling the
 //! chooser. So a variable that comes out assigned is set aside, and at a pick the chooser looks
 //! which of its picks are still true: what was set aside behind the first that isn't may be free,
 //! and waits again (`picks`).
@@ -20,8 +20,8 @@
 //! The sign is the one that the variable had when the chooser last saw it assigned, at a bump or
 //! out of the heap (phase saving); at first it is false.
 //!
-//! Not proved: that the picked variable has the greatest weight. The search depends on none of
-//! this.
+//! Not proved: that the picked variable has the greatest weight. A search is right whatever is
+//! picked.
 
 use crate::chooser::Chooser;
 use crate::heap::WeightHeap;
