@@ -1,7 +1,7 @@
 //! Lines of a text, the words of a line, and the numbers that words spell.
 //!
-//! The DIMACS and LRAT formats are made of these: a line ends with a line feed, and words are separated by
-//! tabs, carriage returns and blanks.
+//! The DIMACS and LRAT formats are made of these: a line ends with a line feed, and words are
+//! separated by tabs, carriage returns and blanks.
 #![tactic(auto)]
 
 ghost use Rattle.std.specs.Prelude.{◌≡◌, nat_abs, ◌<◌, ◌≤◌, ◌^◌, ℕ, [], ◌∷◌, not, length, drop, ◌+◌, IfSome, IfNone, Option, option_map, option_copied, if◌then◌else◌};

@@ -1,7 +1,7 @@
-//! Solves the clauses of a DIMACS text: `bench_dimacs FILE`. It is there to measure the search.
+//! Solves the clauses of a DIMACS text, to measure the search: `bench_dimacs FILE`.
 //!
-//! It prints `s SATISFIABLE` or `s UNSATISFIABLE`, with the number of lemmas, and ends with 10 or 20. A file that isn't
-//! read is answered with 3, other words with 2.
+//! It prints `s SATISFIABLE` or `s UNSATISFIABLE`, with the number of lemmas, and ends with 10 or
+//! 20. A file that isn't read is answered with 3, other words with 2.
 #![tactic(auto)]
 
 use anyhow::Result;

@@ -1,9 +1,10 @@
-//! Measures the stages of one analysis: `bench_stages sizes MODEL COMMAND` and `bench_stages times MODEL COMMAND`.
+//! Measures the stages of one analysis: its sizes, or the times of its stages.
 //!
-//! The first prints the numbers of gates, variables, clauses and lemmas, and the answer. The second prints the processor
-//! time of each stage in milliseconds: of loading, of names, scopes, forms and bounds, of the circuit, of the clauses, and of
-//! the search. What the model opens is read from files, those of util/ too. Other words are answered with status 2, a model that is
-//! refused with 3.
+//! `bench_stages sizes MODEL COMMAND` prints the numbers of gates, variables, clauses and lemmas,
+//! and the answer. `bench_stages times MODEL COMMAND` prints the processor time of each stage in
+//! milliseconds: of loading, of names, scopes, forms and bounds, of the circuit, of the clauses,
+//! and of the search. What the model opens is read from files, those of util/ too. Other words are
+//! answered with status 2, a model that is refused with 3.
 #![tactic(auto)]
 
 use answer_analysis::prepare_loaded;

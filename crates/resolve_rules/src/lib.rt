@@ -1,5 +1,7 @@
-//! The rules on readings and on calls, as definitions (specs/), and which of them what was decided of
-//! a root breaks.
+//! The rules on readings and on calls, as definitions, and which of them a root breaks.
+//!
+//! The definitions are in specs/. The function says which rule is broken by what was decided of a
+//! root.
 #![tactic(auto)]
 
 ghost use Rattle.std.specs.Prelude.{◌≡◌, IfSome};

@@ -1,7 +1,8 @@
-//! Says of each text that is named what the lexer and the parsers make of it: `rows_parser NAME..`.
+//! Says of each text that is named what the parsers make of it: `rows_parser NAME..`.
 //!
-//! A name is that of a text that the answer_analysis brings along, or else of a file. A text that has a tree gives its name and
-//! `spelled`, where the tree spells its tokens again. Another text gives the rule that it breaks, its name and the place.
+//! A name is that of a text that the analyser brings along, or else of a file. A text that has a
+//! tree gives its name and `spelled`, where the tree spells its tokens again. Another text gives
+//! the rule that it breaks, its name and the place.
 #![tactic(auto)]
 
 mod same;

@@ -1,13 +1,8 @@
-//! Laws of the LRAT format: what is printed is read again, and the faults of lines by the grammar of whole lines.
+//! Laws of the DIMACS and LRAT formats: what is printed is read again, and which lines are right.
 //!
-//! `sat_lrat` says of each call what it reads and writes, by definitions that follow the words. These laws
-//! say of the definitions what a reader of the formats expects of them. The functions do nothing; a caller that needs a law
-//! calls it.
-//!
-//! A law of the DIMACS format: clauses that are printed are read again.
-//!
-//! `sat_dimacs` says which text `print_cnf` writes and what `read_cnf` reads in a text. The law says of the two that the second
-//! gives back what was given to the first. The function does nothing; a caller that needs the law calls it.
+//! `sat_dimacs` and `sat_lrat` say what each call reads and writes, by definitions that follow the
+//! words. These laws say of the definitions what a reader of the formats expects of them. The
+//! functions do nothing; a caller that needs a law calls it.
 #![tactic(auto)]
 
 ghost use Rattle.std.specs.Prelude.{◌≡◌, ◌↔◌, ◌⊎◌, Bool, true, ℕ, List, Ok, Err, All};

@@ -1,3 +1,8 @@
+//! Where a literal stands in lists with one entry a variable, and in lists with two.
+//!
+//! A literal is a number other than 0: `v` says that variable `v` is true, and `-v` that it is
+//! false.
+
 ghost use Rattle.std.specs.Prelude.{◌≡◌, ◌<◌, ◌≤◌, ◌^◌, unsigned_abs};
 ghost use Rattle.sat_trail.specs.Literal as spec;
 

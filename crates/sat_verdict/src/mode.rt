@@ -1,3 +1,5 @@
+//! The verdict on two texts, the line that tells it, and the status that a program ends with.
+
 ghost use Rattle.std.specs.Prelude.{◌≡◌, ◌+◌, ◌≤◌, ◌<◌, ◌^◌, length, IfOk, List, ℤ};
 ghost use Rattle.sat_lrat.specs.declared.line.Line.{Line};
 ghost use Rattle.sat_lrat.specs.Step.{Follows, IsUnsatisfiable};

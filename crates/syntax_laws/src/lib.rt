@@ -1,12 +1,9 @@
-//! Laws of tokens: the lexer's tokens are those of the one division of a text.
+//! Laws of tokens and places: a text has one division into tokens, and a tree spells its pieces.
 //!
-//! `syntax_lexer` says of a text what it gives by a definition that goes from piece to piece. The law here says of that definition
-//! what a reader expects of it. The function does nothing; a caller that needs the law calls it.
-//!
-//! Laws of places: what the pieces of a tree say is its spelling.
-//!
-//! `syntax_places` speaks of the pieces of a tree, which are its tokens with the places that it keeps. The law here says that these
-//! tokens are the ones that spell the tree. The function does nothing; a caller that needs the law calls it.
+//! `syntax_lexer` says what it gives for a text by a definition that goes from piece to piece, and
+//! `syntax_places` speaks of the pieces of a tree, which are its tokens with the places that it
+//! keeps. The laws say of these definitions what a reader expects of them. The functions do
+//! nothing; a caller that needs a law calls it.
 #![tactic(auto)]
 
 ghost use Rattle.std.specs.Prelude.{◌≡◌, ℕ, List, Ok, Err};

@@ -1,5 +1,7 @@
-//! One lasso for all operators. `T` has the atoms 0, 1 and 2. `On` has none of them, then 0, then 0 and 1, and from there
-//! on the last two in turn. `next` has the pairs (0, 1) and (1, 2).
+//! One lasso for all operators.
+//!
+//! `T` has the atoms 0, 1 and 2. `On` has none of them, then 0, then 0 and 1, and from there on
+//! the last two in turn. `next` has the pairs (0, 1) and (1, 2).
 
 use base_types::{Name, Place};
 use core_meaning::{Lasso, Scopes, SigScope, SigScopeList, State, make_lasso};

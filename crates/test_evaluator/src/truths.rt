@@ -1,4 +1,6 @@
-//! Tests of a set, temporal operators, connectives and quantifiers, with answers worked out by hand.
+//! Truths of formulas, with answers worked out by hand.
+//!
+//! These are tests of a set, temporal operators, connectives and quantifiers.
 
 use crate::scene::{F, Scene, T, is_on, is_so, next, on, scene_of, test_of, variables};
 use core_tree::{Connective, Expr, Formula, Quantity, RelationOp, TemporalBinary, TemporalUnary};

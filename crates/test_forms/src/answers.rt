@@ -1,4 +1,4 @@
-//! Formulas as they stand, with their calls written out, and in kernel form, beside the answers worked out by hand.
+//! Formulas as they stand, with calls written out, and in kernel form, beside answers by hand.
 
 use crate::models::Scene;
 use core_tree::Formula;

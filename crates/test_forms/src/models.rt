@@ -1,4 +1,4 @@
-//! Small models and their lassos, from tables.
+//! Small models and their lassos, made from tables.
 
 use crate::postfix::{expr_of, formula_of};
 use base_types::{Name, Place};

@@ -1,4 +1,6 @@
-//! Orders of the atoms of a sig: `First: set elem` and `Next: elem -> elem` are fields of the order's own sig.
+//! Orders of the atoms of a sig, as formulas on two fields.
+//!
+//! `First: set elem` and `Next: elem -> elem` are fields of the order's own sig.
 
 use crate::answers::{Tally, compare, compare_declared};
 use crate::models::{Scene, add_field, add_set, add_sig, empty_model, scene_of};

@@ -1,10 +1,11 @@
 //! Formulas and expressions that are written with each operator behind its operands.
 //!
-//! `A` to `D` are the sigs, `0` to `3` the fields, `a` to `d` the variables. Behind expressions stand `.` for a join, `-` for a
-//! difference, `>` for a product, `*` for the reflexive closure and `'` for the prime; `=` and `<` make formulas of two, `s`,
-//! `n`, `o` and `l` the tests `some`, `no`, `one` and `lone`. Behind formulas stand `&` for both, `w` for `always` and `x` for
-//! `after`; `U` and `E` are `all` and `some` with one variable, which stands with its bound before the formula; `p` calls the
-//! predicate on the last expression.
+//! `A` to `D` are the sigs, `0` to `3` the fields, `a` to `d` the variables. Behind expressions
+//! stand `.` for a join, `-` for a difference, `>` for a product, `*` for the reflexive closure
+//! and `'` for the prime; `=` and `<` make formulas of two, `s`, `n`, `o` and `l` the tests
+//! `some`, `no`, `one` and `lone`. Behind formulas stand `&` for both, `w` for `always` and `x`
+//! for `after`; `U` and `E` are `all` and `some` with one variable, which stands with its bound
+//! before the formula; `p` calls the predicate on the last expression.
 
 use core_tree::{
     Expr, Formula, Multiplicity, Quantity, RelationOp, TemporalUnary, UnaryRelation, Variable,

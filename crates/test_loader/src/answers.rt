@@ -1,4 +1,5 @@
-//! The instances of a model, their labels and opens.
+//! Tests of the instances of a model, their labels and opens.
+
 use crate::shelf::{ORDERING, ORDERS, library, many, one};
 use load_modules::{load, load_text};
 use std::alloc::{AllocError, Global};

@@ -1,4 +1,5 @@
-//! The refusals of loading, each with its place, and failing calls.
+//! Tests of the refusals of loading, each with its place, and of failing calls.
+
 use crate::shelf::{ORDERING, ORDERS, many, one};
 use base_types::Rule;
 use load_modules::{LoadFault, load};

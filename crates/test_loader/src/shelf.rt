@@ -1,4 +1,5 @@
-//! Libraries of a few files.
+//! Libraries of a few files, some of whose calls fail.
+
 use base_types::MemoryLibrary;
 use std::alloc::{AllocError, Global};
 

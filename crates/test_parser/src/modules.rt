@@ -1,3 +1,5 @@
+//! Tests of the parser of modules, on texts.
+
 use std::alloc::{AllocError, Global};
 use std::test::Fail;
 use syntax_expr::ParseFault;
