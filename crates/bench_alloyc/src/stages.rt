@@ -1,11 +1,9 @@
-//! Measures the stages of one analysis: its sizes, or the times of its stages.
+//! The mode `stages` measures the stages of one analysis: `sizes MODEL COMMAND` and `times MODEL COMMAND`.
 //!
-//! `bench_stages sizes MODEL COMMAND` prints the numbers of gates, variables, clauses and lemmas,
-//! and the answer. `bench_stages times MODEL COMMAND` prints the processor time of each stage in
-//! milliseconds: of loading, of names, scopes, forms and bounds, of the circuit, of the clauses,
-//! and of the search. What the model opens is read from files, those of util/ too. Other words are
-//! answered with status 2, a model that is refused with 3.
-#![tactic(auto)]
+//! The first prints the numbers of gates, variables, clauses and lemmas, and the answer. The second prints the processor
+//! time of each stage in milliseconds: of loading, of names, scopes, forms and bounds, of the circuit, of the clauses, and of
+//! the search. What the model opens is read from files, those of util/ too. Other words are answered with status 2, a model that is
+//! refused with 3.
 
 use answer_analysis::prepare_loaded;
 use answer_search::table_store;
@@ -21,8 +19,6 @@ use sat_dimacs::Cnf;
 use sat_lrat::Outcome;
 use sat_solver::solve_with;
 use std::alloc::{AllocError, Global};
-use std::env;
-use std::process::ExitCode;
 use std::time::CpuClock;
 
 /// What is measured of an analysis.
@@ -137,19 +133,17 @@ fn measure(rt: &HostRuntime, kind: &str, root: &str, command: u32) -> Result<u8>
     Ok(0)
 }
 
-fn main(rt: HostRuntime) -> Result<ExitCode> {
-    let mut words = env::args(&rt)?;
-    let _program = words.next();
-    let (Some(kind), Some(root), Some(number)) = (words.next(), words.next(), words.next()) else {
-        return Ok(ExitCode::from(2));
+/// Measures what the words ask for: a kind, a model's file and the number of a command.
+pub fn run(rt: &HostRuntime, words: &[String]) -> Result<u8> {
+    let (Some(kind), Some(root), Some(number)) = (words.first(), words.get(1), words.get(2)) else {
+        return Ok(2);
     };
     let Ok(command) = number.as_str().parse::<u32>() else {
-        return Ok(ExitCode::from(2));
+        return Ok(2);
     };
     let kind = kind.as_str();
     if kind != "sizes" && kind != "times" {
-        return Ok(ExitCode::from(2));
+        return Ok(2);
     }
-    let status = measure(&rt, kind, root.as_str(), command)?;
-    Ok(ExitCode::from(status))
+    measure(rt, kind, root.as_str(), command)
 }

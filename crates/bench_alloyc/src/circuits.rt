@@ -1,10 +1,8 @@
 //! Builds circuits and matrices of a given size, to measure how long that takes, and prints sizes.
 //!
-//! `clauses N` writes a circuit of N gates as clauses. `join N` joins two matrices of ten pairs
-//! for each of N atoms: each atom in the middle stands in ten of the second and in about ten of
-//! the first. `closure N` closes a relation over N atoms with five pairs an atom. N is at least 1,
-//! and in the last two at most 16,384. Other words are answered with status 2.
-#![tactic(auto)]
+//! `clauses N` writes a circuit of N gates as clauses. `join N` joins two matrices of ten pairs for each of N atoms: each
+//! atom in the middle stands in ten of the second and in about ten of the first. `closure N` closes a relation over N atoms with five pairs an
+//! atom. N is at least 1, and in the last two at most 16,384. Other words are answered with status 2.
 
 ghost use Rattle.std.specs.Prelude.{◌≡◌, ◌<◌, ◌≤◌, All, IfOk, OnOk};
 ghost use Rattle.gate_trait.specs.Circuit.{BelongsTo};
@@ -20,8 +18,6 @@ use gate_store::CircuitStore;
 use gate_trait::{Gates, Node, NodeList};
 use gate_tseitin::{are_numbered, write_clauses};
 use std::alloc::{AllocError, Global};
-use std::env;
-use std::process::ExitCode;
 
 /// One more gate, of a kind by its number.
 fn one_more(store: &mut CircuitStore, number: u64, a: Node, b: Node) -> Result<Node, AllocError>
@@ -189,15 +185,10 @@ fn measure(rt: &(impl Print + AllocGlobal), kind: &str, count: &str) -> Result<u
     Ok(2)
 }
 
-fn main(rt: HostRuntime) -> Result<ExitCode> {
-    let mut words = env::args(&rt)?;
-    let _program = words.next();
-    let Some(kind) = words.next() else {
-        return Ok(ExitCode::from(2));
+/// Measures what the words ask for, a kind and a size.
+pub fn run(rt: &(impl Print + AllocGlobal), words: &[String]) -> Result<u8> {
+    let (Some(kind), Some(count)) = (words.first(), words.get(1)) else {
+        return Ok(2);
     };
-    let Some(count) = words.next() else {
-        return Ok(ExitCode::from(2));
-    };
-    let status = measure(&rt, kind.as_str(), count.as_str())?;
-    Ok(ExitCode::from(status))
+    measure(rt, kind.as_str(), count.as_str())
 }

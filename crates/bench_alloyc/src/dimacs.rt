@@ -1,17 +1,15 @@
-//! Solves the clauses of a DIMACS text, to measure the search: `bench_dimacs FILE`.
+//! The mode `dimacs` solves the clauses of a DIMACS text, to measure the search: `FILE`.
 //!
-//! It prints `s SATISFIABLE` or `s UNSATISFIABLE`, with the number of lemmas, and ends with 10 or
-//! 20. A file that isn't read is answered with 3, other words with 2.
-#![tactic(auto)]
+//! It prints `s SATISFIABLE` or `s UNSATISFIABLE`, with the number of lemmas, and ends with 10 or 20. A file that isn't
+//! read is answered with 3, other words with 2.
 
 use anyhow::Result;
 use sat_decide::{Activity, Chooser};
 use sat_dimacs::{Cnf, read_cnf};
 use sat_lrat::Outcome;
 use sat_solver::solve;
-use std::process::ExitCode;
+use std::fs;
 use std::rt::Files;
-use std::{env, fs};
 
 /// Solves clauses and tells the outcome.
 fn tell(rt: &(impl Print + AllocGlobal), cnf: &Cnf) -> Result<u8> {
@@ -42,13 +40,10 @@ fn solve_file(rt: &(impl Files + Print + AllocGlobal), file: &str) -> Result<u8>
     }
 }
 
-fn main(rt: HostRuntime) -> Result<ExitCode> {
-    let mut words = env::args(&rt)?;
-    let _program = words.next();
-    let Some(file) = words.next() else {
-        println!(rt; "usage: dimacs_solve FILE")?;
-        return Ok(ExitCode::from(2));
+/// Solves the clauses of the file that the first word names.
+pub fn run(rt: &(impl Files + Print + AllocGlobal), words: &[String]) -> Result<u8> {
+    let Some(file) = words.first() else {
+        return Ok(2);
     };
-    let status = solve_file(&rt, file.as_str())?;
-    Ok(ExitCode::from(status))
+    solve_file(rt, file.as_str())
 }

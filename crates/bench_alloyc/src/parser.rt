@@ -1,23 +1,19 @@
-//! Says of each text that is named what the parsers make of it: `rows_parser NAME..`.
+//! The mode `parser` says of each text that is named what the lexer and the parsers make of it: `NAME..`.
 //!
-//! A name is that of a text that the analyser brings along, or else of a file. A text that has a
-//! tree gives its name and `spelled`, where the tree spells its tokens again. Another text gives
-//! the rule that it breaks, its name and the place.
-#![tactic(auto)]
-
-mod same;
+//! A name is that of a text that alloyc brings along, or else of a file. A text that has a tree gives its name and
+//! `spelled`, where the tree spells its tokens again. Another text gives the rule that it breaks, its name and the place.
 
 ghost use Rattle.std.specs.Prelude.{◌≤◌, length};
 ghost use Rattle.syntax_tree.specs.Spelling.{EndsWell};
 
+use crate::same::same_words;
 use anyhow::Result;
 use base_library::EmbeddedLibrary;
 use base_types::limits::MODULE_BYTES;
 use base_types::{Fetch, Library, Place, Refusal, Rule};
-use same::same_words;
 use std::alloc::Global;
+use std::fs;
 use std::rt::Files;
-use std::{env, fs};
 use syntax_expr::ParseFault;
 use syntax_lexer::{LexFault, lex};
 use syntax_parser::parse_module;
@@ -92,10 +88,11 @@ fn text_of(rt: &(impl Files + AllocGlobal), name: &str) -> Result<Vec<u8>> {
     }
 }
 
-fn main(rt: HostRuntime) -> Result<()> {
-    for name in env::args(&rt)?.skip(1) {
-        let text = text_of(&rt, name.as_str())?;
-        report(&rt, name.as_str(), what_is_said(rt.alloc(), &text))?;
+/// Says of each text that the words name what becomes of it.
+pub fn run(rt: &(impl Files + Print + AllocGlobal), words: &[String]) -> Result<u8> {
+    for name in words {
+        let text = text_of(rt, name.as_str())?;
+        report(rt, name.as_str(), what_is_said(rt.alloc(), &text))?;
     }
-    Ok(())
+    Ok(0)
 }
