@@ -8,6 +8,3 @@ pub mod roots;
 
 pub use laws::field_declarations_are_plain;
 pub use roots::{Encoded, encode};
-
-#[cfg(test)]
-mod tests;

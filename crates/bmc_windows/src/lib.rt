@@ -11,6 +11,3 @@ pub use choices::{first_number, is_apart, with_last};
 pub use depth::depth_of;
 pub use frame::{Frame, Stretch, frame_of};
 pub use pairs::{Pairs, found_at, key_place, moved, pair_at, pairs_of, repeated};
-
-#[cfg(test)]
-mod tests;

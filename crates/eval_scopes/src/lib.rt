@@ -7,6 +7,3 @@ pub mod keep;
 pub mod places;
 
 pub use keep::keeps;
-
-#[cfg(test)]
-mod tests;

@@ -13,8 +13,6 @@ pub use sorted::literals;
 
 mod asked;
 mod found;
-#[cfg(test)]
-mod literal_table_tests;
 mod scope;
 mod words;
 
