@@ -57,7 +57,8 @@ fn say(alloc: Global, text: &[u8], wanted: bool) -> Result<bool, Fail> {
 
 #[test]
 fn both_refute_clauses(rt: HostRuntime) -> Result<(), Fail> {
-    let text = b"p cnf 6 9\n1 2 0\n3 4 0\n5 6 0\n-1 -3 0\n-1 -5 0\n-3 -5 0\n-2 -4 0\n-2 -6 0\n-4 -6 0\n";
+    let text =
+        b"p cnf 6 9\n1 2 0\n3 4 0\n5 6 0\n-1 -3 0\n-1 -5 0\n-3 -5 0\n-2 -4 0\n-2 -6 0\n-4 -6 0\n";
     assert!(rt; say(rt.alloc(), text, false)?);
     Ok(())
 }

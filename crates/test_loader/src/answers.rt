@@ -17,11 +17,7 @@ fn is_instance(loaded: &Loaded, number: usize, label: &str, text: &str) -> bool 
 }
 
 /// The model of the root of this name among these files, if it can be loaded.
-fn model(
-    alloc: Global,
-    files: &[(&str, &str)],
-    root: &str,
-) -> Result<Option<Loaded>, AllocError> {
+fn model(alloc: Global, files: &[(&str, &str)], root: &str) -> Result<Option<Loaded>, AllocError> {
     let mut libraries = one(alloc, files)?;
     Ok(load(alloc, &mut libraries, root).ok())
 }
