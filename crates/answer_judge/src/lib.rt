@@ -14,6 +14,3 @@ pub use answer::TraceAnswer;
 pub use expression::{ReadValue, read_value};
 pub use judge::judge_trace;
 pub use value::value_on_trace;
-
-#[cfg(test)]
-mod tests;

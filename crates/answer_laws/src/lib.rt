@@ -67,24 +67,6 @@ pub fn read_lassos_are_of_the_labels()
     ensures { (labels : Labels) (text : List ℕ) (lasso : LassoValue) → HaveLassos labels → IsRead labels text lasso → IsLassoOf labels lasso }
 {}
 
-#[cfg(test)]
-mod tests {
-    use super::*;
-
-    #[test]
-    fn calls_the_laws() {
-        texts_are_of_one_lasso();
-        texts_are_read();
-        no_text_agrees();
-        faults_are_first();
-        reading_is_of_the_text();
-        lines_are_read();
-        named_lines_are_first();
-        no_line_of_a_lasso_is_named();
-        read_lassos_are_of_the_labels();
-    }
-}
-
 ghost use Rattle.answer_laws.specs.Labelled.{LabelsHaveLassos};
 
 /// A law: the labels of a model whose sigs and fields have labels of a right form, under scopes of at most 16,384 atoms, are
@@ -92,13 +74,3 @@ ghost use Rattle.answer_laws.specs.Labelled.{LabelsHaveLassos};
 pub fn labels_have_lassos()
     ensures { LabelsHaveLassos }
 {}
-
-#[cfg(test)]
-mod tests {
-    use super::labels_have_lassos;
-
-    #[test]
-    fn calls_the_law() {
-        labels_have_lassos();
-    }
-}

@@ -15,8 +15,6 @@ mod lines;
 pub use lines::command_text;
 
 mod clauses;
-#[cfg(test)]
-mod command_list_tests;
 mod ring;
 mod summary;
 mod write;
@@ -26,8 +24,6 @@ pub use ring::ring_text;
 pub use summary::{made_none, made_trace, made_unknown};
 pub use write::push_decimal;
 
-#[cfg(test)]
-mod answer_texts_tests;
 mod certified;
 mod fact;
 mod judged;
@@ -37,6 +33,3 @@ pub use certified::{above_part, core_part, trace_part};
 pub use fact::{FactName, FactNameList, fact_name};
 pub use judged::{is_satisfied, judgement_text};
 pub use judgement::{JudgedFact, JudgedFactList, Judgement};
-
-#[cfg(test)]
-mod judgement_texts_tests;

@@ -23,6 +23,3 @@ pub use memory::{MemoryLibrary, MemorySink};
 pub use place::{Place, Refusal, Rule};
 pub use sink::{Sink, SinkFault};
 pub use text::{Bytes, Name};
-
-#[cfg(test)]
-mod tests;

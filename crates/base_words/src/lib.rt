@@ -213,31 +213,6 @@ mod tests {
     use std::test::Fail;
 
     #[test]
-    fn takes_a_line_apart(rt: HostRuntime) {
-        let (line, rest) = split_line(b"5 -12\t0\r\nc x");
-        assert_eq!(rt; rest, Some(b"c x".as_slice()));
-        assert_eq!(rt; is_comment(line), false);
-        assert_eq!(rt; is_comment(rest.unwrap_or(b"")), true);
-        let Some((word, line)) = next_word(line) else {
-            assert!(rt; false, "no first word");
-            return;
-        };
-        assert_eq!(rt; positive(word, 9), Some(5));
-        let Some((word, line)) = next_word(line) else {
-            assert!(rt; false, "no second word");
-            return;
-        };
-        assert_eq!(rt; literal(word, 12), Some(-12));
-        let Some((word, line)) = next_word(line) else {
-            assert!(rt; false, "no third word");
-            return;
-        };
-        assert_eq!(rt; is_zero(word), true);
-        assert_eq!(rt; decimal(word, 9), Some(0));
-        assert_eq!(rt; next_word(line), None);
-    }
-
-    #[test]
     fn refuses_other_words(rt: HostRuntime) {
         for word in [
             b"05".as_slice(),

@@ -29,6 +29,3 @@ pub mod past_depth;
 pub mod roots;
 
 pub use roots::{Encoded, encode};
-
-#[cfg(test)]
-mod tests;

@@ -22,9 +22,6 @@ pub fn encodings_tell()
     ensures complete { (model : Model) (scopes : Scopes) (facts : List Fact) (command : Claim) (bounds : Bounds) (variables : ℕ) (clauses : List (List ℤ)) → EncodesWith model scopes facts command bounds variables clauses → (lasso : LassoValue) → IsCandidate bounds lasso → SatisfiesWith model scopes lasso facts command → (values : List Bool) × IsSolution variables clauses values × Agrees bounds values lasso }
 {}
 
-#[cfg(test)]
-mod encoding_form_tests;
-
 ghost use Rattle.bmc_laws.specs.TableTold.{CandidatesAreTold};
 
 use bound_uppers::rows_rise;
@@ -35,6 +32,3 @@ pub fn candidates_are_told()
 {
     rows_rise();
 }
-
-#[cfg(test)]
-mod table_laws_tests;

@@ -48,6 +48,3 @@ pub use steps::{
 };
 pub use store::{Mark, Store};
 pub use windows::TimeOperator;
-
-#[cfg(test)]
-mod tests;

@@ -9,8 +9,6 @@ ghost use Rattle.bound_definitions.specs.Numbers.{is_int, is_steps, is_overall, 
 use core_tree::{ScopeEntry, ScopeSubject};
 
 mod known;
-#[cfg(test)]
-mod tests;
 
 pub use known::{
     Known, at_most, is_static_lone, is_static_one, is_string, or_else, own_of, placed, scope_of,

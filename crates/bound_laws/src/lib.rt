@@ -15,6 +15,3 @@ pub fn satisfying_lassos_are_candidates()
     same_sequences_satisfy_the_same();
     fields_lie_in_their_bounds();
 }
-
-#[cfg(test)]
-mod tests;

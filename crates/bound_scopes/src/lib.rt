@@ -13,6 +13,3 @@ mod order;
 pub use fault::ScopeFault;
 pub use gather::check_value;
 pub use limits::scopes;
-
-#[cfg(test)]
-mod tests;

@@ -23,6 +23,3 @@ pub use places::{Cells, Layout};
 pub use shortening::shortest;
 pub use table::{Bound, BoundList, Bounds, BoundsFault};
 pub use uppers::bounds;
-
-#[cfg(test)]
-mod tests;

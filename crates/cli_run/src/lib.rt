@@ -19,6 +19,3 @@ mod work;
 
 pub use answer::Answer;
 pub use run::run_words;
-
-#[cfg(test)]
-mod tests;

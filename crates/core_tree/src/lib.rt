@@ -22,6 +22,3 @@ pub use operators::{
     TemporalUnary, UnaryRelation,
 };
 pub use tree::{Expr, Formula, Variable};
-
-#[cfg(test)]
-mod tests;

@@ -8,6 +8,3 @@ pub mod weight;
 
 pub use bodies::{MANY, weigh};
 pub use weight::{MOST, of_expr, of_formula};
-
-#[cfg(test)]
-mod tests;

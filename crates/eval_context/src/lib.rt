@@ -10,6 +10,3 @@ pub mod sizes;
 pub use names::{Meant, look_up};
 pub use setting::{Setting, make_setting};
 pub use sizes::integer_count;
-
-#[cfg(test)]
-mod tests;

@@ -9,11 +9,6 @@ pub use numbers::{compares, half_count, integer_count, low_bits, result_of, wrap
 
 pub mod operators;
 pub mod values;
-#[cfg(test)]
-mod wrapped_integers_tests;
 
 pub use operators::{arithmetic, compare, count_of};
 pub use values::{add, literal, number_of, wrapped};
-
-#[cfg(test)]
-mod integer_operators_tests;

@@ -8,6 +8,3 @@ pub mod keep;
 pub mod places;
 
 pub use keep::keeps;
-
-#[cfg(test)]
-mod tests;

@@ -14,6 +14,3 @@ pub use operators::{combine, paired, turned};
 pub use rows::{atoms_in, empty_of, identity, put, rows_after, rows_before, single};
 pub use sizes::{are_equal, has_multiplicity, has_quantity, is_apart, is_quantity, size_of};
 pub use walks::closure;
-
-#[cfg(test)]
-mod tests;

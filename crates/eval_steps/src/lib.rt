@@ -22,6 +22,3 @@ pub use parts::{
 pub use rows::{First, Goal, Row, add_rows, chosen_set, first_row, sum_of_rows};
 pub use sides::{Arrow, arrow_of, asks, heads, is_long, tails};
 pub use steps::{DEEP, after, deeper, next_name, says};
-
-#[cfg(test)]
-mod tests;

@@ -11,6 +11,3 @@ pub mod sigs;
 pub use declarations::declared;
 pub use eval_scopes::keeps;
 pub use evaluate::{holds, tuples};
-
-#[cfg(test)]
-mod tests;

@@ -30,8 +30,6 @@
 pub mod build;
 pub mod derived;
 pub mod forms;
-#[cfg(test)]
-mod tests;
 pub mod variables;
 
 pub use forms::kernel;

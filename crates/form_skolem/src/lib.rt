@@ -29,6 +29,3 @@ mod ground;
 mod open;
 
 pub use open::open_params;
-
-#[cfg(test)]
-mod tests;

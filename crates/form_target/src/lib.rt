@@ -8,8 +8,6 @@
 
 pub mod build;
 pub mod children;
-#[cfg(test)]
-mod decl_constraints_tests;
 pub mod declarations;
 pub mod fields;
 pub mod sigs;

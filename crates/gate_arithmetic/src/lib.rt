@@ -9,6 +9,3 @@ pub mod singles;
 pub use integers::{integer_op, operate};
 pub use members::integer_of;
 pub use singles::matrix_of;
-
-#[cfg(test)]
-mod tests;

@@ -23,12 +23,7 @@ pub use counting::count;
 pub use limit::{at_most, exactly};
 
 pub mod divide;
-#[cfg(test)]
-mod int_circuits_tests;
 pub mod product;
 
 pub use divide::{div, rem};
 pub use product::mul;
-
-#[cfg(test)]
-mod int_products_tests;

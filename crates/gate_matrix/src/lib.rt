@@ -38,6 +38,3 @@ pub use joins::{join, product, transpose};
 pub use matrix::Matrix;
 pub use merge::{add_some, difference, intersection, union};
 pub use questions::{equal, inside, lone, one, some};
-
-#[cfg(test)]
-mod tests;

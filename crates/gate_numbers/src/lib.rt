@@ -7,6 +7,3 @@ pub mod values;
 
 pub use integers::{calculate, compare, constant_bits, count_of, masked_sum};
 pub use values::{integer_of, matrix_of};
-
-#[cfg(test)]
-mod tests;

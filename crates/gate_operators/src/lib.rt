@@ -11,6 +11,3 @@ pub use combined::{combine, multiplied};
 pub use questions::{TestOp, test_op};
 pub use relations::{RelOp, relation_op};
 pub use unary::{closed, closed_below, identity, transposed};
-
-#[cfg(test)]
-mod tests;

@@ -14,6 +14,3 @@ pub use listing::{add_tuples, distinct_tuples};
 pub use operators::{SetOperator, apply, combine};
 pub use questions::{Question, ask};
 pub use relation::{atom_matrix, put, range_matrix, relation_matrix, rest_of};
-
-#[cfg(test)]
-mod tests;

@@ -12,8 +12,6 @@ pub use edge::Edge;
 pub use order::{Ranks, call_ranks};
 
 mod bodies;
-#[cfg(test)]
-mod call_order_tests;
 mod head;
 mod inside;
 mod types;

@@ -10,8 +10,6 @@ pub use sorted::literals;
 
 mod asked;
 mod found;
-#[cfg(test)]
-mod literal_table_tests;
 mod scope;
 mod words;
 

@@ -39,6 +39,3 @@ pub use choices::found;
 pub use meaning::{Meaning, What};
 pub use part::{Binary, Found, Multiplicity, Outcome, Part, Place, Typing, Unary};
 pub use root::decide;
-
-#[cfg(test)]
-mod tests;

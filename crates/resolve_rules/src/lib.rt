@@ -13,9 +13,6 @@ ghost use Rattle.resolve_rules.specs.Roots.{IsBroken};
 use base_types::Rule;
 use resolve_readings::Outcome;
 
-#[cfg(test)]
-mod tests;
-
 /// The rule that a root breaks of which this was decided; None where it has a reading.
 pub fn rule_of(outcome: &Outcome) -> Option<Rule>
     ensures { (typing : Typing) (root : Part) → Decides typing root outcome.now → IsWithin (count_choices root) outcome.now → IfSome result (λ r. IsBroken typing root r) }

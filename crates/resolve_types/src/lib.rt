@@ -15,13 +15,8 @@ pub use rows::{Row, Way};
 
 mod bound;
 mod ground;
-#[cfg(test)]
-mod sig_types_tests;
 mod static_rows;
 
 pub use bound::static_type;
 pub use ground::{Ground, static_sig};
 pub use static_rows::model_rows;
-
-#[cfg(test)]
-mod field_rows_tests;

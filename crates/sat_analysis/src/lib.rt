@@ -10,7 +10,5 @@ mod hints;
 mod minimise;
 mod noted;
 mod point;
-#[cfg(test)]
-mod tests;
 
 pub use analysis::Analysis;

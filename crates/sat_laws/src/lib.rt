@@ -28,17 +28,6 @@ pub fn faults_are_by_fronts()
         (rule ≡ 11) ⊎ ((rule ≡ 12) ⊎ (rule ≡ 13)) }
 {}
 
-#[cfg(test)]
-mod tests {
-    use super::*;
-
-    #[test]
-    fn calls_each_law() {
-        printed_lines_are_read_again();
-        faults_are_by_fronts();
-    }
-}
-
 ghost use Rattle.std.specs.Prelude.{◌≡◌, ◌≤◌, false, ℕ, ℤ, List, Ok, All, length};
 ghost use Rattle.sat_dimacs.specs.Text.{formula_of, cnf_text, has_feed};
 ghost use Rattle.sat_laws.specs.Within.{IsOf};
@@ -49,13 +38,3 @@ use sat_dimacs::{MOST_CLAUSES, MOST_VARIABLES};
 pub fn printed_clauses_are_read_again()
     ensures { (table : List (List ℕ)) (variables : ℕ) (clauses : List (List ℤ)) → All (λ row. has_feed row ≡ false) table → variables ≤ MOST_VARIABLES → length clauses ≤ MOST_CLAUSES → All (All (IsOf variables)) clauses → formula_of (cnf_text table variables clauses) ≡ Ok (record { variables = variables; clauses = clauses }) }
 {}
-
-#[cfg(test)]
-mod tests {
-    use super::*;
-
-    #[test]
-    fn calls_the_law() {
-        printed_clauses_are_read_again();
-    }
-}

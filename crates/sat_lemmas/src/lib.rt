@@ -11,13 +11,8 @@ mod log;
 pub use log::{LemmaLog, Taken};
 
 mod copy;
-#[cfg(test)]
-mod lemma_log_tests;
 mod mark;
 mod shorten;
 mod stay;
 
 pub use shorten::trim;
-
-#[cfg(test)]
-mod lemma_trim_tests;

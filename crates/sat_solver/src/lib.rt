@@ -11,7 +11,5 @@ mod load;
 mod pace;
 mod round;
 mod search;
-#[cfg(test)]
-mod tests;
 
 pub use search::{solve, solve_by, solve_with};

@@ -176,37 +176,3 @@ impl Pace {
         }
     }
 }
-
-#[cfg(test)]
-mod tests {
-    use super::{LEAST_SPAN, Pace, UNIT};
-
-    #[test]
-    fn spans_follow_the_series(rt: HostRuntime) {
-        let mut pace = Pace::new();
-        for span in [1, 1, 2, 1, 1, 2, 4, 1, 1, 2, 1, 1, 2, 4, 8] {
-            assert_eq!(rt; pace.left, span * UNIT);
-            pace.go_on();
-        }
-    }
-
-    #[test]
-    fn restarts_come_where_lemmas_have_more_levels(rt: HostRuntime) {
-        let mut pace = Pace::new();
-        for _ in 0..200 {
-            pace.take_levels(8);
-            assert!(rt; !pace.is_restart_due());
-        }
-        // The average over 16 passes 23/20 of the other with the third lemma of 16 levels.
-        for _ in 0..2 {
-            pace.take_levels(16);
-            assert!(rt; !pace.is_restart_due());
-        }
-        pace.take_levels(16);
-        assert!(rt; pace.is_restart_due());
-        for _ in 1..LEAST_SPAN {
-            assert!(rt; !pace.is_restart_due());
-        }
-        assert!(rt; pace.is_restart_due());
-    }
-}

@@ -12,8 +12,6 @@ mod add;
 mod arena;
 mod assigned;
 mod propagate;
-#[cfg(test)]
-mod solver_trail_tests;
 mod trail;
 mod watches;
 

@@ -17,13 +17,3 @@ pub use mode::{Verdict, check_texts, message_of, status_of};
 pub fn texts_have_one_verdict()
     ensures { (clauses lines : List ℕ) (verdict other : Verdict) → IsVerdict clauses lines verdict → IsVerdict clauses lines other → verdict ≡ other }
 {}
-
-#[cfg(test)]
-mod tests {
-    use super::*;
-
-    #[test]
-    fn calls_the_law() {
-        texts_have_one_verdict();
-    }
-}

@@ -24,16 +24,6 @@ pub fn tokens_are_the_one_division()
         tokens_of text z ≡ Err refusal → IsDivided (start_of text) z ns tokens → ⊥ }
 {}
 
-#[cfg(test)]
-mod tests {
-    use super::*;
-
-    #[test]
-    fn calls_the_law() {
-        tokens_are_the_one_division();
-    }
-}
-
 ghost use Rattle.std.specs.Prelude.{◌≡◌, ◌++◌, Option};
 ghost use Rattle.syntax_tree.specs.declared.operator.Multiplicity.{Multiplicity};
 ghost use Rattle.syntax_tree.specs.declared.expr.Expr.{Expr};
@@ -50,13 +40,3 @@ pub fn pieces_say_the_spelling()
     ensures bounds { (word : Option Multiplicity) (e : Expr) → said (worded_pieces word e) ≡ multiplicity_words word ++ spelling e }
     ensures modules { (m : Module) → said (module_pieces m) ≡ module_words m }
 {}
-
-#[cfg(test)]
-mod tests {
-    use super::*;
-
-    #[test]
-    fn calls_the_law() {
-        pieces_say_the_spelling();
-    }
-}
