@@ -1,7 +1,7 @@
 #!/usr/bin/env python3
-"""Times circuits, joins and closures of growing sizes, with the program of crates/circuit_bench, and writes a table in Markdown.
+"""Times circuits, joins and closures of growing sizes, with the mode circuits of crates/bench_alloyc, and writes a table in Markdown.
 
-    python3 bench/circuits.py crates/circuit_bench/out/circuit_bench [--rounds N]
+    python3 bench/circuits.py crates/bench_alloyc/out/bench_alloyc [--rounds N]
 
 Seconds are of user and system code, the least of the rounds. The last column divides them by what was made: pairs of a join that match,
 clauses of a circuit, gates of a closure. It stays about the same where the time is linear in that.
@@ -55,7 +55,7 @@ def main():
     program = os.path.abspath(given.program)
     print("| Kind | Size | Said | MB | s | Counted | us each |\n|---|---|---|---|---|---|---|")
     for kind, number, counted in RUNS:
-        took, memory, said = timed([program, kind, str(number)], given.rounds)
+        took, memory, said = timed([program, "circuits", kind, str(number)], given.rounds)
         count = made(kind, number, said)
         each = f"{took / count * 1e6:.2f}" if count else "-"
         print(f"| {kind} | {number} | {said} | {memory} | {took:.2f} | {count} {counted} | {each} |", flush=True)

@@ -2,12 +2,12 @@
 """Runs every command of models, and writes a table in Markdown: the answer, the time, the memory, and what minisat and
 cadical take on the clauses that alloyc prints.
 
-usage: models.py ALLOYC FOLDER [--limit SECONDS] [--only WORD] [--solvers] [--stages STAGE_TIMES]
+usage: models.py ALLOYC FOLDER [--limit SECONDS] [--only WORD] [--solvers] [--stages BENCH_ALLOYC]
 
 FOLDER has NAME.als files; `alloyc commands` lists what each is asked. Beside a model NAME.expected may stand, whose lines
 are `N run 3:1 label SAT` or `.. UNSAT`: then the answer is compared. With --solvers the clauses are printed by a run with a
-budget of no conflict, and minisat and cadical (Debian has both) are run on them. With --stages the program of
-crates/stage_times is run too: numbers of gates and lemmas, and milliseconds of loading, preparing, circuit, clauses, search.
+budget of no conflict, and minisat and cadical (Debian has both) are run on them. With --stages the mode stages
+of crates/bench_alloyc is run too: numbers of gates and lemmas, and milliseconds of loading, preparing, circuit, clauses, search.
 """
 import argparse
 import os
@@ -76,7 +76,7 @@ def solver(words, text, limit):
 
 
 def with_library(folder):
-    """Returns a copy of a folder that has the library modules as files, since stage_times reads files alone."""
+    """Returns a copy of a folder that has the library modules as files, since bench_alloyc reads files alone."""
     copy = tempfile.mkdtemp()
     shutil.copytree(folder, copy, dirs_exist_ok=True)
     texts = os.path.join(os.path.dirname(os.path.abspath(__file__)), "../crates/util_library/src/texts.rt")

@@ -1,7 +1,7 @@
 #!/usr/bin/env python3
-"""Times the lexer and the parsers on long texts, with the program of crates/parser_rows.
+"""Times the lexer and the parsers on long texts, with the mode parser of crates/bench_alloyc.
 
-    python3 bench/parsers.py crates/parser_rows/out/parser_rows [--rounds N]
+    python3 bench/parsers.py crates/bench_alloyc/out/bench_alloyc [--rounds N]
 
 Each text is written to a file, and the least processor time of the rounds is printed beside what the program says of the text. The
 time of no file at all stands first: it is that of the start alone. The times include what the program does beside lexing and
@@ -71,7 +71,7 @@ def main():
     print("| Text | Bytes | s | Said |\n|---|---|---|---|")
     with tempfile.TemporaryDirectory() as folder:
         for name, text in TEXTS:
-            run = [program]
+            run = [program, "parser"]
             if text is not None:
                 with open(os.path.join(folder, "m.als"), "wb") as file:
                     file.write(text)

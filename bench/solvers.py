@@ -1,9 +1,9 @@
 #!/usr/bin/env python3
 """Runs alloyc's search beside minisat and cadical on the same clauses, and writes a table in Markdown.
 
-usage: solvers.py DIMACS_SOLVE [--limit SECONDS] [--runs N] [--only WORD] [CNF ..]
+usage: solvers.py BENCH_ALLOYC [--limit SECONDS] [--runs N] [--only WORD] [CNF ..]
 
-DIMACS_SOLVE is the built program of crates/dimacs_solve. minisat and cadical are looked for on the path (Debian has
+BENCH_ALLOYC is the built program of crates/bench_alloyc, whose mode dimacs is run. minisat and cadical are looked for on the path (Debian has
 both). CNF files that are named are run behind the made ones. Each run is cut off behind the limit (60 seconds of its
 own processor time), and of several runs the least time counts.
 """
@@ -196,7 +196,7 @@ def seconds(value):
 
 def row(name, path, program, limit, runs):
     """A row of the table: seconds, conflicts and memory of each solver."""
-    ours, ours_memory, ours_text = run([program, path], limit, runs)
+    ours, ours_memory, ours_text = run([program, "dimacs", path], limit, runs)
     cells = [name, verdict_in(ours_text), seconds(ours), number_in(ours_text, r"(\d+) lemmas"), f"{ours_memory // 1024}"]
     other_time = None
     verdicts = {verdict_in(ours_text)}

@@ -1,4 +1,4 @@
-// Why there is no analysis.
+//! Why there is no analysis: a refusal, a library that failed, or want of memory.
 
 ghost use Rattle.answer_analysis.specs.Found.{IsLoadedFault};
 

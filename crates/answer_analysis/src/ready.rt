@@ -1,4 +1,4 @@
-// A model made ready for a search.
+//! A model made ready for a search: its scopes, bounds and target.
 
 ghost use Rattle.std.specs.Prelude.{◌≡◌, ◌<◌, map, IfOk, IfErr, length};
 ghost use Rattle.bound_uppers.specs.declared.table.Bound.{Bound};

@@ -1,4 +1,4 @@
-// The search for a lasso.
+//! The search for a lasso that satisfies a model and its command, from loading to the answer.
 
 ghost use Rattle.std.specs.Prelude.{◌≤◌, ℕ, length, Option, IfOk, IfErr, IsTrue};
 ghost use Rattle.bound_uppers.specs.Shortest.{HasFewestStates};

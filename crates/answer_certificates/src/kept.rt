@@ -1,4 +1,4 @@
-// The search for facts that rule out every trace.
+//! The search for facts that rule out every trace, and the texts of its answers.
 
 ghost use Rattle.std.specs.Prelude.{◌≡◌, ◌-◌, length, IfOk};
 ghost use Rattle.sat_lrat.specs.Step.{Refutes};

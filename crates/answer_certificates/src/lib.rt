@@ -15,19 +15,14 @@ pub use answer::Least;
 pub use search::find_least;
 
 mod facts;
-#[cfg(test)]
-mod least_trace_tests;
 mod part;
 mod reach;
 mod shrink;
 
+ghost use Rattle.answer_certificates.specs.Kept.{KeptFactsRuleOut};
+
 pub use facts::{Core, NumberList};
 pub use shrink::find_core;
-
-#[cfg(test)]
-mod fact_core_tests;
-
-ghost use Rattle.answer_certificates.specs.Kept.{KeptFactsRuleOut};
 
 /// A law: where clauses rule out what a target does with some of a model's facts alone, no lasso within the bounds satisfies the
 /// declarations, these facts and the command, if all formulas of the target have plain forms. The model was made ready.

@@ -1,4 +1,4 @@
-// The expression whose tuples are asked for.
+//! The reading of the expression whose tuples are asked for, and its refusals.
 
 ghost use Rattle.std.specs.Prelude.{◌≡◌, ◌<◌, ◌≤◌, length, IfOk, Err};
 ghost use Rattle.base_types.specs.declared.place.Refusal.{Refusal};

@@ -1,4 +1,4 @@
-// A trace is judged part by part.
+//! A trace is judged part by part.
 
 ghost use Rattle.std.specs.Prelude.{◌≡◌, ◌↔◌, IfOk, IsTrue};
 ghost use Rattle.answer_trace.specs.Text.{trace_text};

@@ -1,4 +1,4 @@
-// The tuples of an expression on a trace.
+//! The answer on an expression: its tuples at a position of a trace.
 
 ghost use Rattle.std.specs.Prelude.{◌≡◌, IfOk};
 ghost use Rattle.core_tree.specs.Trees.{term_of};

@@ -1,4 +1,4 @@
-// The bounds of a target.
+//! The upper bounds of a target.
 
 ghost use Rattle.std.specs.Prelude.{◌≡◌, IfOk};
 ghost use Rattle.answer_search.specs.Limits.{AreLimitsOf};

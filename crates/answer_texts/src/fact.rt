@@ -1,4 +1,4 @@
-// How a fact is named in a line.
+//! How a fact is named in a line.
 
 ghost use Rattle.std.specs.Prelude.{◌≡◌, ◌++◌, OnOk, IfOk, slice_get};
 ghost use Rattle.answer_texts.specs.Facts.{place_words, name_or_dash, label_words, fact_words, text_label, source_label, instance_label, fact_name};

@@ -1,4 +1,4 @@
-// The number of a universe that a text stands for.
+//! The number of a universe that a text stands for.
 
 ghost use Rattle.std.specs.Prelude.{◌≡◌, ◌<◌, ◌≤◌, ℕ, List, length, min, nat_eq, IfOk, OnOk, Some, if◌then◌else◌};
 ghost use Rattle.std.specs.HashMap.{get_by};

@@ -1,4 +1,4 @@
-// The lines of a text that are left.
+//! The lines of a text that are left to be read.
 
 ghost use Rattle.std.specs.Prelude.{◌≡◌, ◌∷◌, [], ◌+◌, ◌<◌, ◌^◌, length, IfSome, IfNone, IsTrue, ◌↔◌};
 ghost use Rattle.base_words.specs.Words.{parts};

@@ -1,4 +1,4 @@
-// Reading the tuples of a line.
+//! Reading the tuples of a line, which stand in order.
 
 ghost use Rattle.std.specs.Prelude.{◌≡◌, ◌≤◌, ◌<◌, [], ◌∷◌, ◌++◌, length, All, IfOk, IfSome, OnOk, OnErr, Some, None, true, option_map, if◌then◌else◌};
 ghost use Rattle.core_tuples.specs.Index.{IsNumber};

@@ -1,4 +1,5 @@
-// Owned texts and bytes that contracts see as lists.
+//! Owned texts and bytes that contracts see as lists.
+
 ghost use Rattle.std.specs.Prelude.{◌≡◌, ℕ, List, IfOk, string_bytes};
 
 use std::alloc::{AllocError, Global};

@@ -1,4 +1,4 @@
-// Whether a lasso keeps the numbers of the scopes.
+//! Whether a lasso keeps the numbers of the scopes: a count of the atoms of each sig, as a node.
 
 ghost use Rattle.std.specs.Prelude.{◌≡◌, ◌↔◌, ◌<◌, ◌+◌, ◌*◌, ℕ, Bool, true, false, IfOk, OnOk, Some, None, length, slice_get};
 ghost use Rattle.std.specs.List.{count_by};

@@ -1,4 +1,4 @@
-// In what formulas are read.
+//! The setting of an encoding: the table, the scopes and the places.
 
 use bmc_windows::Frame;
 use bound_uppers::{Bounds, Layout};

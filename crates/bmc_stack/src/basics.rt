@@ -1,4 +1,4 @@
-// Adding to a store and taking from it.
+//! Adding to the store and taking from it: sets, integers and rows.
 
 ghost use Rattle.std.specs.Prelude.{◌≡◌, ◌∷◌, [], ◌++◌, ℕ, Bool, List, IfOk, OnOk, length, take};
 ghost use Rattle.gate_trait.specs.Built.{AllIn};

@@ -1,4 +1,4 @@
-// The sets of comprehensions.
+//! The sets of comprehensions, from the rows that say where each tuple is found.
 
 ghost use Rattle.std.specs.Prelude.{IfOk, OnOk};
 ghost use Rattle.gate_matrix.specs.Matrices.{AllBelong};

@@ -1,4 +1,4 @@
-// Rows over the windows of all loops.
+//! Rows over the windows of all loops: `before`, `since` and `until` go along each by itself.
 
 ghost use Rattle.std.specs.Prelude.{◌≡◌, ◌↔◌, ◌<◌, ◌≤◌, ◌+◌, ◌-◌, ◌++◌, ℕ, Bool, List, IfOk, OnOk, IsTrue, length, replicate, slice_get, Some, take, drop};
 ghost use Rattle.gate_trait.specs.Built.{Keeps, AllIn};

@@ -1,4 +1,4 @@
-// Tasks that look into a formula: what it is made of is done first.
+//! Tasks that expand a formula: what it is made of is done first.
 
 ghost use Rattle.std.specs.Prelude.{◌≡◌, ◌∷◌, [], Bool, false, map, length, OnOk, IfOk, None, Some};
 ghost use Rattle.std.specs.Borrow.{Bor};

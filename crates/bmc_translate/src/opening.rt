@@ -1,4 +1,4 @@
-// Tasks that look into an expression: what it is made of is done first.
+//! Tasks that expand an expression: what it is made of is done first.
 
 ghost use Rattle.std.specs.Prelude.{◌≡◌, ◌<◌, ◌+◌, ◌∷◌, [], ℕ, length, OnOk, IfOk, IsTrue, Vec};
 ghost use Rattle.std.specs.declared.alloc.Global.{Global as Heap};

@@ -1,4 +1,4 @@
-// The tasks one after the other.
+//! The machine: the tasks are done one after the other, and what each of them leaves.
 
 ghost use Rattle.std.specs.Prelude.{◌≡◌, ◌∷◌, [], ℕ, false, OnOk, IfOk, IsTrue};
 ghost use Rattle.gate_trait.specs.Built.{Keeps};

@@ -1,4 +1,4 @@
-// Small questions on tuples and atoms.
+//! Questions on the atoms of variables: the first of a tuple, and whether one is apart.
 
 use core_tuples::Tuple;
 

@@ -32,6 +32,3 @@ pub mod pairs;
 pub use choices::{first_number, is_apart};
 pub use frame::{Frame, Stretch, frame_of};
 pub use pairs::{Pairs, found_at, key_place, moved, pair_at, pairs_of, repeated};
-
-#[cfg(test)]
-mod tests;

@@ -1,4 +1,5 @@
--- The rules that look into the formulas that count for a command, each with the places at which it is broken.
+-- The rules on scopes that look into formulas, each with the places at which it is broken.
+-- The formulas are those that count for a command.
 use Rattle.std.specs.Prelude.{◌≡◌, ◌⊎◌, ℕ, ℤ, ◌<◌, Some, slice_get}
 use Rattle.base_types.specs.declared.place.Place.{Place}
 use Rattle.base_types.specs.declared.place.Rule.{Rule}

@@ -1,5 +1,6 @@
-//! The rules that look into formulas: numbers outside the bitwidth, and limits on nested past
-//! operators and on depth once calls are written out.
+//! The rules on scopes that look into formulas.
+//! They are those on numbers outside the bitwidth, and the limits on nested past operators and on
+//! depth once calls are written out.
 
 ghost use Rattle.std.specs.Prelude.{◌≡◌, ◌≤◌, IfErr};
 ghost use Rattle.bound_scopes.specs.Limits.{IsValueFault};

@@ -1,4 +1,4 @@
-// The lasso for which an assignment of the table's variables stands.
+//! The lasso for which an assignment of the table's variables stands.
 
 ghost use Rattle.std.specs.Prelude.{◌≡◌, ◌<◌, ◌≤◌, ◌^◌, ◌+◌, ◌++◌, ℕ, true, [], List, length, slice_get, Some, IfOk, OnOk, map};
 ghost use Rattle.std.specs.List.{range_with_len};

@@ -1,4 +1,4 @@
-// Which numbers of the universe stand for the atoms of a sig.
+//! Which numbers of the universe stand for the atoms of a sig.
 
 ghost use Rattle.std.specs.Prelude.{◌≡◌, ◌+◌, ◌<◌, ◌≤◌, ◌^◌, IfOk, IfSome, Some, length, slice_get};
 ghost use Rattle.core_tree.specs.Columns.{or_zero};

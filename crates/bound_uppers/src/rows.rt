@@ -1,4 +1,4 @@
-// The tuples of rows of kinds.
+//! The tuples of rows of kinds.
 
 ghost use Rattle.std.specs.Prelude.{◌≡◌, ◌⊎◌, ◌<◌, ◌≤◌, ◌+◌, ◌∷◌, [], ℕ, List, All, length, take, slice_index, IfOk, OnOk, IsTrue, ◌↔◌};
 ghost use Rattle.core_tuples.specs.Sets.{In, HasJust};

@@ -1,4 +1,4 @@
-// The lasso with fewest states and the same sequence.
+//! The lasso with fewest states and the same sequence.
 
 ghost use Rattle.std.specs.Prelude.{◌≡◌, ◌≢◌, ◌<◌, ◌≤◌, ◌+◌, ◌-◌, ◌%◌, ◌↔◌, ℕ, length, take, slice_index, IfOk, IsTrue};
 ghost use Rattle.bound_uppers.specs.Shortest.{IsSameSequence, HasFewestStates, HasEarliestLoop};

@@ -1,4 +1,4 @@
-// Sums of sizes that stand at places.
+//! Sums of sizes that stand at places, with overflow as want of memory.
 
 ghost use Rattle.std.specs.Prelude.{◌≡◌, ◌<◌, ◌+◌, ◌*◌, ◌^◌, ℕ, length, if◌then◌else◌, eqb, slice_index, IfOk, OnOk};
 ghost use Rattle.bound_uppers.specs.Sums.{AreSizes, AreStarts};

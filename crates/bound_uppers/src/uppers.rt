@@ -1,4 +1,4 @@
-// The upper bounds of the relations of a model.
+//! The upper bounds of the relations of a model, from its types, literals and scopes.
 
 ghost use Rattle.std.specs.Prelude.{◌≡◌, ◌<◌, ◌≤◌, ◌+◌, ◌++◌, ◌∷◌, [], ◌↔◌, ℕ, All, map, IfOk, OnOk, IsTrue, length, slice_get, slice_index, Some};
 ghost use Rattle.core_tuples.specs.Sets.{HasJust};

@@ -1,4 +1,5 @@
-// A search: the model is loaded and analysed, and what was found is written.
+//! A search: the model is loaded and analysed, and what was found is written.
+
 ghost use Rattle.std.specs.Prelude.{◌≡◌, Some, IfOk, IsTrue};
 ghost use Rattle.base_types.specs.Causes.{NoneFell};
 ghost use Rattle.syntax_lexer.specs.Tokens.{tokens_of};

@@ -1,4 +1,5 @@
-// What the program has to say, with its status and its text.
+//! An answer is a status and a text.
+
 ghost use Rattle.std.specs.Prelude.{◌≡◌, IfOk, string_bytes};
 ghost use Rattle.cli_run.specs.Answer.{text_of, status_of, checked_line, fault_line, refused_line, numbered_line};
 

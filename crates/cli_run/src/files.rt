@@ -1,4 +1,5 @@
-// A file is asked for as a whole.
+//! A file is asked for as a whole.
+
 ghost use Rattle.std.specs.Prelude.{◌≡◌, ◌+◌, ◌<◌, ◌≤◌, ◌^◌, Ok, cond, nat_le, length};
 ghost use Rattle.base_types.specs.Causes.{NoneFell};
 ghost use Rattle.cli_run.specs.Files.{IsFile, at_start};

@@ -1,4 +1,5 @@
-// The top call.
+//! The top call does what the words ask for, and writes the answer by one call.
+
 ghost use Rattle.std.specs.Prelude.{◌≡◌, ◌≢◌, ◌⊎◌, ℕ, List, map, string_bytes, vec_len, Some, None, Err, IsTrue};
 ghost use Rattle.base_types.specs.Causes.{NoneFell, Rose};
 ghost use Rattle.base_types.specs.Texts.{Texts};

@@ -1,4 +1,5 @@
-// A trace is read: the model is loaded, then the expression is read, then the file of the trace.
+//! A trace is read: the model is loaded, then the expression is read, then the file of the trace.
+
 ghost use Rattle.std.specs.Prelude.{◌≡◌, ◌≤◌, length, true, is_some, Some, IfOk, IsTrue};
 ghost use Rattle.base_types.specs.Causes.{NoneFell};
 ghost use Rattle.syntax_lexer.specs.Tokens.{tokens_of};

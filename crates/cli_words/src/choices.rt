@@ -1,4 +1,5 @@
-// The settings that are chosen by names and numbers.
+//! Some settings are chosen by names and numbers, each of them from a few.
+
 ghost use Rattle.std.specs.Prelude.{◌≡◌};
 ghost use Rattle.std.specs.Prelude.{option_and_then};
 ghost use Rattle.cli_words.specs.Given.{lent};

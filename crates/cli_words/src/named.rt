@@ -1,4 +1,5 @@
-// What is chosen by a word: the mode, and the part of the answer that is written.
+//! What is chosen by a word: the mode, and the part of the answer that is written.
+
 ghost use Rattle.std.specs.Prelude.{◌≡◌};
 ghost use Rattle.cli_words.specs.Named.{mode_named, later_mode_named, part_named, takes_second, searches};
 

@@ -10,6 +10,3 @@ pub use lasso::{Lasso, State, make_lasso};
 pub use scope::Scope;
 pub use scopes::{Scopes, SigScope, SigScopeList};
 pub use target::Target;
-
-#[cfg(test)]
-mod tests;

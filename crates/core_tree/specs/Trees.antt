@@ -1,5 +1,5 @@
--- Formulas and expressions as plain data, without where their parts lie in memory. Every definition
--- that speaks of formulas and expressions speaks of these.
+-- Formulas and expressions as plain data, without where their parts lie in memory.
+-- Every definition that speaks of formulas and expressions speaks of these.
 use Rattle.std.specs.Prelude.{ℕ, ℤ, List, [], ◌∷◌}
 use Rattle.base_types.specs.declared.place.Place.{Place}
 use Rattle.core_tree.specs.declared.operators.Multiplicity.{Multiplicity}

@@ -1,4 +1,4 @@
-// The parts of a resolved model.
+//! The parts of a resolved model: sigs, fields, facts, assertions, bodies and commands.
 
 use crate::list::ItemList;
 use crate::operators::Multiplicity;

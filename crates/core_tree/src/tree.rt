@@ -1,4 +1,4 @@
-// Resolved formulas and expressions.
+//! Resolved formulas and expressions: the trees that all later stages read.
 
 use crate::operators::{
     Comparison, Connective, IntOp, Multiplicity, Quantity, RelationOp, TemporalBinary,

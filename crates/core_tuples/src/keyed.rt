@@ -1,4 +1,4 @@
-//! A tuple with its index.
+//! A tuple with its index, by which tuples of one number of columns compare as one number.
 
 ghost use Rattle.std.specs.Prelude.{◌≡◌, length, IfOk};
 ghost use Rattle.core_tuples.specs.Sets.{tuple_cmp};

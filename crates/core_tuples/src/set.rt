@@ -1,4 +1,4 @@
-//! A finite set of tuples.
+//! A finite set of tuples, kept as a vector in order without repeats.
 
 ghost use Rattle.std.specs.Prelude.{◌≡◌, ◌↔◌, ◌⊎◌, ℕ, [], ◌∷◌, ◌++◌, ◌<◌, ◌≤◌, All, length, IfOk, OnOk, OnErr, IfErr, Contains, IsTrue, slice_get, Some};
 ghost use Rattle.std.specs.List.Sorted.{IsStrictlySortedBy};

@@ -1,4 +1,4 @@
-// What names stand for.
+//! What names stand for in an environment, and how one is looked up.
 
 ghost use Rattle.std.specs.Prelude.{ℕ, List};
 ghost use Rattle.core_tree.specs.declared.model.Body.{Body};

@@ -1,4 +1,4 @@
-// What formulas are judged in.
+//! The setting: a model with its scopes, a lasso, and the window of that lasso.
 
 ghost use Rattle.std.specs.Prelude.{◌≡◌, ◌<◌, ◌≤◌, ◌+◌, ◌^◌, length, IfOk};
 ghost use Rattle.core_meaning.specs.Kept.{atom_count};

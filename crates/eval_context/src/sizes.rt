@@ -1,4 +1,4 @@
-// How large the universe of some scopes is.
+//! How large the universe of some scopes is.
 
 ghost use Rattle.std.specs.Prelude.{◌≡◌, ◌≤◌, ◌+◌, ◌^◌, IfSome, IsTrue};
 ghost use Rattle.core_meaning.specs.Kept.{atoms_of_sig, atom_count};

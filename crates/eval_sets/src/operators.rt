@@ -1,4 +1,4 @@
-// The operators on sets.
+//! The operators on sets: union, difference, intersection, join, product and the rest.
 
 ghost use Rattle.std.specs.Prelude.{◌≡◌, ◌∷◌, [], ℕ, IfOk};
 ghost use Rattle.core_tuples.specs.Sets.{In};

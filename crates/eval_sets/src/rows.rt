@@ -1,4 +1,4 @@
-// Sets made tuple by tuple.
+//! Sets made tuple by tuple: what is kept of a set, and what is added to one.
 
 ghost use Rattle.std.specs.Prelude.{◌≡◌, ◌≤◌, ◌↔◌, ◌⊎◌, ◌++◌, ◌∷◌, [], ℕ, List, length, slice_index, All, IsTrue, IfOk, OnOk, OnErr, MatchOption};
 ghost use Rattle.core_tuples.specs.Index.{IsNumber};

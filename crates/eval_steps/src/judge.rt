@@ -1,4 +1,4 @@
-// What formulas are judged by.
+//! The judge: a model with its scopes, a lasso, and a weight for each body.
 
 ghost use Rattle.std.specs.Prelude.{◌≡◌, ◌↔◌, ◌<◌, ◌≤◌, ◌+◌, ◌*◌, ◌^◌, ◌-◌, ℕ, List, IfOk};
 ghost use Rattle.core_tree.specs.Trees.{within, term_of, claim_of};

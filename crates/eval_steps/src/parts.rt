@@ -1,4 +1,4 @@
-// The operators on sets that were found.
+//! The sets of relations and constants at a position, and the operators on sets that were found.
 
 ghost use Rattle.std.specs.Prelude.{◌≡◌, ◌↔◌, ◌∷◌, [], ◌+◌, ◌<◌, ◌^◌, ℕ, ℤ, length, slice_get, Some, IfOk, IsTrue};
 ghost use Rattle.core_tuples.specs.Sets.{In};

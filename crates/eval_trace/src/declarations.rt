@@ -1,4 +1,4 @@
-// Whether the declarations of a model hold.
+//! Whether the declarations of a model hold, and the least position at which they don't.
 
 ghost use Rattle.std.specs.Prelude.{◌↔◌, ◌<◌, ◌^◌, ◌-◌, ℕ, IfOk, IsTrue};
 ghost use Rattle.core_meaning.specs.Satisfied.{DeclaresAt};

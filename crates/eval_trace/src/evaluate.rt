@@ -1,4 +1,4 @@
-// What is asked of a model on a lasso.
+//! Whether a closed formula holds on a lasso, and the tuples of a closed expression.
 
 ghost use Rattle.std.specs.Prelude.{◌↔◌, IfOk, IsTrue};
 ghost use Rattle.core_tree.specs.Trees.{term_of, claim_of};

@@ -1,4 +1,4 @@
-// Whether the declaration of a field holds.
+//! Whether the declaration of a field holds at a position.
 
 ghost use Rattle.std.specs.Prelude.{◌≡◌, ◌↔◌, ℕ, List, IfOk, IsTrue};
 ghost use Rattle.core_meaning.specs.Declarations.{FieldDeclared};

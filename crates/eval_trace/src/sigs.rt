@@ -1,4 +1,4 @@
-// Whether the declaration of a sig holds.
+//! Whether the declaration of a sig holds at a position.
 
 ghost use Rattle.std.specs.Prelude.{◌≡◌, ◌↔◌, ℕ, List, IfOk, IsTrue, MatchOption};
 ghost use Rattle.core_tuples.specs.Sets.{In};

@@ -1,4 +1,4 @@
-// Bounds, and the multiplicities of their arrows.
+//! Whether a set lies in a bound, and has the multiplicities of its arrows.
 
 ghost use Rattle.std.specs.Prelude.{◌≡◌, ◌↔◌, List, length, ℕ, IfOk, IsTrue};
 ghost use Rattle.core_tree.specs.Trees.{term_of};

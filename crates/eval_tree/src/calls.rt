@@ -1,4 +1,4 @@
-// The bodies that are called.
+//! The bodies that are called.
 
 ghost use Rattle.std.specs.Prelude.{◌↔◌, map, IfOk, IsTrue};
 ghost use Rattle.core_tree.specs.Trees.{term_of, term_list};

@@ -1,4 +1,4 @@
-// Choices of atoms for the variables of a list.
+//! Choices of atoms for the variables of a list.
 
 ghost use Rattle.std.specs.Prelude.{◌↔◌, ◌+◌, ℕ, List, [], map, length, IfOk, IsTrue};
 ghost use Rattle.core_tree.specs.Trees.{claim_of, variable_of, variable_list, no_variables};

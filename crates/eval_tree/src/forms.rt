@@ -1,4 +1,4 @@
-// The tuples of an expression, and the truth of a formula, form by form.
+//! The tuples of an expression, and the truth of a formula, form by form.
 
 ghost use Rattle.std.specs.Prelude.{◌↔◌, map, IfOk, IsTrue};
 ghost use Rattle.core_tree.specs.Trees.{term_of, claim_of, claim_list};

@@ -1,4 +1,4 @@
-// Temporal operators.
+//! The temporal operators: a walk ahead for `until`, and one back for `since`.
 
 ghost use Rattle.std.specs.Prelude.{◌↔◌, ◌+◌, IfOk, IsTrue};
 ghost use Rattle.core_tree.specs.Trees.{claim_of};

@@ -1,4 +1,4 @@
-// What the parts of a form are evaluated with.
+//! The walk: what the parts of a form are evaluated with.
 
 ghost use Rattle.std.specs.Prelude.{◌↔◌, IfOk, IsTrue};
 ghost use Rattle.core_tree.specs.Trees.{term_of, claim_of};

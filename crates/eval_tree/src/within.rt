@@ -1,4 +1,4 @@
-// Bounds, where calls nest below a number.
+//! Whether a set lies in a bound, where calls nest below a number.
 
 ghost use Rattle.std.specs.Prelude.{◌↔◌, IfOk, IsTrue};
 ghost use Rattle.core_tree.specs.Trees.{term_of};

@@ -1,7 +1,7 @@
-// Kernel formulas under several variables, written with one variable at a time.
-//
-// A variable whose atom differs from those of some variables before it has a bound without these.
-// That needs names of which none hides another: variables whose names don't rise stay together.
+//! Kernel formulas under several variables, written with one variable at a time.
+//!
+//! A variable whose atom differs from those of some variables before it has a bound without these.
+//! That needs names of which none hides another: variables whose names don't rise stay together.
 
 ghost use Rattle.std.specs.Prelude.{◌≡◌, ◌<◌, ◌≤◌, [], ◌∷◌, take, length, map, IfOk};
 ghost use Rattle.core_tree.specs.declared.operators.RelationOp.TheVariants.{Difference as DifferenceOf};

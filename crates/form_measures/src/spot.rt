@@ -1,5 +1,5 @@
-//! Places across instances, in the order in which refusals count: the earliest instance in load
-//! order, then the least place.
+//! Places across instances, in the order in which refusals count.
+//! The earliest instance in load order comes first, and in it the least place.
 
 use base_types::Place;
 use core_tree::Origin;

@@ -1,4 +1,4 @@
-// The formulas that a lasso is to satisfy.
+//! The target of a command: the formulas that a lasso is to satisfy, in order.
 
 ghost use Rattle.std.specs.Prelude.{◌≡◌, List, [], ◌∷◌, ◌++◌, map, All, IfOk};
 ghost use Rattle.core_tree.specs.declared.operators.TemporalUnary.TheVariants.{Always as AlwaysOf};

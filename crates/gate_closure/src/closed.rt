@@ -1,4 +1,4 @@
-//! The transitive closure.
+//! The transitive closure, by squaring the matrix again and again.
 
 ghost use Rattle.std.specs.Prelude.{◌≡◌, ◌≤◌, ◌<◌, ◌+◌, ◌*◌, ◌↔◌, ℕ, Bool, true, List, All, IfOk};
 ghost use Rattle.gate_trait.specs.Built.{Keeps};

@@ -1,4 +1,4 @@
-//! Override and restriction: tuples that are kept where their first or last atom is, or isn't, in a set.
+//! Override and restriction, by whether the first or last atom of a tuple is in a set.
 
 ghost use Rattle.std.specs.Prelude.{◌≡◌, ◌≤◌, ◌<◌, ◌+◌, ◌↔◌, ◌&&◌, ◌∷◌, [], not, ℕ, Bool, true, List, All, length, IfOk, OnOk, Option};
 ghost use Rattle.std.specs.Option.{ForSome};

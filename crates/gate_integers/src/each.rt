@@ -1,4 +1,4 @@
-//! One step for each bit of a list.
+//! One step for each bit of a list: negation, choice, and whether some bit is true.
 
 ghost use Rattle.std.specs.Prelude.{◌≡◌, ◌<◌, ◌&&◌, ℕ, Bool, not, false, length, map, IfOk, nat_lt, replicate, if◌then◌else◌};
 ghost use Rattle.gate_trait.specs.Built.{Keeps, AllIn, xor};

@@ -1,4 +1,4 @@
-//! Products.
+//! Products, as sums of shifted rows.
 
 ghost use Rattle.std.specs.Prelude.{◌≡◌, ◌<◌, ◌+◌, ◌*◌, ◌^◌, ◌%◌, ◌*ℤ◌, ℕ, Bool, length, IfOk};
 ghost use Rattle.gate_trait.specs.declared.node.Node.{Node as CircuitNode};

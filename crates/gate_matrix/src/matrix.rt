@@ -1,4 +1,4 @@
-//! A matrix: tuples with nodes.
+//! A matrix: a sparse map from tuples to nodes, in the order of the tuples.
 
 ghost use Rattle.std.specs.Prelude.{◌≡◌, ◌<◌, ◌≤◌, ℕ, List, [], All, length, map, IfOk, OnOk, OnErr, Some, slice_get, if◌then◌else◌};
 ghost use Rattle.core_tuples.specs.Sets.{is_same};

@@ -1,4 +1,4 @@
-//! Where a tuple stands among entries in order.
+//! Where a tuple stands among entries in order, by binary search.
 
 ghost use Rattle.std.specs.Prelude.{◌≡◌, ◌↔◌, ◌<◌, ℕ, All, length, IfOk, IfErr, IsTrue, slice_get, Some};
 ghost use Rattle.std.specs.List.Sorted.{IsStrictlySortedBy};

@@ -1,4 +1,4 @@
-// Operators and comparisons on integers.
+//! Operators and comparisons on integers, and the number of tuples of a set.
 
 ghost use Rattle.std.specs.Prelude.{◌≡◌, ◌↔◌, ◌<◌, ◌<ℤ◌, ◌+ℤ◌, ℕ, Bool, true, IfOk, OnOk, length, map};
 ghost use Rattle.gate_trait.specs.Built.{Keeps, AllIn};

@@ -1,4 +1,4 @@
-// Sets as integers, and integers as sets.
+//! Sets as integers, and integers as sets.
 
 ghost use Rattle.std.specs.Prelude.{◌≡◌, ◌≤◌, ◌+◌, ◌^◌, ℕ, Bool, length, IfOk, IsTrue};
 ghost use Rattle.gate_trait.specs.Built.{Keeps, AllIn};

@@ -1,4 +1,4 @@
-// Operators on sets.
+//! Operators on one or two sets, with the error of memory where the columns don't fit.
 
 ghost use Rattle.std.specs.Prelude.{◌≡◌, ◌≤◌, ◌+◌, ℕ, Bool, IfOk, OnOk, IsTrue};
 ghost use Rattle.gate_trait.specs.Built.{Keeps};

@@ -1,4 +1,4 @@
-// The matrices of what depends on no other expression, and parts of matrices.
+//! The matrices of relations over their variables, of atoms and of intervals of numbers.
 
 ghost use Rattle.std.specs.Prelude.{◌≡◌, ◌<◌, ◌||◌, ◌∷◌, [], ℕ, Bool, List, IfOk, OnOk, IsTrue, All, length};
 ghost use Rattle.core_tuples.specs.Index.{IsNumber};

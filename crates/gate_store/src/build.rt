@@ -1,4 +1,4 @@
-//! Gates are simplified before they are added.
+//! The simplifications that are tried before a gate is added.
 
 ghost use Rattle.std.specs.Prelude.{◌≡◌, ◌<◌, ◌&&◌, ◌||◌, ℕ, Bool, not, length, IfOk, slice_index_or, false, if◌then◌else◌};
 ghost use Rattle.gate_trait.specs.Circuit.{BelongsTo, value_in, values};

@@ -1,4 +1,4 @@
-//! Which gates some nodes reach.
+//! Which gates the roots reach, marked from the last gate to the first.
 
 ghost use Rattle.std.specs.Prelude.{◌≡◌, ◌<◌, ◌≤◌, ℕ, Bool, List, All, length, slice_get, Some, true, if◌then◌else◌, IfOk};
 ghost use Rattle.gate_trait.specs.declared.gate.Gate.{Gate as CircuitGate};

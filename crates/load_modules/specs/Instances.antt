@@ -1,5 +1,6 @@
--- The instances of a root: the least set of texts with arguments that holds the root without arguments and is closed under opens,
--- those that enums imply and that of the integers among them. Nothing here says in which order they are found.
+-- The instances of a root: the least set of texts with arguments that holds the root without
+-- arguments and is closed under opens, those that enums imply and that of the integers among them.
+-- Nothing here says in which order they are found.
 use Rattle.std.specs.Prelude.{◌≡◌, ◌≢◌, ℕ, zero, suc, ◌+◌, ◌<◌, Bool, false, List, [], ◌∷◌, length, slice_get, Option, Some, None, codes}
 use Rattle.base_types.specs.Texts.{Texts}
 use Rattle.base_types.specs.declared.place.Place.{Place}

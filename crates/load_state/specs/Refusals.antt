@@ -1,4 +1,4 @@
--- The refusals of loading.
+-- The refusals of loading: the rules that a text can break while it is loaded.
 use Rattle.std.specs.Prelude.{ℕ, ◌==◌, Bool, [], ◌∷◌}
 use Rattle.std.specs.List.{list_any}
 use Rattle.base_types.specs.Place.{number_of}

@@ -1,4 +1,5 @@
-//! Refusals, each with the name of the text that has its place.
+//! A refusal goes with the name of the text that has its place.
+
 ghost use Rattle.std.specs.Prelude.{◌≡◌, IfOk};
 ghost use Rattle.load_state.specs.Causes.{IsRefusal, IsUnread};
 ghost use Rattle.load_state.specs.Refusals.{start_of};

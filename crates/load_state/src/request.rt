@@ -1,4 +1,4 @@
-//! What an open asks for.
+//! An open asks for a text with arguments, under an alias.
 #![tactic(auto, using(crate::proofs::Faults::refusal_is_quiet, crate::proofs::Faults::memory_is_quiet, crate::proofs::Refusals::memory_at_some, crate::proofs::Refusals::memory_at_open, crate::proofs::Refusals::refused_some, crate::proofs::Refusals::refused_given, crate::proofs::Refusals::refused_alias))]
 
 ghost use Rattle.std.specs.Prelude.{◌≡◌, ◌<◌, IfErr, IfOk, Some, length, slice_get};

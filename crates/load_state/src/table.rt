@@ -1,4 +1,4 @@
-//! What a text says of the names of its sigs and parameters.
+//! A table says what names stand for in a text: its sigs, enums and parameters.
 #![tactic(auto, using(crate::proofs::Opens::enums_next))]
 
 ghost use Rattle.std.specs.Prelude.{◌≡◌, ◌+◌, ◌++◌, ◌∷◌, [], IfOk, IfSome, OnOk, Some, length, map, slice_get};

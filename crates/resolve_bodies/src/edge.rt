@@ -1,4 +1,4 @@
-// A call in a body.
+//! A call leads from the body in which it stands to the body that is called.
 
 use base_types::Place;
 use std::alloc::{AllocError, Global};

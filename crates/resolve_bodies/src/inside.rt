@@ -1,4 +1,4 @@
-// What stands in the braces of a body.
+//! The inside of a body: what stands in its braces, with the names of its head as locals.
 
 use crate::head::Head;
 use core_tree::{Expr, Formula};

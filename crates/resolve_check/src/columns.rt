@@ -1,4 +1,4 @@
-//! Numbers of columns, where the parts of an expression fit.
+//! Counts the columns of an expression whose parts fit.
 
 ghost use Rattle.std.specs.Prelude.{◌≡◌, ◌&&◌, map};
 ghost use Rattle.core_tree.specs.Columns.{combined, or_zero};

@@ -1,4 +1,4 @@
-// The candidates of a name.
+//! Gathers the candidates of a name, by where its root stands.
 
 use crate::faults::Broken;
 use crate::known::{Known, is_integer, literal_number, sig_type};

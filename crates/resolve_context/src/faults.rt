@@ -1,4 +1,4 @@
-// Broken rules, of which the first one counts.
+//! Broken rules have an order, and the first one counts.
 
 use base_types::Place;
 

@@ -1,4 +1,4 @@
-// The words and operators of the text in the terms of the model.
+//! Puts the words and operators of the text into the terms of the model.
 
 use core_tree::{
     Comparison, Connective, IntOp, Multiplicity, Quantity, TemporalBinary, TemporalUnary,

@@ -1,4 +1,4 @@
-// The place of the first token of an expression.
+//! Finds the place of the first token of an expression.
 
 use base_types::Place;
 use syntax_tree::Expr;

@@ -1,4 +1,4 @@
-// Where a root stands, and what is gathered on the way.
+//! Where a root stands, and what is gathered on the way over the roots.
 
 ghost use Rattle.std.specs.Prelude.{◌≡◌, Some, None};
 ghost use Rattle.base_types.specs.declared.place.Place.{Place};

@@ -1,4 +1,4 @@
-// What becomes of a part under a choice.
+//! What a part becomes under a choice: a tree, or a call that waits for arguments.
 
 ghost use Rattle.std.specs.Prelude.{◌≡◌, ◌++◌, ◌∷◌, [], IfOk};
 ghost use Rattle.resolve_drafts.specs.Calls.{call_of, IsGiven};

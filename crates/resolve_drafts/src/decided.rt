@@ -1,4 +1,4 @@
-// The reading of a root, and its tree.
+//! A root is settled: it has its reading and the tree of it, or a reason why it has none.
 
 ghost use Rattle.std.specs.Prelude.{◌≡◌, IfOk};
 ghost use Rattle.resolve_readings.specs.Readings.{Decides, IsWithin, count_choices};

@@ -1,3 +1,5 @@
+//! A draft is a root on its way to the model: its names have candidates, the rest is resolved.
+
 use base_lists::Items;
 use base_types::Place;
 use core_tree::{Comparison, Expr, Formula, IntOp, Multiplicity};

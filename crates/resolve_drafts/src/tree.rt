@@ -1,4 +1,4 @@
-// The resolved tree of a draft under a choice.
+//! Builds the resolved tree of a draft under a choice.
 
 use crate::built::{Built, CallSite, begun, give};
 use crate::draft::{Candidate, Draft, Target};

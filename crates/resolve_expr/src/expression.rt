@@ -1,4 +1,4 @@
-// The walk over an expression or a formula, which settles the roots in it.
+//! The walk over an expression or a formula, which settles the roots in it.
 
 use crate::pieces::{
     Bound, Value, add_value, add_variables, chosen_draft, comprehended, keep_locals, let_draft,

@@ -1,4 +1,4 @@
-// What the forms of the text become, once their parts are prepared.
+//! What the forms of the text become, once their parts are prepared.
 
 use crate::roots::{Piece, Resolved, draft_of, settle_term, settle_test};
 use base_types::Place;

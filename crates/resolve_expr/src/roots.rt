@@ -1,4 +1,4 @@
-// A root with its reading.
+//! Settles a root, and gives its resolved tree with its type.
 
 use base_types::Place;
 use core_tree::{Expr, Formula};

@@ -1,4 +1,5 @@
--- Where sigs stand, as their texts tell it, and the rules that declarations of sigs and fields may break.
+-- Where sigs stand, as their texts tell it, and the rules that declarations of sigs and fields may
+-- break.
 use Rattle.std.specs.Prelude.{◌≡◌, ◌⊎◌, ℕ, ◌+◌, ◌<◌, List, [], ◌∷◌, ◌++◌, length, take, replicate, sum_by, Contains, Option, Some, None, slice_get}
 use Rattle.std.specs.List.{flat_map, filter_map}
 use Rattle.base_types.specs.declared.place.Place.{Place}

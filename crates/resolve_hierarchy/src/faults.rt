@@ -1,4 +1,4 @@
-// Broken rules, of which the first one counts.
+//! Broken rules of declarations have an order, and the first one counts.
 
 ghost use Rattle.std.specs.Prelude.{length};
 ghost use Rattle.resolve_hierarchy.specs.Refused.{is_of_hierarchy, IsFault};

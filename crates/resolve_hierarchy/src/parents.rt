@@ -1,4 +1,4 @@
-// The parents of sigs, as they are declared.
+//! Finds the parents of sigs, as they are declared.
 
 use crate::faults::{Broken, Noted, note};
 use base_lists::Items;

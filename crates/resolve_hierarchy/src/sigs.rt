@@ -1,4 +1,4 @@
-// The hierarchy, and what overlaps in it.
+//! The hierarchy of the sigs of all instances, and what overlaps in it.
 
 ghost use Rattle.std.specs.Prelude.{◌≡◌};
 ghost use Rattle.std.specs.List.{list_any};

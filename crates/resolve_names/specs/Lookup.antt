@@ -1,4 +1,5 @@
--- The opens that a look-up follows, and the declarations that it collects from the marked instances.
+-- The opens that a look-up follows, and the declarations that it collects from the marked
+-- instances.
 use Rattle.std.specs.Prelude.{ℕ, ◌+◌, ◌==◌, Bool, true, not, cond, ◌&&◌, ◌||◌, List, [], ◌∷◌, ◌++◌, Option, Some, None, slice_get}
 use Rattle.std.specs.List.{filter_map}
 use Rattle.std.specs.Str.{bytes_eq}

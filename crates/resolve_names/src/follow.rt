@@ -1,4 +1,4 @@
-// The instances to which the part before a name leads.
+//! The part of a name before its last slash leads to instances.
 
 ghost use Rattle.std.specs.Prelude.{◌≡◌, ◌+◌, ◌<◌, true, false, IfOk, [], ◌∷◌, Contains, length};
 ghost use Rattle.std.specs.Str.{bytes_eq};

@@ -1,4 +1,4 @@
-// The names of all instances, gathered.
+//! The names of all instances are gathered into one table.
 
 ghost use Rattle.std.specs.Prelude.{◌≡◌, ℕ, ◌<◌, IfOk, IfErr, length};
 ghost use Rattle.resolve_names.specs.Marks.{AreScoped, IsScoped};

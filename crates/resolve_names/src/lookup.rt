@@ -1,4 +1,4 @@
-// The declarations that a name stands for.
+//! A name stands for declarations of the instances that its own instance reaches.
 
 ghost use Rattle.std.specs.Prelude.{◌≡◌, [], ◌++◌, ◌<◌, ◌==◌, length, slice_get, IfOk, OnOk};
 ghost use Rattle.std.specs.List.{filter_map, cons_option};

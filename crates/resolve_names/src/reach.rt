@@ -1,4 +1,4 @@
-// Which instances an instance reaches by opens.
+//! An instance reaches others by opens, over any number of them.
 
 ghost use Rattle.std.specs.Prelude.{◌≡◌, ◌⊎◌, ℕ, ◌<◌, false, Contains, All, IfOk, IfSome, IfNone, Some, true, [], length, slice_get, slice_set, replicate};
 ghost use Rattle.std.specs.Bool.{Decides};

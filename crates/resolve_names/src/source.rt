@@ -1,4 +1,4 @@
-// The source of what is declared.
+//! What is declared has its source: the text of an instance, and a paragraph in it.
 
 ghost use Rattle.std.specs.Prelude.{◌<◌, length, IfSome};
 

@@ -1,4 +1,4 @@
-// The names of all instances.
+//! The table of names has, for each instance, what it declares and what it opens.
 
 ghost use Rattle.resolve_names.specs.Marks.{IsLinked};
 

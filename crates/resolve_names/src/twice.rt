@@ -1,4 +1,4 @@
-// Names that a module declares twice.
+//! A module that declares a name twice is refused.
 
 ghost use Rattle.std.specs.Prelude.{◌≡◌, ◌<◌, IfOk, IfSome, length};
 ghost use Rattle.resolve_names.specs.Refused.{IsTwice};

@@ -1,4 +1,4 @@
-// The commands of the root.
+//! Makes the commands of the root.
 
 use crate::sources::{Sources, closed_formula, setting_in};
 use crate::{

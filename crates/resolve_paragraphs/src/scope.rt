@@ -1,4 +1,4 @@
-// The scopes of commands.
+//! Makes the scopes of commands.
 
 use crate::words::last_text;
 use base_types::Place;

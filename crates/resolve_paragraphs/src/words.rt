@@ -1,4 +1,4 @@
-// The names of commands.
+//! The names of commands, and the names that they run or check.
 
 use base_types::{Name, Place};
 use std::alloc::{AllocError, Global};

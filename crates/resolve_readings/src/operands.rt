@@ -1,4 +1,4 @@
-// What is asked of operands, and the meanings that are made of theirs.
+//! What is asked of operands, and the meanings that are made of theirs.
 
 ghost use Rattle.std.specs.Prelude.{◌≡◌, ◌==◌, ◌+◌, ◌&&◌, ◌||◌, not, false, max, nat_le, IfOk};
 ghost use Rattle.resolve_types.specs.Rows.{distinct};

@@ -1,3 +1,5 @@
+//! A root as it is judged: parts with the candidates of each name, the operators, and the outcome.
+
 use crate::meaning::Meaning;
 use base_lists::Items;
 use resolve_types::Columns;

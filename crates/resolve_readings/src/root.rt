@@ -1,4 +1,4 @@
-// Which choice is the root's reading.
+//! Which choice is the root's reading.
 
 ghost use Rattle.std.specs.Prelude.{◌≡◌, [], ◌∷◌, min, ◌*◌, ◌<◌, ◌≤◌, IfOk, MatchOption};
 ghost use Rattle.resolve_readings.specs.Readings.{Decides, IsDecided, IsWithin, count_choices};

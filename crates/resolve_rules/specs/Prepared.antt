@@ -1,4 +1,5 @@
--- Roots as they are prepared: the tree of a root's parts, and in it what each candidate of each name means.
+-- Roots as they are prepared: the tree of a root's parts, and in it what each candidate of each
+-- name means.
 use Rattle.std.specs.Prelude.{◌≡◌, ℕ, Bool, true, false, List, [], ◌∷◌, ◌++◌, map, Option, Some, None, codes}
 use Rattle.base_types.specs.declared.place.Place.{Place}
 use Rattle.syntax_tree.specs.declared.operator.Infix.{Infix}

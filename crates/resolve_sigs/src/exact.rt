@@ -1,4 +1,4 @@
-// The sigs that opens give to `exactly` parameters.
+//! Finds the sigs that opens give to `exactly` parameters.
 
 use base_types::Place;
 use core_tree::Origin;

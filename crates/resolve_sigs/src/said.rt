@@ -1,4 +1,4 @@
-// What a sig's paragraph says of it.
+//! What the paragraph of a sig says of it, in the terms of the model.
 
 use base_types::Place;
 use core_tree::{Multiplicity, Origin};

@@ -1,4 +1,5 @@
-// A row of a table.
+//! A row of a table: a name, the words of a command line, and settings.
+
 use anyhow::{Context, Result, bail};
 use std::alloc::Global;
 

@@ -1,7 +1,8 @@
 //! Clauses over Boolean variables, what satisfies them, and their text in the DIMACS CNF format.
 //!
-//! The format is that of the SAT competitions: comment lines, a header `p cnf VARIABLES CLAUSES`, and the literals of
-//! each clause with a 0 behind them. A literal is the number of a variable, negated or not.
+//! The format is that of the SAT competitions: comment lines, a header `p cnf VARIABLES CLAUSES`,
+//! and the literals of each clause with a 0 behind them. A literal is the number of a variable,
+//! negated or not.
 #![tactic(auto)]
 
 mod clause;

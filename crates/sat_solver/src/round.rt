@@ -1,3 +1,5 @@
+//! One turn of the search: it propagates, and then learns from a conflict or decides.
+
 ghost use Rattle.std.specs.Prelude.{◌≡◌, ◌≢◌, ℕ, ℤ, pos, ◌+◌, ◌-◌, ◌<◌, ◌≤◌, ◌⊎◌, ◌↔◌, List, Option, Some, IfOk, OnOk, IfSome, IfNone, IsTrue, IsFalse, length};
 ghost use Rattle.std.specs.List.{All};
 ghost use Rattle.sat_lrat.specs.declared.line.Line.{Line};

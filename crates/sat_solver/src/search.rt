@@ -1,3 +1,5 @@
+//! The search takes turns until clauses are refuted or satisfied, or the budget is spent.
+
 ghost use Rattle.std.specs.Prelude.{◌≡◌, ℕ, ℤ, List, Option, IfOk, IsTrue};
 ghost use Rattle.sat_dimacs.specs.Literal.{IsSolution};
 ghost use Rattle.sat_lrat.specs.Outcome.{Answers};

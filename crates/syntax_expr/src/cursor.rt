@@ -1,4 +1,4 @@
-//! A cursor over the tokens of a text.
+//! A cursor goes over the tokens of a text.
 
 ghost use Rattle.std.specs.Prelude.{◌≡◌, ◌≢◌, ◌↔◌, [], ◌∷◌, ◌<◌, length, IsTrue, IfSome, IfOk, IfNone};
 ghost use Rattle.std.specs.Bool.{OnTrue, OnFalse};

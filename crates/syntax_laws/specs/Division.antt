@@ -1,5 +1,5 @@
--- The one division of a text: its pieces join to the text, and each is a blank, a whole comment, or the longest token that begins
--- at its place. Nothing here says how it is found.
+-- The one division of a text: its pieces join to the text, and each is a blank, a whole comment,
+-- or the longest token that begins at its place. Nothing here says how it is found.
 use Rattle.std.specs.Prelude.{◌≡◌, ℕ, ◌+◌, ◌<◌, ◌≤◌, ◌==◌, ◌&&◌, ◌||◌, Bool, true, false, if◌then◌else◌, List, [], ◌∷◌, length, take, drop, map, slice_index, Option, Some, None}
 use Rattle.std.specs.Str.{bytes_eq}
 use Rattle.base_types.specs.declared.place.Place.{Place}

@@ -1,4 +1,4 @@
-//! The tokens of a text.
+//! Cuts a whole text into its tokens, or gives the first fault.
 
 ghost use Rattle.std.specs.Prelude.{◌≡◌, ◌<◌, ◌≤◌, ◌+◌, ◌^◌, length, IfOk, vec_len};
 ghost use Rattle.syntax_tree.specs.Spelling.{EndsWell};

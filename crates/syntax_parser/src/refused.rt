@@ -1,4 +1,4 @@
-//! Refusals of a list of tokens.
+//! A parser refuses a token of its list, under a rule of the grammar, or memory was wanting.
 
 ghost use Rattle.std.specs.Prelude.{◌≡◌, ◌<◌, length, drop};
 ghost use Rattle.syntax_places.specs.Pieces.{same_place};

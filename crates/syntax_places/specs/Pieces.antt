@@ -1,4 +1,5 @@
--- What a tree keeps of the tokens that spell it: what each of them says, and the places of some of them.
+-- What a tree keeps of the tokens that spell it: what each of them says, and the places of some of
+-- them.
 use Rattle.std.specs.Prelude.{ℕ, Bool, true, false, ◌&&◌, nat_eq, List, [], ◌∷◌, ◌++◌, Option, Some, None, map}
 use Rattle.base_types.specs.declared.place.Place.{Place}
 use Rattle.syntax_tree.specs.declared.token.Token.{Token}

@@ -1,4 +1,4 @@
-//! A walk over tokens along a tree.
+//! A walk goes over tokens along a tree, and compares places on its way.
 
 ghost use Rattle.std.specs.Prelude.{◌≡◌, true};
 ghost use Rattle.syntax_places.specs.Pieces.{same_place, begins_at};

@@ -1,3 +1,5 @@
+//! The trees of expressions and formulas, as they were written.
+
 use crate::operator::{Comparison, Constant, Infix, Multiplicity, Prefix, Quantifier};
 use base_lists::{Boxed, Items};
 use base_types::{Name, Place};

@@ -1,3 +1,5 @@
+//! The trees of a module and its paragraphs, as they were written.
+
 use crate::expr::{Decl, Expr, Named, QualName};
 use crate::operator::Multiplicity;
 use base_lists::Items;

@@ -1,3 +1,5 @@
+//! Tokens: names, numbers, literals, reserved words and symbols, each with its place.
+
 ghost use Rattle.std.specs.Prelude.{◌≡◌, ◌↔◌, IsTrue};
 
 use base_types::{Name, Place};

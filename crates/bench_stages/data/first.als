@@ -1,2 +1,0 @@
-sig A {}
-run { some A } for 1
