@@ -1,4 +1,4 @@
-//! Questions on the atoms of variables: the first of a tuple, and whether one is apart.
+//! The atom of a variable, which is the first of a tuple.
 
 use core_tuples::Tuple;
 
@@ -8,15 +8,4 @@ pub fn first_number(tuple: &Tuple) -> u32 {
         Some(number) => *number,
         None => 0,
     }
-}
-
-/// Whether the atom differs from the last `apart` of the earlier ones.
-pub fn is_apart(earlier: &[u32], apart: u32, atom: u32) -> bool {
-    for (place, other) in earlier.iter().enumerate() {
-        let behind = earlier.len().saturating_sub(place);
-        if behind <= apart as usize && *other == atom {
-            return false;
-        }
-    }
-    true
 }

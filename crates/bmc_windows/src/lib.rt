@@ -29,6 +29,6 @@ pub mod choices;
 pub mod frame;
 pub mod pairs;
 
-pub use choices::{first_number, is_apart};
+pub use choices::first_number;
 pub use frame::{Frame, Stretch, frame_of};
 pub use pairs::{Pairs, found_at, key_place, moved, pair_at, pairs_of, repeated};
