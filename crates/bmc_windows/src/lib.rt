@@ -6,7 +6,7 @@
 //! formula is unrolled along it: at each of finitely many places, a node of a circuit says whether
 //! the formula holds there. These places are a window.
 //!
-//! Truth of the future alone repeats with the loop: for it the k states are window enough, and
+//! Truth of the future alone repeats with the loop: for it a window of the k states is enough, and
 //! after the last one comes the one at which the loop begins. The past takes longer. In the first
 //! round of the loop, `before` at the loop's first state looks at the state in front of the loop;
 //! in each later round it looks at the loop's last state. So the first and the second round may

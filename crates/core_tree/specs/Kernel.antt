@@ -1,4 +1,4 @@
--- The kernel of the language: what is left of calls, `let` and derived operators written out.
+-- The operators, multiplicities and variables that the kernel of the language keeps.
 use Rattle.core_tree.specs.declared.operators.Multiplicity.TheVariants.{Set}
 use Rattle.core_tree.specs.declared.operators.Comparison.{Comparison}
 use Rattle.core_tree.specs.declared.operators.Comparison.TheVariants.{Equal, Less, AtMost, Greater, AtLeast}
