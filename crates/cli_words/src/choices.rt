@@ -1,4 +1,4 @@
-//! Some settings are chosen by names and numbers, each of them from a few.
+//! The settings that words choose by names and numbers.
 
 ghost use Rattle.std.specs.Prelude.{◌≡◌};
 ghost use Rattle.std.specs.Prelude.{option_and_then};

@@ -1,4 +1,4 @@
-//! A module that declares a name twice is refused.
+//! Finds a name that a module declares twice, for sigs and parameters, or for assertions.
 
 ghost use Rattle.std.specs.Prelude.{◌≡◌, ◌<◌, IfOk, IfSome, length};
 ghost use Rattle.resolve_names.specs.Refused.{IsTwice};
