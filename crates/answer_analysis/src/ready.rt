@@ -11,7 +11,7 @@ ghost use Rattle.answer_trace.specs.Made.{AreRelationsOf, relation_labels_of, un
 
 use crate::fault::{AnalyseFault, refused_in};
 use answer_trace::{Labels, make_labels};
-use base_types::Place;
+use base_types::Position;
 use bound_scopes::{ScopeFault, scopes};
 use bound_uppers::{Bounds, BoundsFault, bounds};
 use core_meaning::{Scopes, Target};
@@ -81,7 +81,7 @@ fn bounds_of(
     loaded: &Loaded,
     model: &Model,
     scopes: &Scopes,
-    keyword: Place,
+    keyword: Position,
 ) -> Result<Bounds, AnalyseFault>
     ensures table { IfOk result IsTable }
     ensures uppers { IfOk result (λ b. AreUppers model.now scopes.now b.relations) }

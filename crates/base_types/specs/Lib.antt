@@ -1,4 +1,4 @@
 pub mod Causes
 pub mod Memory
-pub mod Place
+pub mod Position
 pub mod Texts

@@ -20,6 +20,6 @@ pub use assignment::Assignment;
 pub use library::{Fetch, FetchFault, Library};
 pub use list::Libraries;
 pub use memory::{MemoryLibrary, MemorySink};
-pub use place::{Place, Refusal, Rule};
+pub use place::{Position, Refusal, Rule};
 pub use sink::{Sink, SinkFault};
 pub use text::{Bytes, Name};

@@ -4,7 +4,7 @@ ghost use Rattle.base_types.specs.Place.{number_of};
 
 /// A place in a text. A line ends with byte 10, and a column counts bytes.
 #[derive(Clone, Copy, Debug, PartialEq, Eq)]
-pub struct Place {
+pub struct Position {
     /// The number of the text in load order, from 0.
     pub module: u32,
     /// The line, from 1.
@@ -140,5 +140,5 @@ impl Rule {
 #[derive(Clone, Copy, Debug, PartialEq, Eq)]
 pub struct Refusal {
     pub rule: Rule,
-    pub place: Place,
+    pub place: Position,
 }

@@ -4,7 +4,7 @@ ghost use Rattle.std.specs.Prelude.{◌≡◌, IfOk, string_bytes};
 ghost use Rattle.cli_run.specs.Answer.{text_of, status_of, checked_line, fault_line, refused_line, numbered_line};
 
 use answer_judge::TraceAnswer;
-use base_types::{Bytes, Name, Place, Refusal};
+use base_types::{Bytes, Name, Position, Refusal};
 use sat_verdict::{Verdict, message_of, status_of as verdict_status};
 use std::alloc::{AllocError, Global};
 
@@ -108,7 +108,7 @@ fn numbered(
     tens: u8,
     ones: u8,
     name: &str,
-    place: Place,
+    place: Position,
 ) -> Result<String, AllocError>
     ensures { IfOk result (λ text. string_bytes text ≡ numbered_line tens ones name.now place) }
 {

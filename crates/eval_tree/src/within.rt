@@ -10,7 +10,7 @@ ghost use Rattle.eval_steps.specs.Judged.{bodies, scope_names, Means};
 
 use crate::forms::{holds_in, tuples_in};
 use crate::walk::Walk;
-use core_meaning::Scope;
+use core_meaning::Environment;
 use core_tree::{Expr, Multiplicity};
 use core_tuples::TupleSet;
 use eval_sets::EvaluationFault;
@@ -23,7 +23,7 @@ pub fn is_within<'a>(
     set: &TupleSet,
     word: Multiplicity,
     bound: &Expr,
-    scope: &Scope<'_>,
+    scope: &Environment<'_>,
     position: u64,
     deep: u32,
 ) -> Result<bool, EvaluationFault>

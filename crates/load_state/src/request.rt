@@ -14,7 +14,7 @@ use crate::names::{last_part, path_text};
 use crate::refuse::refused;
 use crate::table::Enumerated;
 use base_lists::Items;
-use base_types::{Name, Place, Rule};
+use base_types::{Name, Position, Rule};
 use std::alloc::Global;
 use std::collections::HashSet;
 use syntax_tree::{ArgumentList, Open, SigName, SigRef};
@@ -23,7 +23,7 @@ use syntax_tree::{ArgumentList, Open, SigName, SigRef};
 #[derive(Drop)]
 pub struct Request {
     /// The place of a refusal of this open: that of its path, or of the enum that implies it.
-    pub place: Place,
+    pub place: Position,
     pub path: String,
     pub alias: Name,
     pub is_private: bool,

@@ -7,7 +7,7 @@ ghost use Rattle.syntax_tree.specs.Instances.{sigs_in};
 ghost use Rattle.load_state.specs.Opens.{enum_in, enums_of};
 ghost use Rattle.load_state.specs.Sigs as declares;
 
-use base_types::{Name, Place};
+use base_types::{Name, Position};
 use std::alloc::{AllocError, Global};
 use std::collections::HashMap;
 use syntax_tree::{Module, Named, Paragraph, Parameter, Qualifier};
@@ -56,7 +56,7 @@ impl Known {
 #[derive(Clone, Copy, Debug)]
 pub struct Enumerated {
     /// The place of its name.
-    pub place: Place,
+    pub place: Position,
     /// Its number among the sigs of the text.
     pub sig: u32,
 }

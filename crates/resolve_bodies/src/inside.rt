@@ -6,7 +6,7 @@ use resolve_expr::expression::prepare;
 use resolve_expr::places::{first_place, inner_place};
 use resolve_expr::roots::{Resolved, draft_of, formula_of, settle_term};
 use resolve_expr::state::{Setting, State, new_root};
-use resolve_readings::Place as RootPlace;
+use resolve_readings::RootPlace;
 use std::alloc::{AllocError, Global};
 use syntax_tree::{Fun, Paragraph, Pred};
 

@@ -1,6 +1,6 @@
 //! Broken rules have an order, and the first one counts.
 
-use base_types::Place;
+use base_types::Position;
 
 /// A rule that names and expressions may break.
 #[derive(Clone, Copy, Debug, Drop)]
@@ -25,7 +25,7 @@ pub enum Broken {
 #[derive(Clone, Copy, Debug, Drop)]
 pub struct Noted {
     pub instance: u32,
-    pub place: Place,
+    pub place: Position,
     pub broken: Broken,
 }
 
@@ -42,11 +42,11 @@ fn number_of(broken: Broken) -> u32 {
 }
 
 /// Whether a place stands before another in a text.
-pub fn is_place_before(a: Place, b: Place) -> bool {
+pub fn is_place_before(a: Position, b: Position) -> bool {
     a.line < b.line || a.line == b.line && a.column < b.column
 }
 
-fn is_same_place(a: Place, b: Place) -> bool {
+fn is_same_place(a: Position, b: Position) -> bool {
     a.line == b.line && a.column == b.column
 }
 

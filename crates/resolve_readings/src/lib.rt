@@ -3,7 +3,7 @@
 //! A name of a text may stand for several things: sigs, fields, predicates, functions. What tells
 //! them apart is what stands around the name. So names are settled root by root. Roots are
 //! comparisons, multiplicity tests, bounds, values of `let`, the expressions of a function and of
-//! `sum`, and calls of predicates ([`Place`] says where a root stands). A root inside another,
+//! `sum`, and calls of predicates ([`RootPlace`] says where a root stands). A root inside another,
 //! such as the bound in a comprehension, is settled by itself; in the outer one its form is
 //! [`Part::Known`] by then.
 //!
@@ -37,5 +37,5 @@ mod root;
 
 pub use choices::found;
 pub use meaning::{Meaning, What};
-pub use part::{Binary, Found, Multiplicity, Outcome, Part, Place, Typing, Unary};
+pub use part::{Binary, Found, Multiplicity, Outcome, Part, RootPlace, Typing, Unary};
 pub use root::decide;

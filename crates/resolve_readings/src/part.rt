@@ -22,7 +22,7 @@ pub enum Multiplicity {
 
 /// Where a root stands.
 #[derive(Clone, Copy, Debug, Drop)]
-pub enum Place {
+pub enum RootPlace {
     /// Where a formula is wanted: a comparison, or a call of a predicate.
     Formula,
     /// A bound, with its word.
@@ -51,7 +51,7 @@ pub enum Unary {
     /// The body of a `let`, whose values are roots of their own.
     Body,
     /// The whole root, in its place.
-    Fits(Place),
+    Fits(RootPlace),
 }
 
 /// An operator between two operands.

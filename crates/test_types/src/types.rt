@@ -1,6 +1,6 @@
 //! Sig 0 is top-level, sig 1 extends it and is `var`, sig 2 is `String` and sig 3 a literal's.
 
-use base_types::{Name, Place};
+use base_types::{Name, Position};
 use core_tree::{
     AssertList, BodyList, Bound, Column, CommandList, Expr, FactList, Field, FieldBound, FieldList,
     Model, Multiplicity, Origin, Row, RowList, Sig, SigKind, SigList,
@@ -11,7 +11,7 @@ use std::test::Fail;
 
 const FIRST: Origin = Origin {
     instance: 0,
-    place: Place {
+    place: Position {
         module: 0,
         line: 1,
         column: 1,
