@@ -1,4 +1,4 @@
 pub mod Causes
 pub mod Memory
-pub mod Position
+pub mod Place
 pub mod Texts
