@@ -83,6 +83,11 @@ fn taken(
     Some((built, meaning))
 }
 
+/// Whether something on which the reading of a root depends was refused.
+fn is_unjudged(root: &Root, place: RootPlace) -> bool {
+    root.is_spoilt || root.is_spoilt_formula && matches!(place, RootPlace::Formula)
+}
+
 /// The reading of a root in its place; the refusal is noted where it has none. A root in which something
 /// was refused is refused itself only where it has too many readings. Where it is a field's bound, the field
 /// has one column more.
@@ -107,7 +112,7 @@ fn settled(
     let draft = single(alloc, Unary::Fits(place), draft)?;
     let part = part_of(alloc, &draft)?;
     let outcome = settle(alloc, &setting.known.typing, &draft, &part)?;
-    if root.is_spoilt && !matches!(outcome, Settled::TooMany) {
+    if is_unjudged(&root, place) && !matches!(outcome, Settled::TooMany) {
         return Ok(None);
     }
     match outcome {
