@@ -46,7 +46,7 @@ fn function(
     let piece = prepare(alloc, setting, state, &mut root, false, &fun.value)?;
     let start = first_place(&fun.value);
     let place = RootPlace::Columns(count);
-    let draft = draft_of(piece);
+    let draft = draft_of(alloc, piece)?;
     let value = settle_term(alloc, setting, state, root, start, draft, place, 0)?;
     match value {
         None => Ok(Inside::Nothing),

@@ -25,16 +25,20 @@ pub struct Resolved {
     pub columns: Columns,
 }
 
-/// The piece in an expression's place: there a formula is never right.
-pub fn draft_of(piece: Piece) -> Draft {
-    match piece {
-        Piece::Part(draft) => draft,
-        Piece::Claim(_) => Draft::Known(formula_meaning(false), Expr::Empty),
-    }
-}
-
 pub fn single(alloc: Global, operator: Unary, inner: Draft) -> Result<Draft, AllocError> {
     Ok(Draft::Single(operator, Box::new(alloc, inner)?))
+}
+
+/// The piece in an expression's place. There a formula is never right, not even before an empty box: it
+/// stands as in the body of a `let`, where only a set is right.
+pub fn draft_of(alloc: Global, piece: Piece) -> Result<Draft, AllocError> {
+    match piece {
+        Piece::Part(draft) => Ok(draft),
+        Piece::Claim(_) => {
+            let claim = Draft::Known(formula_meaning(false), Expr::Empty);
+            single(alloc, Unary::Body, claim)
+        }
+    }
 }
 
 fn add_calls(
