@@ -50,7 +50,7 @@ tree_of (Pair' op p a q b) = pair op (tree_of a) (tree_of b)
 abbrev pub Settles : Typing → Tree → Meaning → Type 0
 Settles typing t m = (root : Part) × (tree_of root ≡ t) × Means typing root m
 
--- a formula is never right where an expression is wanted
+-- what a formula means
 abbrev pub a_formula : Meaning
 a_formula = record { what = what.Formula; marked = false; relevant = true; integer = false; widest = 0 }
 
@@ -103,7 +103,8 @@ module _ (typing : Typing) (tables : Tables) (ground : Ground) (k : ℕ) where
       in_let : (locals : Locals) (e : Expr) (bindings : List (Binding Expr)) (t : Tree) (inner : Locals) (body : Expr) (p : Position) (has_bar : Bool) → e ≡ expr.Let p bindings has_bar body → AreValues locals bindings inner → IsPart inner body t → IsPart locals e (under bindings t)
       comprehended : (locals : Locals) (e : Expr) (c : Columns) (inner : Locals) (body : Expr) (p : Position) (decls : List (Decl Expr)) (has_bar : Bool) → e ≡ expr.Comprehension p decls has_bar body → AreVariables locals no_columns decls inner c → IsPart locals e (known (set_of c false))
       summed : (locals : Locals) (e : Expr) (c : Columns) (body : Expr) (p : Position) (w : Quantifier) (decls : List (Decl Expr)) (has_bar : Bool) → e ≡ expr.Quantified p w decls has_bar body → IsSum w → IsIntType c → IsPart locals e (known (set_of c false))
-      a_claim : (locals : Locals) (e : Expr) → IsClaim e → IsPart locals e (known a_formula)
+      -- a formula is never right where an expression is wanted: it stands as in the body of a `let`
+      a_claim : (locals : Locals) (e : Expr) → IsClaim e → IsPart locals e (single unary.Body (known a_formula))
 
     -- a part with those behind it, from the left
     pub data AreLinked : Locals → Tree → List (Infix × Expr) → Tree → Type 0 where
