@@ -74,8 +74,8 @@ fn inside_pair(measure: Measure, op: TemporalBinary, depth: u32) -> u32 {
     }
 }
 
-/// The depth of the first operand of an operator, from that of the others. A row of operators of one
-/// level is one part, so there it is that of the row; but past operators nest in a row too.
+/// The depth of the first operand of an operator, from that of the others. A row of operators of
+/// one level is one part, so there it is that of the row; but past operators nest in a row too.
 fn first_inside(measure: Measure, is_row: bool, depth: u32, others: u32) -> u32 {
     match measure {
         Measure::Past => others,
@@ -105,8 +105,8 @@ fn relation_level(op: RelationOp) -> u32 {
     }
 }
 
-/// The level of the operator of a formula, where operators of that level group to the left, and else 0.
-/// A row of conjunctions is one list already.
+/// The level of the operator of a formula, where operators of that level group to the left, and
+/// else 0. A row of conjunctions is one list already.
 fn formula_level(formula: &Formula) -> u32 {
     match formula {
         Formula::Connect(Connective::Or, _, _) => 2,

@@ -56,7 +56,8 @@ fn function(
     }
 }
 
-/// Where the expression of a function stands. Where the result bound was refused, it may have any columns.
+/// Where the expression of a function stands. It may have any columns where the result bound was
+/// refused.
 fn value_place(head: &Head) -> RootPlace {
     match &head.result {
         None => RootPlace::Value,

@@ -256,9 +256,9 @@ fn widest_of(what: &What) -> u32 {
     }
 }
 
-/// The root names a body whose types aren't known, since a bound of it was refused. In the bound of a
-/// parameter or a result that body is a predicate. It is no set whatever its types are, so there it
-/// spoils only a root in a formula's place: any other is judged.
+/// The root names a body whose types aren't known, since a bound of it was refused. In the bound of
+/// a parameter or a result that body is a predicate. It is no set whatever its types are, so there
+/// it spoils only a root in a formula's place: any other is judged.
 fn spoil(setting: &Setting<'_>, root: &mut Root) {
     if setting.is_quiet {
         return;

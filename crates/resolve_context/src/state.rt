@@ -75,7 +75,12 @@ pub fn new_root() -> Root {
 /// A name, constant, number, literal or `this` of the root.
 pub fn see(root: &mut Root, place: Position)
     ensures kept { (first : Position) → root.old.first ≡ Some first → root.new ≡ root.old }
-    ensures first { root.old.first ≡ None → root.new ≡ record { first = Some place; is_unknown = root.old.is_unknown; is_spoilt = root.old.is_spoilt; is_spoilt_formula = root.old.is_spoilt_formula } }
+    ensures first { root.old.first ≡ None → root.new ≡ record {
+      first = Some place;
+      is_unknown = root.old.is_unknown;
+      is_spoilt = root.old.is_spoilt;
+      is_spoilt_formula = root.old.is_spoilt_formula;
+    } }
 {
     if root.first.is_none() {
         root.first = Some(place);

@@ -29,8 +29,8 @@ pub fn single(alloc: Global, operator: Unary, inner: Draft) -> Result<Draft, All
     Ok(Draft::Single(operator, Box::new(alloc, inner)?))
 }
 
-/// The piece in an expression's place. There a formula is never right, not even before an empty box: it
-/// stands as in the body of a `let`, where only a set is right.
+/// The piece in an expression's place. There a formula is never right, not even before an empty box:
+/// it stands as in the body of a `let`, where only a set is right.
 pub fn draft_of(alloc: Global, piece: Piece) -> Result<Draft, AllocError> {
     match piece {
         Piece::Part(draft) => Ok(draft),
