@@ -1,4 +1,4 @@
-//! The answer_analysis's program: it makes the libraries, the choosers and the sink, and ends with the status of the one call.
+//! The analyser's program: libraries, choosers, a sink, one call, and the status that it gives.
 #![tactic(auto)]
 
 use base_host::{FolderLibrary, StdSink};

@@ -1,4 +1,4 @@
-// What an analysis comes to.
+//! The answers of an analysis: a trace, none, or a budget that is spent.
 
 use answer_trace::Labels;
 use core_meaning::Lasso;

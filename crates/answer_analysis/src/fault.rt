@@ -1,9 +1,8 @@
-// Why there is no analysis.
+//! Why there is no analysis: a refusal, a library that failed, or want of memory.
 
 ghost use Rattle.answer_analysis.specs.Found.{IsLoadedFault};
 
 use base_types::{Name, Refusal};
-use load_state::LoadFault;
 use std::alloc::{AllocError, AllocFailed, Global};
 use syntax_tree::Loaded;
 
@@ -37,15 +36,6 @@ impl<T: Drop> From<AllocFailed<T>> for AnalyseFault {
 
     fn from(_: AllocFailed<T>) -> AnalyseFault {
         AnalyseFault::Memory
-    }
-}
-
-/// The fault of an analysis whose model could not be loaded.
-pub fn of_loading(fault: LoadFault) -> AnalyseFault {
-    match fault {
-        LoadFault::Refused(refusal, name) => AnalyseFault::Refused(refusal, name),
-        LoadFault::Read(name) => AnalyseFault::Read(name),
-        LoadFault::Memory => AnalyseFault::Memory,
     }
 }
 

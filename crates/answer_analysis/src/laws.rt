@@ -1,4 +1,4 @@
-// What is ruled out of a model that was made ready.
+//! A law: what is ruled out of a model that was made ready.
 
 ghost use Rattle.answer_analysis.specs.Found.{RuledOutMeansNone};
 

@@ -1,7 +1,7 @@
-//! The analysis of a model: from its texts to a trace, or to clauses that no lasso of the model satisfies with lines that
-//! refute them.
+//! The analysis of a loaded model: from its trees to a trace or to clauses with their refutation.
 //!
-//! [`prepare`] loads and resolves a model and makes what a search needs; [`analyse`] searches.
+//! [`prepare_loaded`] resolves a model and makes what a search needs; [`analyse_loaded`] searches.
+//! A law says what it means of the model that its target is ruled out (`laws`).
 #![tactic(auto)]
 
 mod answer;
@@ -9,13 +9,11 @@ mod fault;
 mod laws;
 mod ready;
 mod search;
-mod settings;
 
 pub use answer::Answer;
 pub use answer_texts::table;
 pub use fault::AnalyseFault;
 pub use form_target::{Part, PartList};
 pub use laws::ruled_out_means_none;
-pub use ready::{Prepared, prepare, prepare_loaded};
-pub use search::{analyse, analyse_loaded, is_trace, search_prepared};
-pub use settings::{Root, Settings};
+pub use ready::{Prepared, prepare_loaded};
+pub use search::{analyse_loaded, is_trace, search_prepared};

@@ -1,4 +1,4 @@
-// A model made ready for a search.
+//! A model made ready for a search: its scopes, bounds and target.
 
 ghost use Rattle.std.specs.Prelude.{◌≡◌, ◌<◌, map, IfOk, IfErr, length};
 ghost use Rattle.bound_uppers.specs.declared.table.Bound.{Bound};
@@ -9,17 +9,15 @@ ghost use Rattle.resolve_check.specs.Kept.{IsModelButTypes};
 ghost use Rattle.bound_scopes.specs.Limits.{AreScopes};
 ghost use Rattle.answer_trace.specs.Made.{AreRelationsOf, relation_labels_of, universe_texts};
 
-use crate::fault::{AnalyseFault, of_loading, refused_in};
-use crate::settings::{Root, Settings};
+use crate::fault::{AnalyseFault, refused_in};
 use answer_trace::{Labels, make_labels};
-use base_types::{Libraries, Place};
+use base_types::Position;
 use bound_scopes::{ScopeFault, scopes};
 use bound_uppers::{Bounds, BoundsFault, bounds};
 use core_meaning::{Scopes, Target};
 use core_tree::Model;
 use form_skolem::open_params;
 use form_target::{PartList, parts_of, target_of};
-use load_modules::{load, load_text};
 use resolve_check::keeps_model;
 use resolve_model::{ResolveFault, resolve};
 use std::alloc::{AllocError, Global};
@@ -38,24 +36,6 @@ pub struct Prepared {
     pub parts: PartList,
     /// How many formulas of the target say what the declarations do; those of the facts follow.
     pub first_fact: u32,
-}
-
-/// Loads the model of a root.
-pub fn load_root<L: Libraries>(
-    alloc: Global,
-    libraries: &mut L,
-    root: &Root,
-) -> Result<Loaded, AnalyseFault>
-    ensures keeps { L.told libraries.new ≡ L.told libraries.old }
-{
-    let loaded = match root {
-        Root::Named(name) => load(alloc, libraries, name.text()),
-        Root::Text(name, text) => load_text(alloc, libraries, name.text(), text.bytes()),
-    };
-    match loaded {
-        Ok(loaded) => Ok(loaded),
-        Err(fault) => Err(of_loading(fault)),
-    }
 }
 
 /// The model of what is loaded.
@@ -101,7 +81,7 @@ fn bounds_of(
     loaded: &Loaded,
     model: &Model,
     scopes: &Scopes,
-    keyword: Place,
+    keyword: Position,
 ) -> Result<Bounds, AnalyseFault>
     ensures table { IfOk result IsTable }
     ensures uppers { IfOk result (λ b. AreUppers model.now scopes.now b.relations) }
@@ -135,24 +115,12 @@ fn labels_of(alloc: Global, model: &Model, scopes: &Scopes) -> Result<Labels, Al
     make_labels(alloc, model, scopes)
 }
 
-/// Loads, resolves and bounds a model and writes its formulas in the kernel of the language. The model
-/// keeps what resolved models keep, but for the rows of its fields' types, of which no clause speaks.
+/// Resolves and bounds a loaded model and writes its formulas in the kernel of the language. The
+/// model keeps what resolved models keep, but for the rows of its fields' types, of which no
+/// clause speaks.
 ///
-/// A refusal is the first broken rule: of loading, then on names, sigs, fields and readings, then of the command and its
-/// scopes, with the name of the text that has its place.
-pub fn prepare<L: Libraries>(
-    alloc: Global,
-    libraries: &mut L,
-    settings: &Settings,
-) -> Result<Prepared, AnalyseFault>
-    ensures keeps { L.told libraries.new ≡ L.told libraries.old }
-    ensures kept { IfOk result (λ prepared. IsModelButTypes prepared.model) }
-{
-    let loaded = load_root(alloc, libraries, &settings.root)?;
-    prepare_loaded(alloc, loaded, settings.command)
-}
-
-/// The same for a model that is loaded.
+/// A refusal is the first broken rule: on names, sigs, fields and readings, then of the command
+/// and its scopes, with the name of the text that has its place.
 pub fn prepare_loaded(alloc: Global, loaded: Loaded, command: u32) -> Result<Prepared, AnalyseFault>
     ensures kept { IfOk result (λ prepared. IsModelButTypes prepared.model) }
     ensures loaded { IfOk result (λ prepared. prepared.loaded ≡ loaded) }

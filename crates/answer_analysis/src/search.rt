@@ -1,16 +1,14 @@
-// The search for a lasso.
+//! The search for a lasso that satisfies a model and its command, from loading to the answer.
 
-ghost use Rattle.std.specs.Prelude.{◌≡◌, ◌≤◌, ℕ, length, Option, IfOk, IfErr, IsTrue};
+ghost use Rattle.std.specs.Prelude.{◌≤◌, ℕ, length, Option, IfOk, IfErr, IsTrue};
 ghost use Rattle.bound_uppers.specs.Shortest.{HasFewestStates};
 ghost use Rattle.answer_analysis.specs.Found.{IsFound, IsFoundIn, IsLoadedFault, IsTraceOf};
 
 use crate::answer::Answer;
 use crate::fault::AnalyseFault;
-use crate::ready::{Prepared, load_root, prepare_loaded};
-use crate::settings::Settings;
+use crate::ready::{Prepared, prepare_loaded};
 use answer_search::{Found, search_target};
 use answer_texts::table;
-use base_types::Libraries;
 use bound_laws::satisfying_lassos_are_candidates;
 use core_meaning::Lasso;
 use eval_check::satisfies;
@@ -18,26 +16,12 @@ use sat_decide::{Boxed, Chooser};
 use std::alloc::{AllocError, Global};
 use syntax_tree::Loaded;
 
-/// Looks for a lasso that satisfies the model's declarations and facts and the command of that number.
+/// Looks for a lasso that satisfies the declarations and facts of a loaded model and the command
+/// of that number.
 ///
 /// Where there is none of as many states as the command's scopes have, the answer has clauses that just such lassos
 /// satisfy, and lines that refute them. Only under a budget the search may end before it knows. Refused as
-/// [`prepare`](crate::prepare()) is.
-pub fn analyse<L: Libraries>(
-    alloc: Global,
-    libraries: &mut L,
-    settings: &Settings,
-    chooser: Box<dyn Chooser>,
-) -> Result<Answer, AnalyseFault>
-    ensures keeps { L.told libraries.new ≡ L.told libraries.old }
-    ensures found { IfOk result (IsFound settings.now.command settings.now.budget) }
-{
-    let loaded = load_root(alloc, libraries, &settings.root)?;
-    let answer = analyse_loaded(alloc, loaded, settings.command, chooser, settings.budget)?;
-    Ok(answer)
-}
-
-/// The same for a model that is loaded, under this budget.
+/// [`prepare_loaded`](crate::prepare_loaded()) is.
 pub fn analyse_loaded(
     alloc: Global,
     loaded: Loaded,

@@ -1,4 +1,4 @@
-// What the searches come to.
+//! The answers of the searches with one state, with two, and on.
 
 use core_meaning::Lasso;
 use sat_lrat::Proof;

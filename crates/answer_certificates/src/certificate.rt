@@ -1,4 +1,4 @@
-// What a search that certifies its answer comes to.
+//! The text of a search that certifies its answer, and the check of a lasso that was found.
 
 ghost use Rattle.std.specs.Prelude.{◌≡◌, IfOk};
 ghost use Rattle.answer_analysis.specs.Found.{IsTraceOf};

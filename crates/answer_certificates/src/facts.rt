@@ -1,4 +1,4 @@
-// What the facts come to.
+//! The answers of the search for facts: those that rule out every lasso, or a lasso.
 
 use core_meaning::Lasso;
 use core_tree::ItemList;

@@ -1,4 +1,4 @@
-// The search for facts that rule out every trace.
+//! The search for facts that rule out every trace, and the texts of its answers.
 
 ghost use Rattle.std.specs.Prelude.{◌≡◌, ◌-◌, length, IfOk};
 ghost use Rattle.sat_lrat.specs.Step.{Refutes};
@@ -18,8 +18,10 @@ use sat_lrat::Proof;
 use std::alloc::{AllocError, Global};
 use syntax_tree::Loaded;
 
-/// Looks for facts that, with the declarations and the command, rule out every trace, none of them to spare, and writes the
-/// part that is asked for of what that comes to: a trace where one satisfies all facts. The budget counts for each search.
+/// Looks for facts that, with the declarations and the command, rule out every trace, and writes
+/// the part that is asked for of what that comes to: a trace where one satisfies all facts. Facts
+/// are dropped one by one as long as the rest rules out every trace; not proved: that each of
+/// those that stay is needed. The budget counts for each search.
 pub fn core_certificate<C: Chooser>(
     alloc: Global,
     prepared: Prepared,

@@ -1,4 +1,4 @@
-// The search for a trace of the fewest states.
+//! The search for a trace of the fewest states, and the texts of its answers.
 
 ghost use Rattle.std.specs.Prelude.{◌≡◌, ◌⊎◌, ◌<◌, ◌-◌, ℕ, IfOk, length, None, Some};
 ghost use Rattle.answer_analysis.specs.Found.{IsReady, IsTraceOf, NoneWithin};

@@ -1,11 +1,11 @@
-//! The fewest states with which a target has a lasso.
+//! Searches whose answers say why they are the best.
 //!
-//! Facts that rule out every lasso together with the declarations and the command, none of them to spare.
-//!
-//! A law: what facts that rule out every lasso mean for the model.
-//!
-//! Searches whose answers say why they are the best: a trace of the fewest states, with clauses that say what a shorter one
-//! is and lines that refute them, and facts that rule out every trace, none of them to spare.
+//! One is for a trace of the fewest states: with it come clauses that say what a trace of one
+//! state less is, and lines that refute them (`search`, `least`). The other is for facts that rule
+//! out every trace, together with the declarations and the command: they are found by leaving out
+//! one fact after the other (`shrink`, `kept`). A law says what they rule out of the model, where
+//! all formulas of the target have plain forms.
+//! Not proved: that none of these facts is to spare.
 #![tactic(auto)]
 
 mod answer;
@@ -15,19 +15,14 @@ pub use answer::Least;
 pub use search::find_least;
 
 mod facts;
-#[cfg(test)]
-mod least_trace_tests;
 mod part;
 mod reach;
 mod shrink;
 
+ghost use Rattle.answer_certificates.specs.Kept.{KeptFactsRuleOut};
+
 pub use facts::{Core, NumberList};
 pub use shrink::find_core;
-
-#[cfg(test)]
-mod fact_core_tests;
-
-ghost use Rattle.answer_certificates.specs.Kept.{KeptFactsRuleOut};
 
 /// A law: where clauses rule out what a target does with some of a model's facts alone, no lasso within the bounds satisfies the
 /// declarations, these facts and the command, if all formulas of the target have plain forms. The model was made ready.

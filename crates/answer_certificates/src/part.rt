@@ -1,4 +1,4 @@
-// A part of the facts.
+//! A target without some of its facts.
 
 ghost use Rattle.std.specs.Prelude.{◌≡◌, ◌++◌, ◌∷◌, [], length, map, IfOk, OnOk, if◌then◌else◌};
 ghost use Rattle.core_tree.specs.Trees.{claim_of};

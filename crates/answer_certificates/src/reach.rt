@@ -1,4 +1,4 @@
-// Which facts a refutation needs.
+//! Which facts a refutation is drawn from: marks go from the last lemma to the clauses.
 
 ghost use Rattle.std.specs.Prelude.{◌≡◌, length};
 

@@ -1,4 +1,4 @@
-// The search with one state, with two, and on.
+//! The search for a lasso with one state, with two, and on.
 
 ghost use Rattle.std.specs.Prelude.{IfOk};
 ghost use Rattle.answer_certificates.specs.Least.{IsLeast};

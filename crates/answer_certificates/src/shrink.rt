@@ -1,4 +1,4 @@
-// Facts are left out one after the other.
+//! The deletion of facts: each that the others do without is left out, one after the other.
 
 ghost use Rattle.std.specs.Prelude.{◌≡◌, length, IfOk};
 ghost use Rattle.answer_search.specs.Clauses.{SayTarget, IsRuledOut};

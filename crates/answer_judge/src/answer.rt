@@ -1,4 +1,4 @@
-// What is said of a trace, with its status and its text.
+//! The answer on a trace: its status and its text.
 
 ghost use Rattle.std.specs.Prelude.{◌≡◌, IfOk};
 ghost use Rattle.answer_judge.specs.Answer.{status_of, text_of, bad_trace_line};

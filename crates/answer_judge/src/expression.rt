@@ -1,4 +1,4 @@
-// The expression whose tuples are asked for.
+//! The reading of the expression whose tuples are asked for, and its refusals.
 
 ghost use Rattle.std.specs.Prelude.{◌≡◌, ◌<◌, ◌≤◌, length, IfOk, Err};
 ghost use Rattle.base_types.specs.declared.place.Refusal.{Refusal};
@@ -7,7 +7,7 @@ ghost use Rattle.syntax_lexer.specs.Tokens.{tokens_of};
 ghost use Rattle.answer_judge.specs.Expression.{large_text};
 
 use base_types::limits::MODULE_BYTES;
-use base_types::{Place, Refusal, Rule};
+use base_types::{Position, Refusal, Rule};
 use bound_scopes::{ScopeFault, check_value};
 use core_meaning::Scopes;
 use core_tree::{Expr, Model};
@@ -60,7 +60,7 @@ fn large_text(number: u32) -> Refusal
 {
     Refusal {
         rule: Rule::LargeFile,
-        place: Place {
+        place: Position {
             module: number,
             line: 1,
             column: 1,
@@ -102,7 +102,7 @@ fn resolved(
     model: &Model,
     scopes: &Scopes,
     tree: &Tree,
-    first: Place,
+    first: Position,
 ) -> Result<ReadValue, AllocError> {
     match resolve_value(alloc, loaded, model, tree) {
         Ok(value) => checked(alloc, model, scopes, value, first),
@@ -117,7 +117,7 @@ fn checked(
     model: &Model,
     scopes: &Scopes,
     value: Expr,
-    first: Place,
+    first: Position,
 ) -> Result<ReadValue, AllocError> {
     if scopes.bits < 1 || scopes.bits > 12 {
         // Scopes have no such bitwidth.

@@ -1,4 +1,4 @@
-// A trace is judged part by part.
+//! A trace is judged part by part.
 
 ghost use Rattle.std.specs.Prelude.{◌≡◌, ◌↔◌, IfOk, IsTrue};
 ghost use Rattle.answer_trace.specs.Text.{trace_text};
@@ -48,6 +48,7 @@ fn judged_text(
     let text = judgement_text(alloc, &judgement)?;
     let satisfied = is_satisfied(&judgement);
     let shown = Bytes::copy(alloc, &text)?;
+    // for the proof: only the clauses name the text of the trace
     let _ = trace;
     Ok(TraceAnswer::Judged(satisfied, shown))
 }

@@ -1,6 +1,7 @@
-//! What a model says of a trace: each part of it judged, or the tuples of an expression at a position.
+//! What a model says of a trace: each part of it judged, or the tuples of an expression.
 //!
-//! The trace is read from its text, and judged by the meaning of formulas, not by the clauses of a search.
+//! The trace is read from its text, and judged by the meaning of formulas, not by the clauses of a
+//! search.
 #![tactic(auto)]
 
 mod answer;
@@ -13,6 +14,3 @@ pub use answer::TraceAnswer;
 pub use expression::{ReadValue, read_value};
 pub use judge::judge_trace;
 pub use value::value_on_trace;
-
-#[cfg(test)]
-mod tests;

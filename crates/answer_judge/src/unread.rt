@@ -1,4 +1,4 @@
-// A text that is no trace.
+//! The answer on a text that is no trace: the line at which reading it stops.
 
 ghost use Rattle.std.specs.Prelude.{IfOk};
 ghost use Rattle.answer_trace.specs.Faults.{Faults};

@@ -1,4 +1,4 @@
-// The tuples of an expression on a trace.
+//! The answer on an expression: its tuples at a position of a trace.
 
 ghost use Rattle.std.specs.Prelude.{◌≡◌, IfOk};
 ghost use Rattle.core_tree.specs.Trees.{term_of};
@@ -56,9 +56,11 @@ fn valued(
         value,
         position,
     )?;
+    // for the proof: this call's clause says that it is a set of tuples
     let _ = set.arity();
     let text = value_text(alloc, &prepared.labels.atoms, &set)?;
     let shown = Bytes::copy(alloc, &text)?;
+    // for the proof: only the clauses name the text of the trace
     let _ = trace;
     Ok(TraceAnswer::Valued(shown))
 }

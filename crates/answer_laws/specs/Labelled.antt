@@ -1,4 +1,4 @@
--- Models whose sigs and fields are called so that traces can be written under their labels, and read again.
+-- Models of which traces can be written under the labels of sigs and fields, and read again.
 use Rattle.std.specs.Prelude.{◌≡◌, ℕ, ◌≤◌, false, List, ◌∷◌, [], ◌++◌, length, All, Some, slice_get, slice_index}
 use Rattle.std.specs.List.{list_any}
 use Rattle.core_tree.specs.declared.model.Model.{Model}

@@ -1,12 +1,9 @@
-//! Laws of the texts of traces: a text is that of one lasso, and what a definition of reading by lines makes of a text.
+//! Laws of the texts of traces: a text is that of one lasso, and reading gives that lasso.
 //!
-//! `answer_trace` defines the text of a lasso and how lines are read. The functions do nothing; a caller that
-//! needs a law calls it.
-//!
-//! A law: the labels of a model are labels under which there are lassos.
-//!
-//! `answer_trace` makes the labels of a model, and `answer_laws` says what holds of texts under labels that have lassos. The
-//! function does nothing; a caller that needs the law calls it.
+//! `answer_trace` defines the text of a lasso, how lines are read, and the labels of a model. The
+//! laws say that a text under some labels is of one lasso, which line reading names as the first
+//! fault, and that the labels of a model have lassos. Each stands in the clauses of an empty
+//! function; a caller that needs it calls it.
 #![tactic(auto)]
 
 ghost use Rattle.std.specs.Prelude.{◌≡◌, ◌++◌, ℕ, List, [], ◌∷◌, codes, decimal, Some, true};
@@ -70,24 +67,6 @@ pub fn read_lassos_are_of_the_labels()
     ensures { (labels : Labels) (text : List ℕ) (lasso : LassoValue) → HaveLassos labels → IsRead labels text lasso → IsLassoOf labels lasso }
 {}
 
-#[cfg(test)]
-mod tests {
-    use super::*;
-
-    #[test]
-    fn calls_the_laws() {
-        texts_are_of_one_lasso();
-        texts_are_read();
-        no_text_agrees();
-        faults_are_first();
-        reading_is_of_the_text();
-        lines_are_read();
-        named_lines_are_first();
-        no_line_of_a_lasso_is_named();
-        read_lassos_are_of_the_labels();
-    }
-}
-
 ghost use Rattle.answer_laws.specs.Labelled.{LabelsHaveLassos};
 
 /// A law: the labels of a model whose sigs and fields have labels of a right form, under scopes of at most 16,384 atoms, are
@@ -95,13 +74,3 @@ ghost use Rattle.answer_laws.specs.Labelled.{LabelsHaveLassos};
 pub fn labels_have_lassos()
     ensures { LabelsHaveLassos }
 {}
-
-#[cfg(test)]
-mod tests {
-    use super::labels_have_lassos;
-
-    #[test]
-    fn calls_the_law() {
-        labels_have_lassos();
-    }
-}

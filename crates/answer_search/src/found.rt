@@ -1,4 +1,4 @@
-// What a search comes to.
+//! The answers of a search: a lasso, a refutation, or a budget that is spent.
 
 use core_meaning::Lasso;
 use sat_lrat::Proof;

@@ -11,6 +11,3 @@ pub use limits::limits_of;
 pub use sat_lrat::Proof;
 pub use search::{search_lasso, search_target};
 pub use written::{clauses_of, table_store};
-
-#[cfg(test)]
-mod tests;

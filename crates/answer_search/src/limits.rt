@@ -1,9 +1,9 @@
-// The bounds of a target.
+//! The upper bounds of a target.
 
 ghost use Rattle.std.specs.Prelude.{◌≡◌, IfOk};
 ghost use Rattle.answer_search.specs.Limits.{AreLimitsOf};
 
-use base_types::Place;
+use base_types::Position;
 use bound_uppers::{Bounds, bounds};
 use core_meaning::Scopes;
 use core_tree::Model;
@@ -14,7 +14,7 @@ pub fn limits_of(alloc: Global, model: &Model, scopes: &Scopes) -> Result<Bounds
     ensures states { IfOk result (λ bounds. bounds.states ≡ scopes.now.states) }
     ensures limits { IfOk result (AreLimitsOf model.now scopes.now) }
 {
-    let keyword = Place {
+    let keyword = Position {
         module: 0,
         line: 1,
         column: 1,

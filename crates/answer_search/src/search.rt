@@ -1,4 +1,4 @@
-// The search for a lasso.
+//! The search of a target's clauses for a lasso, and its decoding.
 
 ghost use Rattle.std.specs.Prelude.{◌≡◌, IfOk, length};
 ghost use Rattle.answer_search.specs.Clauses.{RulesOut, SaysTarget};

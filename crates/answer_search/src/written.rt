@@ -1,4 +1,4 @@
-// The clauses of a target.
+//! The clauses of a target: its circuit over the table, written by the encoding of Tseitin.
 
 ghost use Rattle.std.specs.Prelude.{IfOk};
 ghost use Rattle.answer_search.specs.Clauses.{SayTarget};

@@ -1,11 +1,11 @@
 -- How a fact is named in a line.
 use Rattle.std.specs.Prelude.{ℕ, List, [], ◌∷◌, ◌++◌, codes, decimal, Option, Some, None, slice_get}
-use Rattle.base_types.specs.declared.place.Place.{Place}
+use Rattle.base_types.specs.declared.place.Position.{Position}
 use Rattle.syntax_tree.specs.declared.instance.Text.{Text}
 use Rattle.syntax_tree.specs.declared.instance.Instance.{Instance}
 use Rattle.answer_texts.specs.declared.fact.FactName.{FactName}
 
-abbrev pub place_words : Place → List ℕ
+abbrev pub place_words : Position → List ℕ
 place_words place = decimal place.line ++ codes ":" ++ decimal place.column
 
 abbrev pub name_or_dash : Option (List ℕ) → List ℕ
@@ -36,7 +36,7 @@ instance_label None = []
 instance_label (Some instance) = instance.label
 
 -- how a fact of an instance is named
-abbrev pub fact_name : List Text → List Instance → ℕ → Place → Option (List ℕ) → FactName
+abbrev pub fact_name : List Text → List Instance → ℕ → Position → Option (List ℕ) → FactName
 fact_name texts instances instance place name = record {
   text = source_label texts (slice_get instances instance);
   place = place;

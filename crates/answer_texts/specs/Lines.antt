@@ -1,6 +1,6 @@
 -- The list of a module's commands as text.
 use Rattle.std.specs.Prelude.{ℕ, ◌+◌, Bool, true, false, List, [], ◌∷◌, ◌++◌, Option, Some, None, codes, decimal}
-use Rattle.base_types.specs.declared.place.Place.{Place}
+use Rattle.base_types.specs.declared.place.Position.{Position}
 use Rattle.syntax_tree.specs.declared.expr.Named.{Named}
 use Rattle.syntax_tree.specs.declared.module.Command.{Command}
 use Rattle.syntax_tree.specs.declared.module.Module.{Module}
@@ -26,7 +26,7 @@ keyword_of true = codes "check"
 keyword_of false = codes "run"
 
 -- a command's number, its keyword and the place of that, and its title
-abbrev pub titled_line : ℕ → List ℕ → Place → List ℕ → List ℕ
+abbrev pub titled_line : ℕ → List ℕ → Position → List ℕ → List ℕ
 titled_line number keyword place title = decimal number ++ (codes " " ++ (keyword ++ (codes " " ++ (decimal place.line ++ (codes ":" ++ (decimal place.column ++ (codes " " ++ (title ++ 10 ∷ []))))))))
 
 abbrev pub command_line : ℕ → Command → List ℕ

@@ -1,4 +1,4 @@
-// The texts of a trace above clauses, and of facts that rule out every trace.
+//! The texts of a trace above clauses, and of facts that rule out every trace.
 
 ghost use Rattle.std.specs.Prelude.{◌≡◌, ◌++◌, OnOk, IfOk, codes};
 ghost use Rattle.answer_texts.specs.Answers.{block_text};

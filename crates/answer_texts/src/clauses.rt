@@ -1,4 +1,4 @@
-// Answers with clauses.
+//! The texts of answers with clauses: none, or a budget that is spent.
 
 ghost use Rattle.std.specs.Prelude.{◌≡◌, ◌++◌, OnOk, IfOk, codes};
 ghost use Rattle.answer_texts.specs.Answers.{none_line, unknown_line, block_text, absent_text, unknown_text};

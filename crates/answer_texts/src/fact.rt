@@ -1,10 +1,10 @@
-// How a fact is named in a line.
+//! How a fact is named in a line.
 
 ghost use Rattle.std.specs.Prelude.{◌≡◌, ◌++◌, OnOk, IfOk, slice_get};
 ghost use Rattle.answer_texts.specs.Facts.{place_words, name_or_dash, label_words, fact_words, text_label, source_label, instance_label, fact_name};
 
 use crate::push_decimal;
-use base_types::{Name, Place};
+use base_types::{Name, Position};
 use core_tree::ItemList;
 use std::alloc::{AllocError, Global};
 use syntax_tree::Loaded;
@@ -15,7 +15,7 @@ pub struct FactName {
     /// The name of its text.
     pub text: Name,
     /// Where its keyword stands.
-    pub place: Place,
+    pub place: Position,
     /// Its own name, where it has one.
     pub name: Option<Name>,
     /// The label of its instance.
@@ -76,7 +76,7 @@ pub fn fact_name(
     alloc: Global,
     loaded: &Loaded,
     instance: u32,
-    place: Place,
+    place: Position,
     name: &Option<Name>,
 ) -> Result<FactName, AllocError>
     ensures { IfOk result (λ fact. fact ≡ fact_name loaded.now.texts loaded.now.instances instance place name.now) }
@@ -90,7 +90,7 @@ pub fn fact_name(
 }
 
 /// Writes a line and a column.
-fn push_place(out: &mut Vec<u8>, place: Place) -> Result<(), AllocError>
+fn push_place(out: &mut Vec<u8>, place: Position) -> Result<(), AllocError>
     ensures { OnOk result (out.new.items ≡ out.old.items ++ place_words place) }
 {
     push_decimal(out, u64::from(place.line))?;

@@ -1,4 +1,4 @@
-// The text of a judgement.
+//! The text of a judgement: a line for each part, and one for all of them.
 
 ghost use Rattle.std.specs.Prelude.{◌≡◌, ◌++◌, OnOk, IfOk, flat_map};
 ghost use Rattle.std.specs.List.{list_all};

@@ -1,4 +1,4 @@
-// What was found on a trace.
+//! A judgement: what was found on a trace, part by part.
 
 use crate::fact::FactName;
 use core_tree::ItemList;

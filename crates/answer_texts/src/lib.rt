@@ -1,10 +1,9 @@
-//! What the variables of a search's clauses stand for, as the rows that are printed before them.
+//! The printed texts of answers.
 //!
-//! The list of a module's commands.
-//!
-//! The printed texts of answers: clauses with the lines that belong to them, the summary of a ring, and the text of a ring.
-//!
-//! The printed texts of judgements on a trace, of a trace that is the shortest, and of facts that rule out every trace.
+//! They are the rows that say what the variables of clauses stand for (`rows`), the list of a
+//! module's commands (`lines`), clauses with the lines that belong to them (`clauses`), judgements
+//! on a trace (`judged`), a trace that is the shortest and facts that rule out every trace
+//! (`certified`), and a ring with its summary (`ring`, `summary`).
 #![tactic(auto)]
 
 mod rows;
@@ -16,8 +15,6 @@ mod lines;
 pub use lines::command_text;
 
 mod clauses;
-#[cfg(test)]
-mod command_list_tests;
 mod ring;
 mod summary;
 mod write;
@@ -27,8 +24,6 @@ pub use ring::ring_text;
 pub use summary::{made_none, made_trace, made_unknown};
 pub use write::push_decimal;
 
-#[cfg(test)]
-mod answer_texts_tests;
 mod certified;
 mod fact;
 mod judged;
@@ -38,6 +33,3 @@ pub use certified::{above_part, core_part, trace_part};
 pub use fact::{FactName, FactNameList, fact_name};
 pub use judged::{is_satisfied, judgement_text};
 pub use judgement::{JudgedFact, JudgedFactList, Judgement};
-
-#[cfg(test)]
-mod judgement_texts_tests;

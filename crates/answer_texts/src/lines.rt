@@ -3,7 +3,7 @@ ghost use Rattle.std.specs.Prelude.{◌≡◌, ◌++◌, List, IfOk, string_byte
 ghost use Rattle.answer_texts.specs.Lines.{subject_title, title_of, keyword_of, titled_line, command_line, command_in, lines_from, command_text};
 ghost use Rattle.syntax_tree.specs.declared.module.Command.{Command};
 
-use base_types::Place;
+use base_types::Position;
 use load_state::path_text;
 use std::alloc::{AllocError, Global};
 use syntax_tree::{Command, Module, Named, Paragraph, Subject};
@@ -56,7 +56,7 @@ fn titled_line(
     alloc: Global,
     number: u64,
     keyword: &str,
-    place: Place,
+    place: Position,
     title: &str,
 ) -> Result<String, AllocError>
     ensures { IfOk result (λ line. string_bytes line ≡ titled_line number keyword.now place title.now) }

@@ -1,4 +1,4 @@
-// The model of a leader election in a ring.
+//! The model of a leader election in a ring.
 
 use std::alloc::{AllocError, Global};
 

@@ -1,4 +1,4 @@
-// What the variables of the clauses stand for.
+//! The table: a row for each variable of the clauses that says what it stands for.
 
 use answer_trace::{Labels, RelationLabel, push_tuple};
 use bound_uppers::Bounds;

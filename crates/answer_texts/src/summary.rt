@@ -1,4 +1,4 @@
-// The summary of a ring.
+//! The lines that say what the search for a trace of a ring came to.
 
 use std::alloc::{AllocError, Global};
 

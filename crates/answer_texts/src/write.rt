@@ -1,4 +1,4 @@
-// Pieces of lines.
+//! How numbers are written in lines.
 
 ghost use Rattle.std.specs.Prelude.{◌≡◌, ◌++◌, OnOk, decimal};
 

@@ -1,4 +1,4 @@
-// The number of a universe that a text stands for.
+//! The number of a universe that a text stands for.
 
 ghost use Rattle.std.specs.Prelude.{◌≡◌, ◌<◌, ◌≤◌, ℕ, List, length, min, nat_eq, IfOk, OnOk, Some, if◌then◌else◌};
 ghost use Rattle.std.specs.HashMap.{get_by};
@@ -74,6 +74,7 @@ impl<'a> AtomIndex<'a> {
     pub fn new(alloc: Global, atoms: &'a TextList) -> Result<AtomIndex<'a>, AllocError>
         ensures { IfOk result (λ i. i ≡ atoms.now) }
     {
+        // Atoms, S66: there are at most 16,384 atoms and integers.
         let numbers = numbers_of(alloc, atoms, atoms.len().min(16384))?;
         Ok(AtomIndex { atoms, numbers })
     }
@@ -82,6 +83,7 @@ impl<'a> AtomIndex<'a> {
     pub fn find(&self, text: &[u8]) -> Option<u32>
         ensures { result ≡ number_of self.now text.now }
     {
+        // for the proof: a field is read, so that the invariant of the index is at hand
         let _ = self.atoms.len();
         self.numbers.get(text).copied()
     }

@@ -1,4 +1,4 @@
-// How relations and the numbers of a universe are written.
+//! How relations and the numbers of a universe are written.
 
 use base_types::Name;
 use core_tree::ItemList;

@@ -1,4 +1,4 @@
-// The lines of a text that are left.
+//! The lines of a text that are left to be read.
 
 ghost use Rattle.std.specs.Prelude.{◌≡◌, ◌∷◌, [], ◌+◌, ◌<◌, ◌^◌, length, IfSome, IfNone, IsTrue, ◌↔◌};
 ghost use Rattle.base_words.specs.Words.{parts};
@@ -38,6 +38,8 @@ impl<'a> Left<'a> {
         ensures value { result ≡ self.now.lines }
         ensures bound { result < 2 ^ 63 }
     {
+        // for the proof: a field is read, so that the invariant of the bytes and their lines is at
+        // hand
         let _ = self.bytes;
         self.lines
     }

@@ -15,6 +15,3 @@ pub use label::{Labels, RelationLabel, RelationLabelList, Shown, TextList, Trace
 pub use make::make_labels;
 pub use print::{print_trace, push_tuple, push_tuples};
 pub use read::read_trace;
-
-#[cfg(test)]
-mod tests;

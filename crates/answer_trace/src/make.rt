@@ -1,4 +1,4 @@
-// The labels of a model.
+//! The labels of a model under its scopes: how relations, atoms and integers are written.
 
 ghost use Rattle.std.specs.Prelude.{◌≡◌, ◌++◌, ◌+◌, ◌<◌, ◌≤◌, ◌^◌, ℕ, ◌∷◌, [], length, IfOk, OnOk, codes, decimal, slice_get, slice_index};
 ghost use Rattle.answer_trace.specs.Owners.{owned, walk, IsLinked};

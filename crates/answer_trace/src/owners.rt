@@ -1,4 +1,4 @@
-// The fields of each sig.
+//! The fields of each owner, linked: the owners are the sigs, and last what stands for none.
 
 ghost use Rattle.std.specs.Prelude.{◌≡◌, ◌<◌, ◌≤◌, ◌+◌, ◌^◌, ◌++◌, ◌∷◌, [], length, vec_len, slice_set, slice_index, IfOk, OnOk};
 ghost use Rattle.answer_trace.specs.Owners.{owner_at, IsLinked};

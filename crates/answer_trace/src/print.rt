@@ -1,4 +1,4 @@
-// Writing a trace.
+//! Writing a trace: its first line, and each state with a line for each relation.
 
 ghost use Rattle.std.specs.Prelude.{◌≡◌, ◌++◌, ◌<◌, length, OnOk, IfOk, flat_map, codes, decimal, slice_get};
 ghost use Rattle.answer_trace.specs.Text.{atom_text, tuple_text, tuples_text, set_text, relation_text, state_text, nth_state_text, header_text, states_text, trace_text};

@@ -1,4 +1,4 @@
-// Reading a trace, line by line.
+//! Reading a trace, line by line.
 
 ghost use Rattle.std.specs.Prelude.{◌≡◌, [], ◌∷◌, ◌++◌, ◌<◌, length, IfOk, IfSome, IfErr, OnOk, option_map, min, slice_get};
 ghost use Rattle.base_words.specs.Words.{parts};

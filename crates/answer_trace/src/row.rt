@@ -1,4 +1,4 @@
-// Reading the tuples of a line.
+//! Reading the tuples of a line, which stand in order.
 
 ghost use Rattle.std.specs.Prelude.{◌≡◌, ◌≤◌, ◌<◌, [], ◌∷◌, ◌++◌, length, All, IfOk, IfSome, OnOk, OnErr, Some, None, true, option_map, if◌then◌else◌};
 ghost use Rattle.core_tuples.specs.Index.{IsNumber};
@@ -91,8 +91,10 @@ fn put_last(set: &mut TupleSet, tuple: Tuple) -> Result<(), AllocError>
     ensures ok { OnOk result (set.new ≡ record { arity = set.old.arity; tuples = set.old.tuples ++ tuple ∷ [] }) }
     ensures err { OnErr result (set.new ≡ set.old) }
 {
+    // for the proof: this call's clause says that it is a set of tuples
     let _before = set.len();
     set.insert(tuple)?;
+    // for the proof: this call's clause says that it is a set of tuples still
     let _count = set.len();
     Ok(())
 }
@@ -161,6 +163,7 @@ fn read_set(
 ) -> Result<Option<TupleSet>, AllocError>
     ensures { IfOk result (λ o. o ≡ set_of index.now columns text.now) }
 {
+    // ArityLimit, S47: a relation has at most nine columns.
     if columns < 1 || columns > 9 {
         return Ok(None);
     }
@@ -176,6 +179,7 @@ fn read_set(
 pub fn no_tuple(alloc: Global, columns: u32) -> Option<TupleSet>
     ensures { result ≡ hidden_set columns None }
 {
+    // ArityLimit, S47: a relation has at most nine columns.
     if columns < 1 || columns > 9 {
         return None;
     }
@@ -186,6 +190,7 @@ pub fn no_tuple(alloc: Global, columns: u32) -> Option<TupleSet>
 pub fn one_atom(alloc: Global, columns: u32, atom: u32) -> Result<Option<TupleSet>, AllocError>
     ensures { IfOk result (λ o. o ≡ hidden_set columns (Some atom)) }
 {
+    // Atoms, S66: there are at most 16,384 atoms and integers.
     if columns != 1 || atom >= 16384 {
         return Ok(None);
     }

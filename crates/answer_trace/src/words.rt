@@ -1,4 +1,4 @@
-// The parts of a line of a trace.
+//! Reading the words of a line of a trace: numbers, blanks, quotes and atoms.
 
 ghost use Rattle.std.specs.Prelude.{◌≡◌, ◌<◌, ◌≤◌, length, codes, IfSome, option_map, option_copied, Some};
 ghost use Rattle.std.specs.List.{position_or_len};

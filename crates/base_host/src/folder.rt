@@ -1,4 +1,5 @@
-// A library of the files that are named by their paths.
+//! A library of files, which are named by their paths.
+
 ghost use Rattle.std.specs.Prelude.{◌≡◌, None};
 
 use base_types::{Fetch, FetchFault, Library};

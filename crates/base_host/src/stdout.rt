@@ -1,4 +1,5 @@
-// The standard output as a sink.
+//! The standard output as a sink.
+
 ghost use Rattle.std.specs.Prelude.{◌≡◌, None};
 
 use base_types::{Sink, SinkFault};

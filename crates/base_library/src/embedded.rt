@@ -1,4 +1,5 @@
-// The library that holds the five texts.
+//! The library that holds the five texts.
+
 ghost use Rattle.std.specs.Prelude.{◌≡◌, ◌≢◌, Some, Ok, Err, IfOk, take, option_copied};
 ghost use Rattle.base_types.specs.Causes.{FetchCause};
 ghost use Rattle.base_types.specs.Texts.{Texts, Answers, text_in};

@@ -1,5 +1,6 @@
-//! The library modules that the answer_analysis brings along: `util/ordering`, `util/integer`, `util/boolean`, `util/relation` and
-//! `util/ternary`.
+//! The library modules that the analyser brings along.
+//!
+//! They are `util/ordering`, `util/integer`, `util/boolean`, `util/relation` and `util/ternary`.
 #![tactic(auto)]
 
 mod embedded;

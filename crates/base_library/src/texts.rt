@@ -1,4 +1,4 @@
-// The texts of the library modules.
+//! The texts of the library modules.
 
 /// A linear order on a sig.
 pub const ORDERING: &str = "module util/ordering[exactly elem]

@@ -1,3 +1,5 @@
+//! A list that contracts see as the values in it.
+
 ghost use Rattle.std.specs.Prelude.{◌≡◌, [], ◌∷◌, ◌++◌, ◌<◌, length, slice_get, ◌↔◌, IsTrue, IfOk, OnOk, OnErr, Some};
 ghost use Rattle.std.specs.List.{cons_option};
 

@@ -1,11 +1,10 @@
 -- The numbers under which the static rules are printed.
 use Rattle.std.specs.Prelude.{ℕ}
 use Rattle.base_types.specs.declared.place.Rule.{Rule}
-use Rattle.base_types.specs.declared.place.Rule.TheVariants.{NotBuilt, BadByte, OpenComment, LongNumber, LargeFile, Syntax, TooDeep, NoModule, ModuleCycle, ModuleArguments, AliasTwice, TooManyModules, NameTwice, NoParent, ParentCycle, ExtendsSubset, FieldTwice, UnknownName, Ambiguous, NoReading, TooManyReadings, RecursiveCall, HigherOrder, Literal, ArityLimit, PastDepth, DeepCalls, NoCommand, BadScope, ExactVar, ScopeConflict, Bitwidth, Steps, Atoms, Cells}
+use Rattle.base_types.specs.declared.place.Rule.TheVariants.{BadByte, OpenComment, LongNumber, LargeFile, Syntax, TooDeep, NoModule, ModuleCycle, ModuleArguments, AliasTwice, TooManyModules, NameTwice, NoParent, ParentCycle, ExtendsSubset, FieldTwice, UnknownName, Ambiguous, NoReading, TooManyReadings, RecursiveCall, HigherOrder, Literal, ArityLimit, PastDepth, DeepCalls, NoCommand, BadScope, ExactVar, ScopeConflict, Bitwidth, Steps, Atoms, Cells}
 
 -- The tens tell the layer: 0 bytes, 1 grammar, 2 loading, 3 declarations, 4 expressions, 6 commands.
 abbrev pub number_of : Rule → ℕ
-number_of NotBuilt = 0
 number_of BadByte = 1
 number_of OpenComment = 2
 number_of LongNumber = 3

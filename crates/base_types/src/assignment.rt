@@ -1,4 +1,5 @@
-// Truth values of variables.
+//! An assignment has a truth value for each of the variables from 1 on.
+
 ghost use Rattle.std.specs.Prelude.{◌≡◌, ◌-◌, ◌<◌, ◌≤◌, length, IfOk, slice_index_or, false};
 
 use std::alloc::{AllocError, Global};

@@ -1,4 +1,5 @@
-// A library of texts, which counts how often it has failed.
+//! A library of texts, which counts how often it has failed.
+
 ghost use Rattle.std.specs.Prelude.{◌≡◌, ℕ, Option, Some, Ok};
 ghost use Rattle.base_types.specs.Texts.{Texts, Answers};
 ghost use Rattle.base_types.specs.Causes.{FetchCause};

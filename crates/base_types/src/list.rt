@@ -1,4 +1,5 @@
-// Libraries that are asked in order.
+//! Libraries in a list are asked in order: the first that has a name gives its text.
+
 ghost use Rattle.std.specs.Prelude.{◌≡◌, ℕ, List, Option, Ok, map, Some};
 ghost use Rattle.base_types.specs.Texts.{Texts, AnswersFirst};
 ghost use Rattle.base_types.specs.Causes.{ListCause};

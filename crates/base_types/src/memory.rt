@@ -1,4 +1,5 @@
-// A library and a sink in memory, which tell all and fail at the calls that were named.
+//! A library and a sink in memory, which tell all and fail at the calls that were named.
+
 ghost use Rattle.std.specs.Prelude.{◌≡◌, ◌+◌, ◌-◌, ◌^◌, ◌≤◌, ◌++◌, [], Some, Err, IfOk, OnErr, is_err, length, min, vec_len, vec_capacity};
 ghost use Rattle.base_types.specs.Causes.{FetchCause, Writes, WriteCause};
 ghost use Rattle.base_types.specs.Memory.{Shelf, Tape, texts_of, names_call, after_fetch, after_write, write_fails};

@@ -4,7 +4,7 @@ ghost use Rattle.base_types.specs.Place.{number_of};
 
 /// A place in a text. A line ends with byte 10, and a column counts bytes.
 #[derive(Clone, Copy, Debug, PartialEq, Eq)]
-pub struct Place {
+pub struct Position {
     /// The number of the text in load order, from 0.
     pub module: u32,
     /// The line, from 1.
@@ -16,75 +16,79 @@ pub struct Place {
 /// A static rule, by what breaks it.
 #[derive(Clone, Copy, Debug, PartialEq, Eq)]
 pub enum Rule {
-    /// A form that isn't built yet. It goes away once the whole language is.
-    NotBuilt,
-    /// A byte that begins no token.
+    /// S01: a byte begins no token. See docs/RULES.md.
     BadByte,
-    /// A comment `/*` without its `*/`.
+    /// S02: a comment `/*` has no `*/`. See docs/RULES.md.
     OpenComment,
-    /// A number of more digits than a literal may have.
+    /// S03: a number has more than 9 digits. See docs/RULES.md.
     LongNumber,
-    /// A text over the limit of bytes.
+    /// S04: a text has more bytes than a file may have: 1,048,576, or 67,108,864.
+    /// See docs/RULES.md.
     LargeFile,
-    /// A token with which no text of the grammar goes on.
+    /// S10: a token with which no text of the grammar goes on. See docs/RULES.md.
     Syntax,
-    /// A token with which each text that goes on has a tree over the limit of depth.
+    /// S11: a token with which each text that goes on has a tree of depth over 250.
+    /// See docs/RULES.md.
     TooDeep,
-    /// A name that no library holds.
+    /// S20: no library has the text. See docs/RULES.md.
     NoModule,
-    /// An open of a text that is being opened already.
+    /// S21: an open of a text that is being opened already. See docs/RULES.md.
     ModuleCycle,
-    /// An argument of an open that names not one sig, or another number of arguments than of parameters.
+    /// S22: an argument of an open names not one sig, or there aren't as many as parameters.
+    /// See docs/RULES.md.
     ModuleArguments,
-    /// Two opens of a module with one alias.
+    /// S23: two opens of a module have one alias. See docs/RULES.md.
     AliasTwice,
-    /// An instance over the limit of instances.
+    /// S24: there are more than 64 instances of modules. See docs/RULES.md.
     TooManyModules,
-    /// Two sigs or parameters, or two assertions, of a module with one name.
+    /// S30: two sigs or parameters, or two assertions, of a module have one name.
+    /// See docs/RULES.md.
     NameTwice,
-    /// A parent that names not one sig.
+    /// S31: a parent's name doesn't mean exactly one sig. See docs/RULES.md.
     NoParent,
-    /// A sig that is its own ancestor.
+    /// S32: a sig is its own ancestor. See docs/RULES.md.
     ParentCycle,
-    /// `Int` or a subset sig is extended.
+    /// S33: `Int` or a subset sig is extended. See docs/RULES.md.
     ExtendsSubset,
-    /// Two fields of one sig, or of sigs that overlap, with one name.
+    /// S34: two fields of one sig, or of sigs that overlap, have one name. See docs/RULES.md.
     FieldTwice,
-    /// A name that names nothing there.
+    /// S40: a name names nothing there. See docs/RULES.md.
     UnknownName,
-    /// An expression with several readings.
+    /// S41: an expression has several readings. See docs/RULES.md.
     Ambiguous,
-    /// An expression without a reading.
+    /// S42: an expression has no reading. See docs/RULES.md.
     NoReading,
-    /// An expression over the limit of readings.
+    /// S43: a root has more readings than 4,096. See docs/RULES.md.
     TooManyReadings,
-    /// A predicate or function that calls itself, directly or not.
+    /// S44: a predicate or function calls itself, directly or not. See docs/RULES.md.
     RecursiveCall,
-    /// A variable of a quantifier or comprehension that would range over relations.
+    /// S45: a variable of a quantifier or comprehension would range over relations.
+    /// See docs/RULES.md.
     HigherOrder,
-    /// A number outside the bitwidth of the command.
+    /// S46: a number doesn't fit the bitwidth of the command. See docs/RULES.md.
     Literal,
-    /// An expression or a field over the limit of columns.
+    /// S47: an expression or a field has more than 9 columns. See docs/RULES.md.
     ArityLimit,
-    /// A formula over the limit of nested past operators.
+    /// S48: past operators are nested over 8 deep in a formula. See docs/RULES.md.
     PastDepth,
-    /// A formula over the limit of depth once its calls are written out.
+    /// S49: a formula is over 2,000 deep once its calls are written out. See docs/RULES.md.
     DeepCalls,
-    /// No command of the number that was asked for.
+    /// S60: the root has no command of the number that was asked for. See docs/RULES.md.
     NoCommand,
-    /// A scope for what takes none, or for a sig twice, or `exactly` where it can't stand.
+    /// S61: a scope for what takes none, for a sig twice, or with `exactly` where it can't stand.
+    /// See docs/RULES.md.
     BadScope,
-    /// `exactly` for a sig that changes with time.
+    /// S62: `exactly` for a sig that changes with time. See docs/RULES.md.
     ExactVar,
-    /// A scope of a `one` or `lone` sig that contradicts it.
+    /// S63: a scope of a `one` or `lone` sig contradicts it. See docs/RULES.md.
     ScopeConflict,
-    /// A bitwidth out of range.
+    /// S64: the bitwidth isn't from 1 to 12. See docs/RULES.md.
     Bitwidth,
-    /// A number of steps out of range.
+    /// S65: the number of steps isn't from 1 to 32. See docs/RULES.md.
     Steps,
-    /// A command over the limit of atoms.
+    /// S66: a command has more than 16,384 atoms and integers. See docs/RULES.md.
     Atoms,
-    /// A command over the limit of table variables.
+    /// S67: the table of a command has more than 1,000,000 variables. See docs/RULES.md.
     Cells,
 }
 
@@ -94,7 +98,6 @@ impl Rule {
         ensures { result ≡ number_of self.now }
     {
         match self {
-            Rule::NotBuilt => 0,
             Rule::BadByte => 1,
             Rule::OpenComment => 2,
             Rule::LongNumber => 3,
@@ -137,5 +140,5 @@ impl Rule {
 #[derive(Clone, Copy, Debug, PartialEq, Eq)]
 pub struct Refusal {
     pub rule: Rule,
-    pub place: Place,
+    pub place: Position,
 }

@@ -1,4 +1,5 @@
-// A sink for bytes, which counts how often it has failed.
+//! A sink for bytes, which counts how often it has failed.
+
 ghost use Rattle.std.specs.Prelude.{◌≡◌, ℕ, List, Option};
 ghost use Rattle.base_types.specs.Causes.{Writes, WriteCause};
 

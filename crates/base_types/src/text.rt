@@ -1,4 +1,5 @@
-// Owned texts and bytes that contracts see as lists.
+//! Owned texts and bytes that contracts see as lists.
+
 ghost use Rattle.std.specs.Prelude.{◌≡◌, ℕ, List, IfOk, string_bytes};
 
 use std::alloc::{AllocError, Global};
@@ -54,6 +55,13 @@ impl Bytes {
         Ok(Bytes {
             bytes: bytes.to_vec(alloc)?,
         })
+    }
+
+    /// The bytes of a vector, which is taken over and not copied.
+    pub fn from_vec(items: Vec<u8>) -> Bytes
+        ensures { result ≡ items.items }
+    {
+        Bytes { bytes: items }
     }
 
     /// The bytes.

@@ -1,7 +1,7 @@
 //! Lines of a text, the words of a line, and the numbers that words spell.
 //!
-//! The DIMACS and LRAT formats are made of these: a line ends with a line feed, and words are separated by
-//! tabs, carriage returns and blanks.
+//! The DIMACS and LRAT formats are made of these: a line ends with a line feed, and words are
+//! separated by tabs, carriage returns and blanks.
 #![tactic(auto)]
 
 ghost use Rattle.std.specs.Prelude.{◌≡◌, nat_abs, ◌<◌, ◌≤◌, ◌^◌, ℕ, [], ◌∷◌, not, length, drop, ◌+◌, IfSome, IfNone, Option, option_map, option_copied, if◌then◌else◌};
@@ -211,31 +211,6 @@ pub fn push_literal(out: &mut Vec<u8>, literal: &i64) -> Result<(), AllocError>
 mod tests {
     use super::*;
     use std::test::Fail;
-
-    #[test]
-    fn takes_a_line_apart(rt: HostRuntime) {
-        let (line, rest) = split_line(b"5 -12\t0\r\nc x");
-        assert_eq!(rt; rest, Some(b"c x".as_slice()));
-        assert_eq!(rt; is_comment(line), false);
-        assert_eq!(rt; is_comment(rest.unwrap_or(b"")), true);
-        let Some((word, line)) = next_word(line) else {
-            assert!(rt; false, "no first word");
-            return;
-        };
-        assert_eq!(rt; positive(word, 9), Some(5));
-        let Some((word, line)) = next_word(line) else {
-            assert!(rt; false, "no second word");
-            return;
-        };
-        assert_eq!(rt; literal(word, 12), Some(-12));
-        let Some((word, line)) = next_word(line) else {
-            assert!(rt; false, "no third word");
-            return;
-        };
-        assert_eq!(rt; is_zero(word), true);
-        assert_eq!(rt; decimal(word, 9), Some(0));
-        assert_eq!(rt; next_word(line), None);
-    }
 
     #[test]
     fn refuses_other_words(rt: HostRuntime) {

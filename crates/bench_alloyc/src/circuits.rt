@@ -1,4 +1,4 @@
-//! Builds circuits and matrices of a given size, to measure how long they take, and prints their sizes.
+//! Builds circuits and matrices of a given size, to measure how long that takes, and prints sizes.
 //!
 //! `clauses N` writes a circuit of N gates as clauses. `join N` joins two matrices of ten pairs for each of N atoms: each
 //! atom in the middle stands in ten of the second and in about ten of the first. `closure N` closes a relation over N atoms with five pairs an

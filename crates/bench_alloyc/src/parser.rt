@@ -10,7 +10,7 @@ use crate::same::same_words;
 use anyhow::Result;
 use base_library::EmbeddedLibrary;
 use base_types::limits::MODULE_BYTES;
-use base_types::{Fetch, Library, Place, Refusal, Rule};
+use base_types::{Fetch, Library, Position, Refusal, Rule};
 use std::alloc::Global;
 use std::fs;
 use std::rt::Files;
@@ -56,7 +56,7 @@ fn said_of_text(alloc: Global, text: &[u8]) -> Said
 /// What is said of a text of any length.
 fn what_is_said(alloc: Global, text: &[u8]) -> Said {
     if text.len() > MODULE_BYTES {
-        let place = Place {
+        let place = Position {
             module: 0,
             line: 1,
             column: 1,

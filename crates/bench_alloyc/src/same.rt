@@ -1,4 +1,4 @@
-//! Whether tokens say the same.
+//! Tells whether tokens say the same as the words that a tree spells.
 
 use syntax_tree::{Token, TokenKind, same_symbol, same_word};
 

@@ -1,13 +1,31 @@
-//! Formulas as circuits over the table of variables: each root is true of just the lassos of which
-//! its formula holds at position 0.
+//! A target as a circuit over the table of variables: one run of the encoder.
+//!
+//! [`encode`] takes a target, whose formulas a lasso is to satisfy, and the upper bounds of its
+//! relations. A run has these steps:
+//!
+//! 1. The layout: which variable says that a tuple is in a relation at a state, and which one that
+//!    the loop begins at a state (`bound_uppers`).
+//! 2. The choices of the loop: one input for each state; with one state there is no choice. The
+//!    node `sure` says that just one of them is true: it is true of just the assignments that
+//!    stand for a lasso.
+//! 3. The first root: whether the lasso keeps the numbers of the scopes (`bmc_leaves`).
+//! 4. For each formula, in order: its past depth (`past_depth`); the frame, which has the windows
+//!    of all loops with so many rounds (`bmc_windows`); the leaves, which are the sets without
+//!    parts that the formula names, as relations, `univ` and `iden`; and the row of the formula
+//!    over all places (`bmc_translate`).
+//! 5. The root of the formula: of the nodes that the row has at the first places of the windows,
+//!    the one that the choice of the loop takes. So a root says whether its formula holds at
+//!    position 0.
+//!
+//! Each formula has a frame of its own: one without past operators is unrolled by one round, even
+//! where another needs nine. All of them are built in one circuit.
+//!
+//! The root of a formula of the plain forms (`IsPlain`) that nests at most eight past operators is
+//! exact: it is true of just the lassos of which the formula holds at position 0.
+//! Not proved: the same of formulas of other forms.
 #![tactic(auto)]
 
-pub mod laws;
 pub mod past_depth;
 pub mod roots;
 
-pub use laws::field_declarations_are_plain;
 pub use roots::{Encoded, encode};
-
-#[cfg(test)]
-mod tests;

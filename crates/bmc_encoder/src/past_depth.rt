@@ -1,4 +1,4 @@
-// How many past operators a kernel formula nests.
+//! The past depth of a kernel formula: how many past operators it nests.
 
 ghost use Rattle.std.specs.Prelude.{◌≡◌, map};
 ghost use Rattle.core_tree.specs.Past.{one_more as one_more_than, under_unary as under_one, under_binary as under_two};

@@ -1,4 +1,4 @@
-// The roots of a target.
+//! The roots of a target, and the run that makes them: layout, choices of the loop, formulas.
 
 ghost use Rattle.std.specs.Prelude.{◌≡◌, ◌<◌, ◌+◌, ℕ, Bool, IfOk, OnOk, Some, length, slice_get};
 ghost use Rattle.core_tree.specs.declared.tree.Formula.{Formula as FormulaTree};

@@ -1,6 +1,5 @@
-//! When a set of clauses encodes a model and a command, and what its assignments then tell.
-//!
-//! Laws of tables of variables and of the lassos for which their values stand.
+//! When clauses encode a model and a command, and what their assignments tell of lassos.
+//! Each lasso within the bounds is one for which some values of the table's variables stand.
 #![tactic(auto)]
 
 ghost use Rattle.std.specs.Prelude.{◌≡◌, ℕ, ℤ, Bool, List};
@@ -23,9 +22,6 @@ pub fn encodings_tell()
     ensures complete { (model : Model) (scopes : Scopes) (facts : List Fact) (command : Claim) (bounds : Bounds) (variables : ℕ) (clauses : List (List ℤ)) → EncodesWith model scopes facts command bounds variables clauses → (lasso : LassoValue) → IsCandidate bounds lasso → SatisfiesWith model scopes lasso facts command → (values : List Bool) × IsSolution variables clauses values × Agrees bounds values lasso }
 {}
 
-#[cfg(test)]
-mod encoding_form_tests;
-
 ghost use Rattle.bmc_laws.specs.TableTold.{CandidatesAreTold};
 
 use bound_uppers::rows_rise;
@@ -36,6 +32,3 @@ pub fn candidates_are_told()
 {
     rows_rise();
 }
-
-#[cfg(test)]
-mod table_laws_tests;

@@ -1,4 +1,4 @@
-// The sets without parts that a formula names: each is built once, before all else.
+//! The sets without parts that a formula names: each is built once, before all else.
 
 ghost use Rattle.std.specs.Prelude.{◌≡◌, ◌<◌, ◌⊎◌, [], ℕ, OnOk, IfOk, length};
 ghost use Rattle.gate_trait.specs.Built.{Keeps};

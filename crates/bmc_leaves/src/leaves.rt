@@ -1,4 +1,4 @@
-// The sets of expressions without parts.
+//! The sets of leaves at all places: relations, names, `univ`, `iden` and the integers.
 
 ghost use Rattle.std.specs.Prelude.{◌≡◌, ◌<◌, ◌≤◌, ◌+◌, ◌^◌, ◌∷◌, [], ◌++◌, ℕ, Bool, true, OnOk, IfOk, Some, IsTrue, All, slice_get, length, map};
 ghost use Rattle.gate_trait.specs.Built.{Keeps};

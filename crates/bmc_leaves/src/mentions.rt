@@ -1,4 +1,4 @@
-// Which sets without parts a formula names.
+//! Which leaves a formula names, so that no other is built.
 
 use core_tree::{Expr, Formula, Variable};
 

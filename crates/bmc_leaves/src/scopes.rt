@@ -1,4 +1,4 @@
-// Whether a lasso keeps the numbers of the scopes.
+//! Whether a lasso keeps the numbers of the scopes: a count of the atoms of each sig, as a node.
 
 ghost use Rattle.std.specs.Prelude.{◌≡◌, ◌↔◌, ◌<◌, ◌+◌, ◌*◌, ℕ, Bool, true, false, IfOk, OnOk, Some, None, length, slice_get};
 ghost use Rattle.std.specs.List.{count_by};
@@ -134,6 +134,7 @@ fn fixed_nodes<G: Gates>(
         → (row_value (G.node_value gates.new x) row j ≡ true) ↔ IsEver x true cells states j) }
 {
     let row = ever_nodes(alloc, gates, cells, true, count, 1)?;
+    // for the proof: only the clauses name the number of states
     let _ = states;
     Ok(row)
 }

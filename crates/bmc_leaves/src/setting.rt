@@ -1,4 +1,4 @@
-// In what formulas are read.
+//! The setting of an encoding: the table, the scopes and the places.
 
 use bmc_windows::Frame;
 use bound_uppers::{Bounds, Layout};
@@ -18,6 +18,7 @@ pub struct Setting<'a> {
 
 /// How many variables a list has; 0 where a tuple can't have so many numbers.
 pub fn columns_of(list: &[Variable]) -> u32 {
+    // ArityLimit, S47: a relation has at most nine columns.
     if list.len() <= 9 {
         list.len() as u32
     } else {

@@ -1,4 +1,4 @@
-// Tests of sets at all places, and of bounds with multiplicities.
+//! Tests of sets at all places, and of bounds with multiplicities.
 
 ghost use Rattle.std.specs.Prelude.{OnOk};
 ghost use Rattle.gate_trait.specs.Built.{Keeps};

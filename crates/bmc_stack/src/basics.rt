@@ -1,4 +1,4 @@
-// Adding to a store and taking from it.
+//! Adding to the store and taking from it: sets, integers and rows.
 
 ghost use Rattle.std.specs.Prelude.{◌≡◌, ◌∷◌, [], ◌++◌, ℕ, Bool, List, IfOk, OnOk, length, take};
 ghost use Rattle.gate_trait.specs.Built.{AllIn};
@@ -19,6 +19,7 @@ pub fn empty_store<G: Gates>(alloc: Global, gates: &G) -> Store
     ensures stored { AreStored (G.belongs gates.now) result }
     ensures empty { result.rows.items ≡ [] }
 {
+    // for the proof: only the clauses name the gates
     let _ = gates;
     Store {
         matrices: Vec::new(alloc),
@@ -42,6 +43,7 @@ pub fn add_matrix<G: Gates>(
     ensures grows { OnOk result (Grows store.old store.new) }
     ensures number { IfOk result (λ n. n ≡ length store.old.matrices.items) }
 {
+    // for the proof: only the clauses name the gates
     let _ = gates;
     let number = store.matrices.len();
     store.matrices.push(matrix)?;
@@ -56,6 +58,7 @@ pub fn add_integer<G: Gates>(gates: &G, store: &mut Store, bits: Bits) -> Result
     ensures stored { OnOk result (AreStored (G.belongs gates.now) store.new) }
     ensures grows { OnOk result (Grows store.old store.new) }
 {
+    // for the proof: only the clauses name the gates
     let _ = gates;
     let number = store.integers.len();
     store.integers.push(bits)?;
@@ -69,6 +72,7 @@ pub fn push_row<G: Gates>(gates: &G, store: &mut Store, row: NodeList) -> Result
     ensures stored { OnOk result (AreStored (G.belongs gates.now) store.new) }
     ensures pushed { OnOk result (IsPushed store.old store.new row) }
 {
+    // for the proof: only the clauses name the gates
     let _ = gates;
     store.rows.push(row)?;
     Ok(())
@@ -81,6 +85,7 @@ pub fn pop_row<G: Gates>(alloc: Global, gates: &G, store: &mut Store) -> NodeLis
     ensures row { AllIn (G.belongs gates.now) result }
     ensures popped { IsPopped store.old store.new result }
 {
+    // for the proof: only the clauses name the gates
     let _ = gates;
     match store.rows.pop() {
         None => NodeList::new(alloc),
@@ -116,6 +121,7 @@ pub fn drop_found<G: Gates>(gates: &G, store: &mut Store, base: usize)
     requires { AreStored (G.belongs gates.now) store.old }
     ensures { AreStored (G.belongs gates.now) store.new }
 {
+    // for the proof: only the clauses name the gates
     let _ = gates;
     store.found.truncate(base);
 }
@@ -127,6 +133,7 @@ pub fn cut<G: Gates>(gates: &G, store: &mut Store, mark: Mark)
     ensures rows { store.new.rows.items ≡ store.old.rows.items }
     ensures matrices { store.new.matrices.items ≡ take mark.matrices store.old.matrices.items }
 {
+    // for the proof: only the clauses name the gates
     let _ = gates;
     store.matrices.truncate(mark.matrices);
     store.integers.truncate(mark.integers);

@@ -1,4 +1,4 @@
-// Sets and integers that depend on where a formula holds.
+//! Sets and integers that depend on where a formula holds, chosen place by place.
 
 ghost use Rattle.std.specs.Prelude.{IfOk, OnOk};
 ghost use Rattle.gate_trait.specs.Built.{Keeps, AllIn};

@@ -1,4 +1,4 @@
-// The sets of comprehensions.
+//! The sets of comprehensions, from the rows that say where each tuple is found.
 
 ghost use Rattle.std.specs.Prelude.{IfOk, OnOk};
 ghost use Rattle.gate_matrix.specs.Matrices.{AllBelong};
@@ -83,6 +83,7 @@ fn matrix_at<G: Gates>(
     requires { AreStored (G.belongs gates.now) store.now }
     ensures { IfOk result (λ m. AllBelong (G.belongs gates.now) m.entries) }
 {
+    // ArityLimit, S47: a relation has at most nine columns.
     if columns < 1 || columns > 9 {
         return Ok(Matrix::empty(alloc, 1));
     }

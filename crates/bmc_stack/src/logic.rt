@@ -1,4 +1,4 @@
-// Steps on the stack of rows that are made of others.
+//! Steps that join rows of the stack: `implies`, `iff`, a choice, and what has held so far.
 
 ghost use Rattle.std.specs.Prelude.{◌≡◌, ◌∷◌, [], ◌++◌, ◌*◌, ◌≤◌, ℕ, Bool, List, Some, OnOk, length, slice_get};
 ghost use Rattle.gate_trait.specs.declared.node.Node.{Node as CircuitNode};

@@ -1,4 +1,4 @@
-// The tuples that sets may have, and parts of sets.
+//! The tuples that sets may have at some place, and what stands beside some numbers in a set.
 
 ghost use Rattle.std.specs.Prelude.{◌≡◌, ◌++◌, ◌+◌, ◌*◌, ℕ, Bool, List, IfOk, OnOk};
 ghost use Rattle.gate_trait.specs.declared.node.Node.{Node as CircuitNode};

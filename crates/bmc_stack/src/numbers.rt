@@ -1,4 +1,4 @@
-// Operators and tests on numbers of sets and integers.
+//! Operators and tests on two sets or integers of the store, named by their numbers.
 
 ghost use Rattle.std.specs.Prelude.{◌≡◌, ◌↔◌, ◌∷◌, [], ◌++◌, ℕ, Bool, true, List, Some, IfOk, OnOk, slice_get};
 ghost use Rattle.gate_trait.specs.Built.{Keeps, AllIn};

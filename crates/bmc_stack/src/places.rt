@@ -1,4 +1,4 @@
-// Sets and integers at all places: what is the same at several places is built once.
+//! Sets and integers at all places: what is the same at several places is built once.
 
 ghost use Rattle.std.specs.Prelude.{◌≡◌, ◌∷◌, [], ◌++◌, ℕ, Bool, List, OnOk, IfOk, length, replicate};
 ghost use Rattle.gate_trait.specs.declared.node.Node.{Node as CircuitNode};

@@ -1,4 +1,4 @@
-// Steps on the stack of rows.
+//! Steps on the stack of rows: constants, `not`, `and`, copies, and the operators of time.
 
 ghost use Rattle.std.specs.Prelude.{◌≡◌, ◌∷◌, [], ◌++◌, ◌-◌, ◌*◌, ℕ, Bool, List, Some, OnOk, IfOk, slice_get};
 ghost use Rattle.gate_trait.specs.declared.node.Node.{Node as CircuitNode};

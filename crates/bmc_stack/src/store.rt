@@ -1,4 +1,4 @@
-// What is built.
+//! The store: the sets and integers that are built, and the stacks of rows.
 
 ghost use Rattle.std.specs.Prelude.{◌≡◌, ◌-◌, length};
 

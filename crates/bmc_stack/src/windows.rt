@@ -1,4 +1,4 @@
-// Rows over the windows of all loops.
+//! Rows over the windows of all loops: `before`, `since` and `until` go along each by itself.
 
 ghost use Rattle.std.specs.Prelude.{◌≡◌, ◌↔◌, ◌<◌, ◌≤◌, ◌+◌, ◌-◌, ◌++◌, ℕ, Bool, List, IfOk, OnOk, IsTrue, length, replicate, slice_get, Some, take, drop};
 ghost use Rattle.gate_trait.specs.Built.{Keeps, AllIn};
@@ -35,6 +35,7 @@ fn everywhere<G: Gates>(
     ensures belongs { IfOk result (λ row. AllIn (G.belongs gates.now) row) }
     ensures nodes { IfOk result (λ row. row ≡ replicate count node) }
 {
+    // for the proof: only the clauses name the gates
     let _ = gates;
     let mut row = NodeList::new(alloc);
     for _place in 0..count {
@@ -122,6 +123,7 @@ fn append<G: Gates>(gates: &G, row: &mut NodeList, more: &NodeList) -> Result<()
     ensures belongs { AllIn (G.belongs gates.now) row.new }
     ensures nodes { OnOk result (row.new ≡ row.old ++ more.now) }
 {
+    // for the proof: only the clauses name the gates
     let _ = gates;
     for place in 0..more.len() {
         row.push(more.node(place))?;
@@ -145,6 +147,7 @@ fn before_in<G: Gates>(
     ensures belongs { IfOk result (λ row. AllIn (G.belongs gates.new) row) }
     ensures moving { IfOk result (λ row. IsMoving Before (G.node_value gates.old) (G.node_value gates.new) first f.now g.now row) }
 {
+    // for the proof: only the clauses name the first place and the first operand
     let _ = first;
     let _ = f.len();
     let made = gate_temporal::before(alloc, gates, g)?;
@@ -167,6 +170,7 @@ fn since_in<G: Gates>(
     ensures belongs { IfOk result (λ row. AllIn (G.belongs gates.new) row) }
     ensures moving { IfOk result (λ row. IsMoving Since (G.node_value gates.old) (G.node_value gates.new) first f.now g.now row) }
 {
+    // for the proof: only the clauses name the first place
     let _ = first;
     let made = gate_temporal::since(alloc, gates, f, g)?;
     Ok(made)

@@ -54,7 +54,8 @@ abbrev pub IsPlainBound : Variables → Type 0
 IsPlainBound (more_variables x apart e no_variables) = IsPlainTerm e
 IsPlainBound vs = ⊥
 
--- formulas on these: `in`, also with a multiplicity, `=`, tests, `not`, lists, `all` with one variable, `after`, `before`, `until` and `since`
+-- formulas on these: `in`, also with a multiplicity, `=`, tests, `not`, lists, `iff`,
+-- `implies .. else`, `all` with one variable, `after`, `before`, `until` and `since`
 abbrev mutual
   pub IsPlain : Claim → Type 0
   IsPlain (inside a b) = IsPlainTerm a × IsPlainTerm b

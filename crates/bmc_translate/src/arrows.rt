@@ -1,4 +1,4 @@
-// Tasks on bounds with multiplicities.
+//! Tasks on bounds with multiplicities: what an arrow asks of each tuple at one of its ends.
 
 ghost use Rattle.std.specs.Prelude.{OnOk};
 ghost use Rattle.gate_trait.specs.Built.{Keeps};

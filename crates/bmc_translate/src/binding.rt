@@ -1,4 +1,4 @@
-// Tasks on all values of variables.
+//! Tasks that ground variables: the body is done once for each value that the bound may have.
 
 ghost use Rattle.std.specs.Prelude.{OnOk};
 ghost use Rattle.core_tree.specs.Trees.{claim_of, variable_of};

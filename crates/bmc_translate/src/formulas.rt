@@ -1,4 +1,4 @@
-// Tasks that look into a formula: what it is made of is done first.
+//! Tasks that expand a formula: what it is made of is done first.
 
 ghost use Rattle.std.specs.Prelude.{◌≡◌, ◌∷◌, [], Bool, false, map, length, OnOk, IfOk, None, Some};
 ghost use Rattle.std.specs.Borrow.{Bor};
@@ -104,6 +104,7 @@ fn open_inside<'a>(
 {
     let question = RowStep::Asked(TestOperator::OfSets(Question::Inside));
     plan_sets_test(plan, a, b, scope, question)?;
+    // for the proof: only the clauses name the formula
     let _ = formula;
     Ok(None)
 }
@@ -120,6 +121,7 @@ fn open_equal<'a>(
     ensures { IfOk result (λ row. IsOpenedWith row (Task.Holds formula.entry scope) plan.old plan.new) }
 {
     plan_sets_test(plan, a, b, scope, RowStep::Equal)?;
+    // for the proof: only the clauses name the formula
     let _ = formula;
     Ok(None)
 }
@@ -164,6 +166,7 @@ fn open_within<'a>(
     requires { claim_of formula.now ≡ lies_within (term_of a.now) word (term_of b.now) }
     ensures { IfOk result (λ row. IsOpenedWith row (Task.Holds formula.entry scope) plan.old plan.new) }
 {
+    // for the proof: only the clauses name the formula
     let _ = formula;
     if !asks_nothing(b) {
         let within = Task::Within(word, b, scope);
@@ -186,6 +189,7 @@ fn open_test<'a>(
     ensures { IfOk result (λ row. IsOpenedWith row (Task.Holds formula.entry scope) plan.old plan.new) }
 {
     plan_set_test(plan, a, scope, RowStep::Tested(quantity))?;
+    // for the proof: only the clauses name the formula
     let _ = formula;
     Ok(None)
 }
@@ -201,6 +205,7 @@ fn open_not<'a>(
     ensures { IfOk result (λ row. IsOpenedWith row (Task.Holds formula.entry scope) plan.old plan.new) }
 {
     plan_one(plan, f, scope, RowStep::Negate)?;
+    // for the proof: only the clauses name the formula
     let _ = formula;
     Ok(None)
 }
@@ -216,6 +221,7 @@ fn open_every<'a>(
     ensures { IfOk result (λ row. IsOpenedWith row (Task.Holds formula.entry scope) plan.old plan.new) }
 {
     plan_every(plan, list, scope)?;
+    // for the proof: only the clauses name the formula
     let _ = formula;
     Ok(Some(true))
 }
@@ -231,6 +237,7 @@ fn open_neighbour<'a>(
     requires { claim_of formula.now ≡ temporal op (claim_of f.now) }
     ensures { IfOk result (λ row. IsOpenedWith row (Task.Holds formula.entry scope) plan.old plan.new) }
 {
+    // for the proof: only the clauses name the formula
     let _ = formula;
     match op {
         TemporalUnary::After => {
@@ -257,6 +264,7 @@ fn open_along<'a>(
     requires { claim_of formula.now ≡ temporal_pair op (claim_of f.now) (claim_of g.now) }
     ensures { IfOk result (λ row. IsOpenedWith row (Task.Holds formula.entry scope) plan.old plan.new) }
 {
+    // for the proof: only the clauses name the formula
     let _ = formula;
     match op {
         TemporalBinary::Until => {
@@ -283,6 +291,7 @@ fn open_connect<'a>(
     requires { claim_of formula.now ≡ connect op (claim_of f.now) (claim_of g.now) }
     ensures { IfOk result (λ row. IsOpenedWith row (Task.Holds formula.entry scope) plan.old plan.new) }
 {
+    // for the proof: only the clauses name the formula
     let _ = formula;
     match op {
         Connective::Iff => {
@@ -326,6 +335,7 @@ fn open_choice<'a>(
     ensures { IfOk result (λ row. IsOpenedWith row (Task.Holds formula.entry scope) plan.old plan.new) }
 {
     plan_choice(plan, f, g, h, scope)?;
+    // for the proof: only the clauses name the formula
     let _ = formula;
     Ok(None)
 }
@@ -359,6 +369,7 @@ fn open_all<'a>(
     requires { claim_of formula.now ≡ for_all (variable_list (map variable_of list.now)) (claim_of f.now) }
     ensures { IfOk result (λ row. IsOpenedWith row (Task.Holds formula.entry scope) plan.old plan.new) }
 {
+    // for the proof: only the clauses name the formula
     let _ = formula;
     if list.len() != 1 {
         first(plan, Task::Bind(Body::All(f), list, scope))?;

@@ -1,4 +1,4 @@
-// Tasks that look into an expression: what it is made of is done first.
+//! Tasks that expand an expression: what it is made of is done first.
 
 ghost use Rattle.std.specs.Prelude.{◌≡◌, ◌<◌, ◌+◌, ◌∷◌, [], ℕ, length, OnOk, IfOk, IsTrue, Vec};
 ghost use Rattle.std.specs.declared.alloc.Global.{Global as Heap};
@@ -151,6 +151,7 @@ fn open_combine<'a>(
     ensures { OnOk result (IsOpened (Task.Sets expr.entry scope) plan.old plan.new) }
 {
     plan_pair(plan, a, b, scope, SetOperator::Combine(op))?;
+    // for the proof: only the clauses name the expression
     let _ = expr;
     Ok(())
 }
@@ -169,6 +170,7 @@ fn open_product<'a>(
     ensures { OnOk result (IsOpened (Task.Sets expr.entry scope) plan.old plan.new) }
 {
     plan_pair(plan, a, b, scope, SetOperator::Product)?;
+    // for the proof: only the clauses name the expression and its multiplicities
     let _ = expr;
     let _ = (left, right);
     Ok(())
@@ -186,6 +188,7 @@ fn open_turned<'a>(
     ensures { OnOk result (IsOpened (Task.Sets expr.entry scope) plan.old plan.new) }
 {
     plan_turned(plan, a, scope, one_operator(op))?;
+    // for the proof: only the clauses name the expression
     let _ = expr;
     Ok(())
 }
@@ -201,6 +204,7 @@ fn open_prime<'a>(
     ensures { OnOk result (IsOpened (Task.Sets expr.entry scope) plan.old plan.new) }
 {
     plan_next(plan, a, scope)?;
+    // for the proof: only the clauses name the expression
     let _ = expr;
     Ok(())
 }
@@ -238,6 +242,7 @@ fn open_either<'a>(
     ensures { OnOk result (IsOpened (Task.Sets expr.entry scope) plan.old plan.new) }
 {
     plan_either(plan, f, a, b, scope)?;
+    // for the proof: only the clauses name the expression
     let _ = expr;
     Ok(())
 }
@@ -344,6 +349,7 @@ fn open_sig(
     ensures { OnOk result (GoesAlone setting.now (Task.Sets expr.entry scope) plan.old plan.new) }
 {
     open_relation(alloc, plan, setting, sig as usize)?;
+    // for the proof: only the clauses name the expression and the scope
     let _ = expr;
     let _ = scope;
     Ok(())
@@ -363,6 +369,7 @@ fn open_field(
 {
     let number = field_number(setting, field)?;
     open_relation(alloc, plan, setting, number)?;
+    // for the proof: only the clauses name the expression and the scope
     let _ = expr;
     let _ = scope;
     Ok(())
@@ -387,6 +394,7 @@ fn open_name<G: Gates>(
     let atom = atom_of(&plan.names, scope, name);
     let value = name_sets(alloc, gates, store, setting, atom)?;
     push_value(plan, value)?;
+    // for the proof: only the clauses name the expression
     let _ = expr;
     Ok(())
 }
@@ -428,6 +436,7 @@ fn open_univ(
     ensures { OnOk result (GoesAlone setting.now (Task.Sets expr.entry scope) plan.old plan.new) }
 {
     open_constant(alloc, plan, setting, 0)?;
+    // for the proof: only the clauses name the expression and the scope
     let _ = expr;
     let _ = scope;
     Ok(())
@@ -445,6 +454,7 @@ fn open_iden(
     ensures { OnOk result (GoesAlone setting.now (Task.Sets expr.entry scope) plan.old plan.new) }
 {
     open_constant(alloc, plan, setting, 1)?;
+    // for the proof: only the clauses name the expression and the scope
     let _ = expr;
     let _ = scope;
     Ok(())
@@ -462,6 +472,7 @@ fn open_int(
     ensures { OnOk result (GoesAlone setting.now (Task.Sets expr.entry scope) plan.old plan.new) }
 {
     open_constant(alloc, plan, setting, 2)?;
+    // for the proof: only the clauses name the expression and the scope
     let _ = expr;
     let _ = scope;
     Ok(())
@@ -484,6 +495,7 @@ fn open_empty<G: Gates>(
 {
     let value = no_set(alloc, gates, store, setting)?;
     push_value(plan, value)?;
+    // for the proof: only the clauses name the expression and the scope
     let _ = expr;
     let _ = scope;
     Ok(())

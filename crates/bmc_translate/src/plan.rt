@@ -1,4 +1,25 @@
-// What is still to be done, and what stands between the steps.
+//! The plan of a translation: what is still to be done, and what stands between the steps.
+//!
+//! A [`Plan`] has a stack of tasks. The last is done first, so `first_two` and `first_three` push
+//! theirs in the opposite order. A [`Task`] is of one of three kinds:
+//!
+//! - `Sets`, `Integers` and `Holds` expand a tree: in the task's place come those of its parts,
+//!   and after them the step that joins what the parts leave. `Sets` of an operator on `a` and `b`
+//!   becomes `Sets` of `a`, `Sets` of `b` and then `Values` with the step `Two`;
+//! - `Values` and `Rows` are such steps: a [`ValueStep`] works on the stack of values in the plan,
+//!   a [`RowStep`] works on the stack of rows in the store;
+//! - `Bind`, `Each`, `ForAll`, `Within`, `Fits`, `Ends` and `AtEnd` ground variables and arrows
+//!   over the tuples that sets on the stack may have; `Cut` lets go what was built on the way.
+//!
+//! A value is a row of numbers: for each place of the windows, the number of a set or integer.
+//!
+//! The environments, which say for which atoms names stand, form a tree: each adds one [`Name`]
+//! with its atom to the one in which it was bound, its `outer`. A number called `scope` is that of
+//! an environment: 0 is the empty one, and k + 1 is the one that the name of place k opened. So a
+//! task carries its environment as one number, and an inner name hides an outer one of the same
+//! number.
+//!
+//! `kept` has the sets without parts that the formula names, which were built before all else.
 
 ghost use Rattle.std.specs.Prelude.{◌≡◌, ◌∷◌, [], OnOk, IfOk};
 ghost use Rattle.bmc_leaves.specs.Shown.{Atoms, atom_in};

@@ -1,4 +1,4 @@
-// The tasks one after the other.
+//! The machine: the tasks are done one after the other, and what each of them leaves.
 
 ghost use Rattle.std.specs.Prelude.{◌≡◌, ◌∷◌, [], ℕ, false, OnOk, IfOk, IsTrue};
 ghost use Rattle.gate_trait.specs.Built.{Keeps};
@@ -192,6 +192,7 @@ fn ask_values<G: Gates>(
 {
     let second = pop_value(alloc, plan);
     let first = pop_value(alloc, plan);
+    // for the proof: only the clauses name the setting
     let _ = setting.frame.states;
     asked(alloc, gates, store, question, &first, &second)?;
     Ok(())
@@ -212,6 +213,7 @@ fn equal_values<G: Gates>(
 {
     let second = pop_value(alloc, plan);
     let first = pop_value(alloc, plan);
+    // for the proof: only the clauses name the setting
     let _ = setting.frame.states;
     push_equal(alloc, gates, store, &first, &second)?;
     Ok(())
@@ -232,6 +234,7 @@ fn test_value<G: Gates>(
     ensures goes { OnOk result (GoesOn setting.now (Task.Rows (RowStep.Tested quantity)) (G.node_value gates.old) (G.node_value gates.new) store.old store.new plan.old plan.new) }
 {
     let value = pop_value(alloc, plan);
+    // for the proof: only the clauses name the setting
     let _ = setting.frame.states;
     push_tested(alloc, gates, store, quantity, &value)?;
     Ok(())
@@ -253,6 +256,7 @@ fn lies_values<G: Gates>(
 {
     let second = pop_value(alloc, plan);
     let first = pop_value(alloc, plan);
+    // for the proof: only the clauses name the setting
     let _ = setting.frame.states;
     push_within(alloc, gates, store, word, &first, &second)?;
     Ok(())
@@ -418,6 +422,7 @@ fn cut_all<G: Gates>(
     ensures stored { AreStored (G.belongs gates.now) store.new }
     ensures goes { GoesOn setting.now (Task.Cut mark names) (G.node_value gates.now) (G.node_value gates.now) store.old store.new plan.old plan.new }
 {
+    // for the proof: only the clauses name the setting
     let _ = setting.frame.states;
     cut(gates, store, mark);
     plan.names.truncate(names);
@@ -542,7 +547,8 @@ pub fn push_formula<G: Gates>(
     let kept = kept_of(alloc, gates, store, setting, formula)?;
     let mut plan = new_plan(alloc, kept);
     first(&mut plan, Task::Holds(formula, 0))?;
-    // No formula has so many tasks, since there is no memory for what they would leave.
+    // The bound only makes the loop end. Memory would be wanting before so many tasks are done,
+    // and the answer behind the loop is want of memory.
     for _turn in 0..u64::MAX {
         let more = advance(alloc, gates, store, &mut plan, setting)?;
         if !more {

@@ -1,5 +1,5 @@
--- The places of the windows of all loops. The window of a loop has the places before the loop, and then so
--- many rounds of it.
+-- The places of the windows of all loops.
+-- The window of a loop has the places before the loop, and then so many rounds of it.
 use Rattle.std.specs.Prelude.{zero, suc, ◌≡◌, ◌<◌, ◌≤◌, ◌∷◌, [], ◌++◌, ℕ, ◌+◌, ◌-◌, ◌*◌, ◌%◌, nat_lt, if◌then◌else◌, List, length, slice_get, Some}
 use Rattle.bmc_windows.specs.declared.frame.Stretch.{Stretch}
 use Rattle.bmc_windows.specs.declared.frame.Frame.{Frame}

@@ -1,4 +1,6 @@
--- What stands at a place when one more item is added at the end: facts for the crates that build lists.
+-- Lemmas and their proofs; nothing to read here.
+-- They are on what stands at a place when one more item is added at the end, for the crates that
+-- build lists.
 use Rattle.std.proofs.Common.{◌≡◌, ◌⊎◌, ◌<◌, ℕ, zero, suc, List, [], ◌∷◌, ◌++◌, length, slice_get, Some, refl, sym, ap, ◌∙◌, subst, arith, inl, inr}
 
 pub push_kept : {X : Type 0} (xs : List X) (y : X) (k : ℕ) (v : X) → slice_get xs k ≡ Some v → slice_get (xs ++ y ∷ []) k ≡ Some v

@@ -1,7 +1,6 @@
-// Small questions on tuples and atoms.
+//! The atom of a variable, which is the first of a tuple.
 
 use core_tuples::Tuple;
-use std::alloc::{AllocError, Global};
 
 /// The first number of a tuple; 0 of one without numbers.
 pub fn first_number(tuple: &Tuple) -> u32 {
@@ -9,22 +8,4 @@ pub fn first_number(tuple: &Tuple) -> u32 {
         Some(number) => *number,
         None => 0,
     }
-}
-
-/// Whether the atom differs from the last `apart` of the earlier ones.
-pub fn is_apart(earlier: &[u32], apart: u32, atom: u32) -> bool {
-    for (place, other) in earlier.iter().enumerate() {
-        let behind = earlier.len().saturating_sub(place);
-        if behind <= apart as usize && *other == atom {
-            return false;
-        }
-    }
-    true
-}
-
-/// The atoms with one more at the end.
-pub fn with_last(alloc: Global, earlier: &[u32], atom: u32) -> Result<Vec<u32>, AllocError> {
-    let mut all = earlier.to_vec(alloc)?;
-    all.push(atom)?;
-    Ok(all)
 }

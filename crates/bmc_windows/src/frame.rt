@@ -1,4 +1,4 @@
-// The places at which formulas are encoded: the windows of all loops, one after the other.
+//! The places at which formulas are encoded: the windows of all loops, one after the other.
 
 ghost use Rattle.std.specs.Prelude.{◌≡◌, ◌<◌, ◌≤◌, ◌+◌, ◌-◌, ◌∷◌, [], ◌++◌, ◌^◌, nat_lt, if◌then◌else◌, length, IfOk, OnOk};
 ghost use Rattle.bmc_windows.specs.Frames.{IsFrame, IsStretch, AddsPlaces, AddsStretch, rounds_of, window_length, start_of, state_shown, place_next};

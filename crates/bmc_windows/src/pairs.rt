@@ -1,4 +1,4 @@
-// Numbers at all places.
+//! Rows of numbers at all places, and the pairs that meet in two of them.
 
 ghost use Rattle.std.specs.Prelude.{◌≡◌, ◌<◌, ◌∷◌, [], ◌++◌, ℕ, Some, IfOk, OnOk, IfSome, length, replicate, slice_get};
 ghost use Rattle.bmc_windows.specs.Pairing.{ArePairs, IsMoved, AddsPair};

@@ -1,4 +1,5 @@
--- How deep formulas and expressions are, after calls are replaced by bodies and `let` names by their values.
+-- How deep formulas and expressions are.
+-- It is counted as if calls were replaced by bodies and `let` names by their values.
 use Rattle.std.specs.Prelude.{ℕ, zero, suc, ◌+◌, ◌-◌, eqb, if◌then◌else◌, max, Bool, true, false, List, length, Option, Some, None, slice_get}
 use Rattle.core_tree.specs.declared.operators.RelationOp.{RelationOp}
 use Rattle.core_tree.specs.declared.operators.RelationOp.TheVariants.{Join}

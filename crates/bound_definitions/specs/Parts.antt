@@ -1,10 +1,10 @@
 -- Which numbers stand in formulas and expressions, and which bodies these call.
 use Rattle.std.specs.Prelude.{◌≡◌, ◌⊎◌, ℕ, ℤ}
-use Rattle.base_types.specs.declared.place.Place.{Place}
+use Rattle.base_types.specs.declared.place.Position.{Position}
 use Rattle.core_tree.specs.Trees.{Term, Terms, Variables, Claim, Claims, sig, field, name, univ, iden, empty, int, combine, product, unary, prime, choose_term, comprehension, number, count, arithmetic, sum_over, let_term, call_term, no_terms, more_terms, no_variables, more_variables, inside, equal, within, test, compare, negation, every, connect, choose_claim, for_all, counted, temporal, temporal_pair, let_claim, call_claim, no_claims, more_claims}
 
 -- a number with its place stands in it
-module _ (n : ℤ) (p : Place) where
+module _ (n : ℤ) (p : Position) where
   abbrev mutual
     pub NumberIn : Term → Type 0
     NumberIn (sig s) = ⊥

@@ -1,6 +1,6 @@
 -- The rules on scopes, each with the places at which it is broken.
 use Rattle.std.specs.Prelude.{◌≡◌, ◌⊎◌, ℕ, ◌<◌, true, List, Some, slice_get}
-use Rattle.base_types.specs.declared.place.Place.{Place}
+use Rattle.base_types.specs.declared.place.Position.{Position}
 use Rattle.base_types.specs.declared.place.Rule.{Rule}
 use Rattle.base_types.specs.declared.place.Rule.TheVariants as rule
 use Rattle.core_tree.specs.declared.model.Model.{Model}
@@ -15,7 +15,7 @@ use Rattle.core_meaning.specs.declared.scopes.Scopes.{Scopes}
 use Rattle.core_meaning.specs.Kept.{universe_size}
 use Rattle.bound_definitions.specs.Numbers.{is_static_one, is_static_lone, AreScopesBy}
 
-abbrev pub in_root : Place → Origin
+abbrev pub in_root : Position → Origin
 in_root place = record { instance = 0; place = place }
 
 abbrev pub IsSubset : List Sig → ℕ → Type 0

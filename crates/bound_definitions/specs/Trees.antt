@@ -1,6 +1,7 @@
--- The rules that look into the formulas that count for a command, each with the places at which it is broken.
+-- The rules on scopes that look into formulas, each with the places at which it is broken.
+-- The formulas are those that count for a command.
 use Rattle.std.specs.Prelude.{◌≡◌, ◌⊎◌, ℕ, ℤ, ◌<◌, Some, slice_get}
-use Rattle.base_types.specs.declared.place.Place.{Place}
+use Rattle.base_types.specs.declared.place.Position.{Position}
 use Rattle.base_types.specs.declared.place.Rule.{Rule}
 use Rattle.base_types.specs.declared.place.Rule.TheVariants as rule
 use Rattle.core_tree.specs.declared.model.Model.{Model}
@@ -25,7 +26,7 @@ use Rattle.bound_definitions.specs.Rules.{in_root}
 abbrev pub IsInBits : ℕ → ℤ → Type 0
 IsInBits bits n = wrap bits n ≡ n
 
-abbrev pub NumberOfForm : ℤ → Place → BodyForm → Type 0
+abbrev pub NumberOfForm : ℤ → Position → BodyForm → Type 0
 NumberOfForm n p (Test f) = NumberOf n p (claim_of f)
 NumberOfForm n p (Value e bound) = NumberIn n p (term_of e)
 

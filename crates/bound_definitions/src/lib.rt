@@ -1,5 +1,6 @@
-//! The scopes of a command and the rules on them, as definitions (specs/), and the numbers that a
-//! command lists for the bitwidth, the states and all top-level sigs.
+//! The scopes of a command and the rules on them, as definitions (specs/).
+//! With them stand the numbers that a command lists for the bitwidth, the states and all top-level
+//! sigs, and the rules that give a sig its number (`known`).
 #![tactic(auto)]
 
 ghost use Rattle.std.specs.Prelude.{◌≡◌};
@@ -8,8 +9,6 @@ ghost use Rattle.bound_definitions.specs.Numbers.{is_int, is_steps, is_overall, 
 use core_tree::{ScopeEntry, ScopeSubject};
 
 mod known;
-#[cfg(test)]
-mod tests;
 
 pub use known::{
     Known, at_most, is_static_lone, is_static_one, is_string, or_else, own_of, placed, scope_of,

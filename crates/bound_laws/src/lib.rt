@@ -1,4 +1,4 @@
-//! A law: the lassos that satisfy a model and a command are among those that a search looks through.
+//! A law: the lassos that satisfy a model and a command are among those of the search.
 #![tactic(auto)]
 
 ghost use Rattle.bound_laws.specs.Satisfying.{SatisfyingAreCandidates};
@@ -15,6 +15,3 @@ pub fn satisfying_lassos_are_candidates()
     same_sequences_satisfy_the_same();
     fields_lie_in_their_bounds();
 }
-
-#[cfg(test)]
-mod tests;

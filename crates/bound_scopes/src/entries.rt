@@ -2,7 +2,7 @@
 
 ghost use Rattle.std.specs.Prelude.{◌≡◌, length, IfOk};
 
-use base_types::Place;
+use base_types::Position;
 use core_tree::{Multiplicity, Origin, ScopeEntry, ScopeSubject, Sig, SigKind};
 use form_measures::earliest;
 use std::alloc::{AllocError, Global};
@@ -35,7 +35,7 @@ pub(crate) struct Scope {
 #[derive(Clone, Copy, Debug, PartialEq, Eq)]
 pub(crate) struct Numbered {
     pub number: u32,
-    pub place: Place,
+    pub place: Position,
 }
 
 /// Whether a sig is an `in` sig.
@@ -47,7 +47,7 @@ fn is_subset(sig: &Sig) -> bool {
 }
 
 /// A place in the root.
-fn in_root(place: Place) -> Origin {
+fn in_root(place: Position) -> Origin {
     Origin { instance: 0, place }
 }
 

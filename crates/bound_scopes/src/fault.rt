@@ -1,4 +1,4 @@
-//! Why there are no scopes.
+//! Why a command has no scopes: the rule that is broken, and where.
 
 use base_types::Refusal;
 use std::alloc::{AllocError, AllocFailed};

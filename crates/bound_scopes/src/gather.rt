@@ -1,5 +1,6 @@
-//! The rules that look into formulas: numbers outside the bitwidth, and limits on nested past
-//! operators and on depth once calls are written out.
+//! The rules on scopes that look into formulas.
+//! They are those on numbers outside the bitwidth, and the limits on nested past operators and on
+//! depth once calls are written out.
 
 ghost use Rattle.std.specs.Prelude.{◌≡◌, ◌≤◌, IfErr};
 ghost use Rattle.bound_scopes.specs.Limits.{IsValueFault};
@@ -7,7 +8,7 @@ ghost use Rattle.bound_scopes.specs.declared.fault.ScopeFault.TheVariants.{Refus
 
 use crate::fault::ScopeFault;
 use base_types::limits::{INLINED_DEPTH, PAST_DEPTH};
-use base_types::{Place, Refusal, Rule};
+use base_types::{Position, Refusal, Rule};
 use core_meaning::Scopes;
 use core_tree::{Command, Expr, Fact, Field, Model, Origin, Sig};
 use form_measures::{Measure, Reach, Summary, earliest, expr_depth, formula_depth, summaries};
@@ -200,7 +201,7 @@ pub fn check_value(
     model: &Model,
     scopes: &Scopes,
     value: &Expr,
-    first: Place,
+    first: Position,
 ) -> Result<(), ScopeFault>
     requires bits { (1 ≤ scopes.now.bits) × (scopes.now.bits ≤ 12) }
     ensures fault { IfErr result (λ e. IsValueFault e) }
@@ -232,7 +233,7 @@ fn value_depth(
 }
 
 /// A broken rule and its place.
-pub(crate) fn refused(rule: Rule, place: Place) -> ScopeFault
+pub(crate) fn refused(rule: Rule, place: Position) -> ScopeFault
     ensures { result ≡ Refused (record { rule = rule; place = place }) }
 {
     ScopeFault::Refused(Refusal { rule, place })

@@ -1,5 +1,5 @@
-//! The scopes of a command: how many atoms each sig has, the bitwidth, the number of states, and
-//! the static rules that need these.
+//! The scopes of a command, and the static rules that need them.
+//! The scopes are how many atoms each sig has, the bitwidth, and the number of states.
 #![tactic(auto)]
 
 mod entries;
@@ -13,6 +13,3 @@ mod order;
 pub use fault::ScopeFault;
 pub use gather::check_value;
 pub use limits::scopes;
-
-#[cfg(test)]
-mod tests;

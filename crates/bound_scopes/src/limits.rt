@@ -12,7 +12,7 @@ use crate::gather::{over_limit, refused, wide_literal};
 use crate::keeps::{are_listed, are_sig_scopes};
 use crate::numbers::{fits, numbers};
 use base_types::limits::{ATOMS, BITWIDTH, STEPS};
-use base_types::{Place, Rule};
+use base_types::{Position, Rule};
 use core_meaning::{Scopes, SigScopeList};
 use core_tree::{Command, Field, Model, Origin, ScopeEntryList, Sig, SigList};
 use form_measures::Measure;
@@ -25,7 +25,7 @@ const DEFAULT_BITS: u32 = 4;
 const DEFAULT_STEPS: u32 = 10;
 
 /// The place of a command that isn't there: the beginning of the root.
-const ROOT: Place = Place {
+const ROOT: Position = Position {
     module: 0,
     line: 1,
     column: 1,
@@ -176,7 +176,7 @@ fn integers_of(bits: u32) -> u64
 }
 
 /// Asks that the atoms and the integers are few enough (S66).
-fn check_atoms(numbers: &SigScopeList, bits: u32, keyword: Place) -> Result<(), ScopeFault>
+fn check_atoms(numbers: &SigScopeList, bits: u32, keyword: Position) -> Result<(), ScopeFault>
     requires { (1 ≤ bits) × (bits ≤ 12) }
     ensures ok { IfOk result (λ _. atom_count numbers.now + 2 ^ bits ≤ 16384) }
     ensures fault { IfErr result (λ e. IsScopeFault e) }

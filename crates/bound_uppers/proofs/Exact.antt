@@ -18,8 +18,8 @@ use Rattle.core_meaning.specs.declared.scopes.SigScope.{SigScope}
 use Rattle.core_meaning.specs.declared.scopes.Scopes.{Scopes}
 use Rattle.core_meaning.specs.Kept.{atom_count, first_atom, universe_size, or_zero_number, InColumnBound, InRowBound, IsLiteral, InSigBound}
 use Rattle.bound_uppers.specs.declared.table.Bound.{Bound}
-use Rattle.bound_uppers.specs.declared.numbers.Span.{Span}
-use Rattle.bound_uppers.specs.declared.numbers.Spans.{Spans}
+use Rattle.bound_uppers.specs.declared.numbers.AtomRange.{AtomRange}
+use Rattle.bound_uppers.specs.declared.numbers.AtomRanges.{AtomRanges}
 use Rattle.bound_uppers.specs.declared.uppers.Sketch.{Sketch}
 use Rattle.bound_uppers.specs.Kinds.{HasTops, top_at, kind_at, sig_kind, row_kinds_of, rows_kinds_of, HasRows, no_span, span_at, span_in, InSpan, InKinds, InRows, HasSpans, FitSpans}
 use Rattle.bound_uppers.specs.Sketches.{first_in, literal_in, IsRightSketch, InSketch, IsSigSketch, IsFieldSketch, AreSketches, HasUppers}
@@ -52,24 +52,24 @@ option_cases (Some x) = inr (x, refl)
 
 -- ---- the numbers of a kind
 
-module _ (scopes : Scopes) (spans : Spans) (has : HasSpans scopes spans) where
-  sig_span : (top : ℕ) (d : Span) → (s : SigScope) → slice_get scopes.numbers top ≡ Some s → get_or spans.sigs.items top d ≡ span_in (universe_size scopes) (first_atom scopes.numbers top) (or_zero s.number)
-  sig_span top d s e = ap (λ (xs : List Span). get_or xs top d) has.sigs ∙ span_at_place (universe_size scopes) scopes.numbers top s d e
+module _ (scopes : Scopes) (spans : AtomRanges) (has : HasSpans scopes spans) where
+  sig_span : (top : ℕ) (d : AtomRange) → (s : SigScope) → slice_get scopes.numbers top ≡ Some s → get_or spans.sigs.items top d ≡ span_in (universe_size scopes) (first_atom scopes.numbers top) (or_zero s.number)
+  sig_span top d s e = ap (λ (xs : List AtomRange). get_or xs top d) has.sigs ∙ span_at_place (universe_size scopes) scopes.numbers top s d e
 
-  lacks_span : (top : ℕ) (d : Span) → slice_get scopes.numbers top ≡ None → get_or spans.sigs.items top d ≡ d
-  lacks_span top d e = ap (λ (xs : List Span). get_or xs top d) has.sigs ∙ span_lacks (universe_size scopes) 0 scopes.numbers top d e
+  lacks_span : (top : ℕ) (d : AtomRange) → slice_get scopes.numbers top ≡ None → get_or spans.sigs.items top d ≡ d
+  lacks_span top d e = ap (λ (xs : List AtomRange). get_or xs top d) has.sigs ∙ span_lacks (universe_size scopes) 0 scopes.numbers top d e
 
   -- so many numbers, or none where there is no such sig
   those : (top a : ℕ) → InSpan (get_or spans.sigs.items top no_span) a ↔ (((first_atom scopes.numbers top ≤ a) × (a < first_atom scopes.numbers top + or_zero_number (slice_get scopes.numbers top))) × (a < universe_size scopes))
   those top a = elim (option_cases (slice_get scopes.numbers top)) [
     | inl none ↦
         subst (λ (o : Option SigScope). InSpan (get_or spans.sigs.items top no_span) a ↔ (((first_atom scopes.numbers top ≤ a) × (a < first_atom scopes.numbers top + or_zero_number o)) × (a < universe_size scopes))) (sym none) (
-          (λ h. absurd (nobody a (subst (λ (s : Span). InSpan s a) (lacks_span top no_span none) h))),
+          (λ h. absurd (nobody a (subst (λ (s : AtomRange). InSpan s a) (lacks_span top no_span none) h))),
           (λ h. let low = h.0.0 in let high = h.0.1 in absurd (omega (arith, low, high))),
         )
     | inr (s, some) ↦
         subst (λ (o : Option SigScope). InSpan (get_or spans.sigs.items top no_span) a ↔ (((first_atom scopes.numbers top ≤ a) × (a < first_atom scopes.numbers top + or_zero_number o)) × (a < universe_size scopes))) (sym some)
-        (subst (λ (z : Span). InSpan z a ↔ (((first_atom scopes.numbers top ≤ a) × (a < first_atom scopes.numbers top + or_zero s.number)) × (a < universe_size scopes))) (sym (sig_span top no_span s some)) (in_span (universe_size scopes) (first_atom scopes.numbers top) (or_zero s.number) a))
+        (subst (λ (z : AtomRange). InSpan z a ↔ (((first_atom scopes.numbers top ≤ a) × (a < first_atom scopes.numbers top + or_zero s.number)) × (a < universe_size scopes))) (sym (sig_span top no_span s some)) (in_span (universe_size scopes) (first_atom scopes.numbers top) (or_zero s.number) a))
   ]
 
   far_sig : (k : ℕ) → 4294967294 ≤ k → slice_get scopes.numbers k ≡ None
@@ -81,7 +81,7 @@ module _ (scopes : Scopes) (spans : Spans) (has : HasSpans scopes spans) where
       let far : 4294967294 ≤ top = omega (arith, is) in
       let first = lacks_span 4294967294 no_span (far_sig 4294967294 (omega arith)) in
       let second = lacks_span top no_span (far_sig top far) in
-      ((λ h. absurd (nobody a (subst (λ (s : Span). InSpan s a) first h))), (λ h. absurd (nobody a (subst (λ (s : Span). InSpan s a) second h))))
+      ((λ h. absurd (nobody a (subst (λ (s : AtomRange). InSpan s a) first h))), (λ h. absurd (nobody a (subst (λ (s : AtomRange). InSpan s a) second h))))
   kind_case top a false e = subst (λ (c : Bool). InSpan (if c then spans.integers else get_or spans.sigs.items top no_span) a ↔ InSpan (get_or spans.sigs.items top no_span) a) (sym e) ((λ h. h), (λ h. h))
 
   of_sig : (top a : ℕ) → InSpan (span_at spans (sig_kind top)) a ↔ (((first_atom scopes.numbers top ≤ a) × (a < first_atom scopes.numbers top + or_zero_number (slice_get scopes.numbers top))) × (a < universe_size scopes))
@@ -91,7 +91,7 @@ module _ (scopes : Scopes) (spans : Spans) (has : HasSpans scopes spans) where
       ((λ h. second.0 (first.0 h)), (λ h. first.1 (second.1 h)))
 
   of_integers : (a : ℕ) → InSpan spans.integers a ↔ (((atom_count scopes.numbers ≤ a) × (a < universe_size scopes)) × (a < universe_size scopes))
-  of_integers a = subst (λ (s : Span). InSpan s a ↔ (((atom_count scopes.numbers ≤ a) × (a < universe_size scopes)) × (a < universe_size scopes))) (sym has.integers) ((λ h. (h, h.1)), (λ h. h.0))
+  of_integers a = subst (λ (s : AtomRange). InSpan s a ↔ (((atom_count scopes.numbers ≤ a) × (a < universe_size scopes)) × (a < universe_size scopes))) (sym has.integers) ((λ h. (h, h.1)), (λ h. h.0))
 
   fit_case : (f n : ℕ) (b : Bool) → f ≤ universe_size scopes → nat_lt n (universe_size scopes - f) ≡ b → f + (if b then n else universe_size scopes - f) ≤ 16384
   fit_case f n true le e = let most = has.most in let less : n < universe_size scopes - f = ltb-true n (universe_size scopes - f) e in omega (arith, most, le, less)
@@ -99,14 +99,14 @@ module _ (scopes : Scopes) (spans : Spans) (has : HasSpans scopes spans) where
 
   fits_sig : (k : ℕ) → (get_or spans.sigs.items k no_span).first + (get_or spans.sigs.items k no_span).count ≤ 16384
   fits_sig k = elim (option_cases (slice_get scopes.numbers k)) [
-    | inl none ↦ subst (λ (s : Span). s.first + s.count ≤ 16384) (sym (lacks_span k no_span none)) (omega arith)
+    | inl none ↦ subst (λ (s : AtomRange). s.first + s.count ≤ 16384) (sym (lacks_span k no_span none)) (omega arith)
     | inr (s, some) ↦
         let most = first_most scopes.numbers k in
-        subst (λ (z : Span). z.first + z.count ≤ 16384) (sym (sig_span k no_span s some)) (fit_case (first_atom scopes.numbers k) (or_zero s.number) (nat_lt (or_zero s.number) (universe_size scopes - first_atom scopes.numbers k)) (omega (arith, most)) refl)
+        subst (λ (z : AtomRange). z.first + z.count ≤ 16384) (sym (sig_span k no_span s some)) (fit_case (first_atom scopes.numbers k) (or_zero s.number) (nat_lt (or_zero s.number) (universe_size scopes - first_atom scopes.numbers k)) (omega (arith, most)) refl)
   ]
 
   fits_kind : (k : ℕ) (b : Bool) → (if b then spans.integers else get_or spans.sigs.items k no_span).first + (if b then spans.integers else get_or spans.sigs.items k no_span).count ≤ 16384
-  fits_kind k true = subst (λ (s : Span). s.first + s.count ≤ 16384) (sym has.integers) has.most
+  fits_kind k true = subst (λ (s : AtomRange). s.first + s.count ≤ 16384) (sym has.integers) has.most
   fits_kind k false = fits_sig k
 
   pub spans_fit : FitSpans spans
@@ -115,8 +115,8 @@ module _ (scopes : Scopes) (spans : Spans) (has : HasSpans scopes spans) where
   -- where the atoms of a literal's parent begin
   pub first_is : (p : ℕ) → first_in spans p ≡ first_atom scopes.numbers p
   first_is p = elim (option_cases (slice_get scopes.numbers p)) [
-    | inl none ↦ ap (λ (s : Span). s.first) (lacks_span p spans.integers none ∙ has.integers) ∙ sym (all_before scopes.numbers p none)
-    | inr (s, some) ↦ ap (λ (z : Span). z.first) (sig_span p spans.integers s some)
+    | inl none ↦ ap (λ (s : AtomRange). s.first) (lacks_span p spans.integers none ∙ has.integers) ∙ sym (all_before scopes.numbers p none)
+    | inr (s, some) ↦ ap (λ (z : AtomRange). z.first) (sig_span p spans.integers s some)
   ]
 
 right_in : (all : List Sketch) (n : ℕ) (k : Sketch) → All IsRightSketch all → slice_get all n ≡ Some k → IsRightSketch k
@@ -124,7 +124,7 @@ right_in all n k right at = subst (λ (s : Sketch). IsRightSketch s) (get_or_fro
 
 -- ---- rows of a type
 
-module _ (model : Model) (scopes : Scopes) (spans : Spans) (ups : List ℕ) (has : HasSpans scopes spans) (tops : HasTops model.sigs ups) where
+module _ (model : Model) (scopes : Scopes) (spans : AtomRanges) (ups : List ℕ) (has : HasSpans scopes spans) (tops : HasTops model.sigs ups) where
   column_is : (c : Column) (a : ℕ) → InSpan (span_at spans (kind_at ups c)) a ↔ (InColumnBound model scopes c a × (a < universe_size scopes))
   column_is IntColumn a = of_integers scopes spans has a
   column_is (SigColumn s) a = subst (λ (top : ℕ). InSpan (span_at spans (sig_kind (top_at ups s))) a ↔ (((first_atom scopes.numbers top ≤ a) × (a < first_atom scopes.numbers top + or_zero_number (slice_get scopes.numbers top))) × (a < universe_size scopes))) (tops s) (of_sig scopes spans has (top_at ups s) a)

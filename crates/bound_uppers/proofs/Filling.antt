@@ -6,8 +6,8 @@ use Rattle.std.proofs.lemmas.List.Elements.{All-nil, All-cons, All-take, All-dro
 use Rattle.core_tuples.specs.Sets.{TupleList, In, HasJust, IsPaired}
 use Rattle.core_tuples.specs.Index.{IsNumber}
 use Rattle.core_tuples.specs.Order.{cons_cases, cons_here, no_members, take_all}
-use Rattle.bound_uppers.specs.declared.numbers.Span.{Span}
-use Rattle.bound_uppers.specs.declared.numbers.Spans.{Spans}
+use Rattle.bound_uppers.specs.declared.numbers.AtomRange.{AtomRange}
+use Rattle.bound_uppers.specs.declared.numbers.AtomRanges.{AtomRanges}
 use Rattle.bound_uppers.specs.Kinds.{span_at, InSpan, InKinds, InRows}
 
 -- a tuple of one number
@@ -43,7 +43,7 @@ span_more first count old new was added = record {
   );
 }
 
-pub span_just : (span : Span) (set : TupleList) (count : ℕ) → span.count ≤ count → count ≤ span.count → HasJust set 1 (InFirst span.first count) → HasJust set 1 (λ t. (a : ℕ) × InSpan span a × (t ≡ a ∷ []))
+pub span_just : (span : AtomRange) (set : TupleList) (count : ℕ) → span.count ≤ count → count ≤ span.count → HasJust set 1 (InFirst span.first count) → HasJust set 1 (λ t. (a : ℕ) × InSpan span a × (t ≡ a ∷ []))
 span_just span set count low high was = record {
   columns = was.columns;
   just = λ t. (
@@ -54,15 +54,15 @@ span_just span set count low high was = record {
 
 -- ---- column by column
 
-one_kind : (spans : Spans) (k : ℕ) (t : List ℕ) → InKinds spans (k ∷ []) t → (a : ℕ) × InSpan (span_at spans k) a × (t ≡ a ∷ [])
+one_kind : (spans : AtomRanges) (k : ℕ) (t : List ℕ) → InKinds spans (k ∷ []) t → (a : ℕ) × InSpan (span_at spans k) a × (t ≡ a ∷ [])
 one_kind spans k [] h = absurd h
 one_kind spans k (a ∷ []) h = (a, h.0, refl)
 one_kind spans k (a ∷ b ∷ t) h = absurd h.1
 
 -- the tuples of one column of a kind
-pub kind_just : (spans : Spans) (k : ℕ) (span : Span) (set : TupleList) → span ≡ span_at spans k → HasJust set 1 (λ t. (a : ℕ) × InSpan span a × (t ≡ a ∷ [])) → HasJust set 1 (InKinds spans (k ∷ []))
+pub kind_just : (spans : AtomRanges) (k : ℕ) (span : AtomRange) (set : TupleList) → span ≡ span_at spans k → HasJust set 1 (λ t. (a : ℕ) × InSpan span a × (t ≡ a ∷ [])) → HasJust set 1 (InKinds spans (k ∷ []))
 kind_just spans k span set e made =
-    let is : HasJust set 1 (λ t. (a : ℕ) × InSpan (span_at spans k) a × (t ≡ a ∷ [])) = subst (λ (s : Span). HasJust set 1 (λ t. (a : ℕ) × InSpan s a × (t ≡ a ∷ []))) e made in
+    let is : HasJust set 1 (λ t. (a : ℕ) × InSpan (span_at spans k) a × (t ≡ a ∷ [])) = subst (λ (s : AtomRange). HasJust set 1 (λ t. (a : ℕ) × InSpan s a × (t ≡ a ∷ []))) e made in
     record {
       columns = is.columns;
       just = λ t. (
@@ -71,21 +71,21 @@ kind_just spans k span set e made =
       );
     }
 
-split_kinds : (spans : Spans) (ks : List ℕ) (k : ℕ) (t : List ℕ) → InKinds spans (ks ++ k ∷ []) t → (s u : List ℕ) × InKinds spans ks s × InKinds spans (k ∷ []) u × (t ≡ s ++ u)
+split_kinds : (spans : AtomRanges) (ks : List ℕ) (k : ℕ) (t : List ℕ) → InKinds spans (ks ++ k ∷ []) t → (s u : List ℕ) × InKinds spans ks s × InKinds spans (k ∷ []) u × (t ≡ s ++ u)
 split_kinds spans [] k t h = ([], t, tt, h, refl)
 split_kinds spans (j ∷ ks) k [] h = absurd h
 split_kinds spans (j ∷ ks) k (a ∷ t) h =
     let rest = split_kinds spans ks k t h.1 in
     (a ∷ rest.0, rest.1, (h.0, rest.2), rest.3, ap (λ (u : List ℕ). a ∷ u) rest.4)
 
-join_kinds : (spans : Spans) (ks : List ℕ) (k : ℕ) (s u : List ℕ) → InKinds spans ks s → InKinds spans (k ∷ []) u → InKinds spans (ks ++ k ∷ []) (s ++ u)
+join_kinds : (spans : AtomRanges) (ks : List ℕ) (k : ℕ) (s u : List ℕ) → InKinds spans ks s → InKinds spans (k ∷ []) u → InKinds spans (ks ++ k ∷ []) (s ++ u)
 join_kinds spans [] k [] u h g = g
 join_kinds spans [] k (a ∷ s) u h g = absurd h
 join_kinds spans (j ∷ ks) k [] u h g = absurd h
 join_kinds spans (j ∷ ks) k (a ∷ s) u h g = (h.0, join_kinds spans ks k s u h.1 g)
 
 -- one column more
-pub kinds_more : (spans : Spans) (row : List ℕ) (n k : ℕ) (old column new : TupleList) → n < length row → k ≡ slice_index row n → HasJust old n (InKinds spans (take n row)) → HasJust column 1 (InKinds spans (k ∷ [])) → HasJust new (old.arity + column.arity) (IsPaired old column) → HasJust new (n + 1) (InKinds spans (take (n + 1) row))
+pub kinds_more : (spans : AtomRanges) (row : List ℕ) (n k : ℕ) (old column new : TupleList) → n < length row → k ≡ slice_index row n → HasJust old n (InKinds spans (take n row)) → HasJust column 1 (InKinds spans (k ∷ [])) → HasJust new (old.arity + column.arity) (IsPaired old column) → HasJust new (n + 1) (InKinds spans (take (n + 1) row))
 kinds_more spans row n k old column new lt is was one paired =
     let longer : take (n + 1) row ≡ take n row ++ k ∷ [] = take_more row n 0 lt ∙ ap (λ (c : ℕ). take n row ++ c ∷ []) (sym is) in
     let first = was.columns in
@@ -104,29 +104,29 @@ kinds_more spans row n k old column new lt is was one paired =
       );
     }
 
-pub first_kind : (spans : Spans) (row : List ℕ) (k : ℕ) (set : TupleList) → 1 ≤ length row → k ≡ slice_index row 0 → HasJust set 1 (InKinds spans (k ∷ [])) → HasJust set 1 (InKinds spans (take 1 row))
+pub first_kind : (spans : AtomRanges) (row : List ℕ) (k : ℕ) (set : TupleList) → 1 ≤ length row → k ≡ slice_index row 0 → HasJust set 1 (InKinds spans (k ∷ [])) → HasJust set 1 (InKinds spans (take 1 row))
 first_kind spans [] k set le e is = absurd (omega arith)
 first_kind spans (j ∷ []) k set le e is = subst (λ (n : ℕ). HasJust set 1 (InKinds spans (n ∷ []))) e is
 first_kind spans (j ∷ i ∷ row) k set le e is = subst (λ (n : ℕ). HasJust set 1 (InKinds spans (n ∷ []))) e is
 
-pub whole_row : (spans : Spans) (row : List ℕ) (n : ℕ) (set : TupleList) → length row ≤ n → n ≤ length row → HasJust set n (InKinds spans (take n row)) → HasJust set (length row) (InKinds spans row)
+pub whole_row : (spans : AtomRanges) (row : List ℕ) (n : ℕ) (set : TupleList) → length row ≤ n → n ≤ length row → HasJust set n (InKinds spans (take n row)) → HasJust set (length row) (InKinds spans row)
 whole_row spans row n set low high is =
     let same : n ≡ length row = omega (arith, low, high) in
     subst (λ (m : ℕ). HasJust set m (InKinds spans row)) same (subst (λ (ks : List ℕ). HasJust set n (InKinds spans ks)) (take_all row n low) is)
 
 -- ---- row by row
 
-pub rows_none : (spans : Spans) (arity : ℕ) (rows : List (List ℕ)) (set : TupleList) → length rows ≡ 0 → set ≡ record { arity = arity; tuples = [] } → HasJust set arity (InRows spans rows)
+pub rows_none : (spans : AtomRanges) (arity : ℕ) (rows : List (List ℕ)) (set : TupleList) → length rows ≡ 0 → set ≡ record { arity = arity; tuples = [] } → HasJust set arity (InRows spans rows)
 rows_none spans arity [] set none e = subst (λ (s : TupleList). HasJust s arity (InRows spans [])) (sym e) (record {
   columns = refl;
   just = λ t. ((λ h. absurd (no_members t h)), (λ h. absurd (no_members h.0 h.1)));
 })
 rows_none spans arity (row ∷ rows) set none e = absurd (omega (arith, none))
 
-only_row : (spans : Spans) (row t : List ℕ) → InRows spans (row ∷ []) t → InKinds spans row t
+only_row : (spans : AtomRanges) (row t : List ℕ) → InRows spans (row ∷ []) t → InKinds spans row t
 only_row spans row t h = elim (cons_cases row [] h.0 h.1) [ inl is ↦ subst (λ (ks : List ℕ). InKinds spans ks t) is h.2 | inr none ↦ absurd (no_members h.0 none) ]
 
-pub rows_one : (spans : Spans) (arity : ℕ) (rows : List (List ℕ)) (row : List ℕ) (set : TupleList) → length rows ≡ 1 → row ≡ get_or rows 0 row → length row ≡ arity → HasJust set (length row) (InKinds spans row) → HasJust set arity (InRows spans rows)
+pub rows_one : (spans : AtomRanges) (arity : ℕ) (rows : List (List ℕ)) (row : List ℕ) (set : TupleList) → length rows ≡ 1 → row ≡ get_or rows 0 row → length row ≡ arity → HasJust set (length row) (InKinds spans row) → HasJust set arity (InRows spans rows)
 rows_one spans arity [] row set one e columns is = absurd (omega (arith, one))
 rows_one spans arity (r ∷ []) row set one e columns is =
     let same : row ≡ r = e in
@@ -139,7 +139,7 @@ rows_one spans arity (r ∷ []) row set one e columns is =
     })
 rows_one spans arity (r ∷ q ∷ rows) row set one e columns is = absurd (omega (arith, one))
 
-pub rows_both : (spans : Spans) (arity : ℕ) (rows left right : List (List ℕ)) (a b set : TupleList) → left ++ right ≡ rows → HasJust a arity (InRows spans left) → HasJust b arity (InRows spans right) → HasJust set a.arity (λ t. In t a ⊎ In t b) → HasJust set arity (InRows spans rows)
+pub rows_both : (spans : AtomRanges) (arity : ℕ) (rows left right : List (List ℕ)) (a b set : TupleList) → left ++ right ≡ rows → HasJust a arity (InRows spans left) → HasJust b arity (InRows spans right) → HasJust set a.arity (λ t. In t a ⊎ In t b) → HasJust set arity (InRows spans rows)
 rows_both spans arity rows left right a b set e first second both =
     subst (λ (rs : List (List ℕ)). HasJust set arity (InRows spans rs)) e (record {
       columns = both.columns ∙ first.columns;
@@ -166,28 +166,28 @@ row_columns arity k rows row lt e all = ap length e ∙ all k row lt
 
 -- ---- rows of one column
 
-pub row_holds_just : (spans : Spans) (row : List ℕ) (span : Span) (b : Bool) (a : ℕ) → length row ≡ 1 → span ≡ span_at spans (slice_index row 0) → (IsTrue b ↔ InSpan span a) → IsTrue b ↔ InKinds spans row (a ∷ [])
+pub row_holds_just : (spans : AtomRanges) (row : List ℕ) (span : AtomRange) (b : Bool) (a : ℕ) → length row ≡ 1 → span ≡ span_at spans (slice_index row 0) → (IsTrue b ↔ InSpan span a) → IsTrue b ↔ InKinds spans row (a ∷ [])
 row_holds_just spans [] span b a one e is = absurd (omega (arith, one))
 row_holds_just spans (k ∷ []) span b a one e is =
-    let its : IsTrue b ↔ InSpan (span_at spans k) a = subst (λ (s : Span). IsTrue b ↔ InSpan s a) e is in
+    let its : IsTrue b ↔ InSpan (span_at spans k) a = subst (λ (s : AtomRange). IsTrue b ↔ InSpan s a) e is in
     ((λ h. (its.0 h, tt)), (λ h. its.1 h.0))
 row_holds_just spans (k ∷ j ∷ row) span b a one e is = absurd (omega (arith, one))
 
 -- none of the first rows has the number
-abbrev pub HoldsNone : Spans → List (List ℕ) → ℕ → Type 0
+abbrev pub HoldsNone : AtomRanges → List (List ℕ) → ℕ → Type 0
 HoldsNone spans rows a = ¬ (InRows spans rows (a ∷ []))
 
-pub holds_none : (spans : Spans) (rows : List (List ℕ)) (a : ℕ) → HoldsNone spans (take 0 rows) a
+pub holds_none : (spans : AtomRanges) (rows : List (List ℕ)) (a : ℕ) → HoldsNone spans (take 0 rows) a
 holds_none spans [] a = λ h. no_members h.0 h.1
 holds_none spans (row ∷ rows) a = λ h. no_members h.0 h.1
 
-pub holds_one : (spans : Spans) (rows : List (List ℕ)) (k : ℕ) (row : List ℕ) (a : ℕ) → k < length rows → row ≡ slice_index_or rows k row → InKinds spans row (a ∷ []) → InRows spans rows (a ∷ [])
+pub holds_one : (spans : AtomRanges) (rows : List (List ℕ)) (k : ℕ) (row : List ℕ) (a : ℕ) → k < length rows → row ≡ slice_index_or rows k row → InKinds spans row (a ∷ []) → InRows spans rows (a ∷ [])
 holds_one spans rows k row a lt e is = (row, subst (λ (r : List ℕ). Contains rows r) (sym e) (Contains-get_or rows k row lt), is)
 
-pub holds_yes : (spans : Spans) (rows : List (List ℕ)) (k : ℕ) (row : List ℕ) (a : ℕ) (b : Bool) → k < length rows → row ≡ get_or rows k row → b ≡ true → IsTrue b ↔ InKinds spans row (a ∷ []) → IsTrue true ↔ InRows spans rows (a ∷ [])
+pub holds_yes : (spans : AtomRanges) (rows : List (List ℕ)) (k : ℕ) (row : List ℕ) (a : ℕ) (b : Bool) → k < length rows → row ≡ get_or rows k row → b ≡ true → IsTrue b ↔ InKinds spans row (a ∷ []) → IsTrue true ↔ InRows spans rows (a ∷ [])
 holds_yes spans rows k row a b lt e on its = ((λ h. holds_one spans rows k row a lt e (its.0 on)), (λ h. refl))
 
-pub holds_more : (spans : Spans) (rows : List (List ℕ)) (k : ℕ) (row : List ℕ) (a : ℕ) (b : Bool) → k < length rows → row ≡ get_or rows k row → b ≡ false → IsTrue b ↔ InKinds spans row (a ∷ []) → HoldsNone spans (take k rows) a → HoldsNone spans (take (k + 1) rows) a
+pub holds_more : (spans : AtomRanges) (rows : List (List ℕ)) (k : ℕ) (row : List ℕ) (a : ℕ) (b : Bool) → k < length rows → row ≡ get_or rows k row → b ≡ false → IsTrue b ↔ InKinds spans row (a ∷ []) → HoldsNone spans (take k rows) a → HoldsNone spans (take (k + 1) rows) a
 holds_more spans rows k row a b lt e off its was =
     let not = iff_false its off in
     let longer : take (k + 1) rows ≡ take k rows ++ row ∷ [] = take_more rows k row lt ∙ ap (λ (c : List ℕ). take k rows ++ c ∷ []) (sym e) in
@@ -196,7 +196,7 @@ holds_more spans rows k row a b lt e off its was =
       | inr is ↦ not (subst (λ (r : List ℕ). InKinds spans r (a ∷ [])) (sym is) h.2)
     ])
 
-pub holds_not : (spans : Spans) (rows : List (List ℕ)) (k a : ℕ) → length rows ≤ k → HoldsNone spans (take k rows) a → IsTrue false ↔ InRows spans rows (a ∷ [])
+pub holds_not : (spans : AtomRanges) (rows : List (List ℕ)) (k a : ℕ) → length rows ≤ k → HoldsNone spans (take k rows) a → IsTrue false ↔ InRows spans rows (a ∷ [])
 holds_not spans rows k a le was =
     let none : HoldsNone spans rows a = subst (λ (rs : List (List ℕ)). HoldsNone spans rs a) (take_all rows k le) was in
     ((λ h. absurd (false≢true h)), (λ h. absurd (none h)))

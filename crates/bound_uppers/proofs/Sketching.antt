@@ -18,8 +18,8 @@ use Rattle.core_tree.specs.declared.model.Column.TheVariants.{Sig as SigColumn, 
 use Rattle.core_tree.specs.Types.{TypeRow, TypeRows, parent_rows, kind_rows, by_sig, sig_rows, standing}
 use Rattle.core_tree.specs.Columns.{IsFew}
 use Rattle.bound_uppers.specs.declared.table.Bound.{Bound}
-use Rattle.bound_uppers.specs.declared.numbers.Span.{Span}
-use Rattle.bound_uppers.specs.declared.numbers.Spans.{Spans}
+use Rattle.bound_uppers.specs.declared.numbers.AtomRange.{AtomRange}
+use Rattle.bound_uppers.specs.declared.numbers.AtomRanges.{AtomRanges}
 use Rattle.bound_uppers.specs.declared.uppers.Sketch.{Sketch}
 use Rattle.bound_uppers.specs.Kinds.{kind_at, row_kinds_of, rows_kinds_of, sig_kinds_of, HasRows, InSpan, InKinds, InRows, FitSpans}
 use Rattle.bound_uppers.specs.Sketches.{IsRightSketch, InSketch, IsSigSketch, MayField, AreSigSketches, AreFieldSketches, AreSketches, IsBoundOf, HasUppers}
@@ -156,10 +156,10 @@ no_sketch = All-nil IsRightSketch
 pub one_right : (all new : List Sketch) (k : Sketch) → All IsRightSketch all → IsRightSketch k → new ≡ all ++ k ∷ [] → All IsRightSketch new
 one_right all new k was is e = subst (λ (ks : List Sketch). All IsRightSketch ks) (sym e) (All-push IsRightSketch all k was is)
 
-pub sigs_none : (sigs : List Sig) (ups : List ℕ) (spans : Spans) → AreSigSketches sigs ups spans 0 []
+pub sigs_none : (sigs : List Sig) (ups : List ℕ) (spans : AtomRanges) → AreSigSketches sigs ups spans 0 []
 sigs_none sigs ups spans s d lt e = absurd (omega arith)
 
-pub sigs_more : (sigs : List Sig) (ups : List ℕ) (spans : Spans) (n : ℕ) (d : Sig) (k : Sketch) (all new : List Sketch) → d ≡ get_or sigs n d → length all ≡ n → AreSigSketches sigs ups spans n all → IsSigSketch sigs ups spans n d k → new ≡ all ++ k ∷ [] → AreSigSketches sigs ups spans (n + 1) new
+pub sigs_more : (sigs : List Sig) (ups : List ℕ) (spans : AtomRanges) (n : ℕ) (d : Sig) (k : Sketch) (all new : List Sketch) → d ≡ get_or sigs n d → length all ≡ n → AreSigSketches sigs ups spans n all → IsSigSketch sigs ups spans n d k → new ≡ all ++ k ∷ [] → AreSigSketches sigs ups spans (n + 1) new
 sigs_more sigs ups spans n d k all new is count was its e s c lt at = elim (last_or s n lt) [
   | inl less ↦ let f = was s c less at in (f.0, get_kept all new k f.0 s e f.1, f.2)
   | inr same ↦
@@ -168,7 +168,7 @@ sigs_more sigs ups spans n d k all new is count was its e s c lt at = elim (last
       (k, subst (λ (m : ℕ). slice_get new m ≡ Some k) (sym same) (get_new all new k n e count), subst (λ (m : ℕ). IsSigSketch sigs ups spans m c k) (sym same) (subst (λ (b : Sig). IsSigSketch sigs ups spans n b k) it its))
 ]
 
-pub sigs_all : (sigs : List Sig) (ups : List ℕ) (spans : Spans) (n : ℕ) (all : List Sketch) → length sigs ≤ n → AreSigSketches sigs ups spans n all → AreSigSketches sigs ups spans (length sigs) all
+pub sigs_all : (sigs : List Sig) (ups : List ℕ) (spans : AtomRanges) (n : ℕ) (all : List Sketch) → length sigs ≤ n → AreSigSketches sigs ups spans n all → AreSigSketches sigs ups spans (length sigs) all
 sigs_all sigs ups spans n all le was s d lt at = was s d (omega (arith, lt, le)) at
 
 pub fields_none : (ups : List ℕ) (fields : List Field) (base : ℕ) (all : List Sketch) → AreFieldSketches ups fields base 0 all
@@ -204,7 +204,7 @@ some_at [] n lt = absurd (omega arith)
 some_at (x ∷ xs) zero lt = (x, refl)
 some_at (x ∷ xs) (suc n) lt = some_at xs n (omega arith)
 
-pub sketches_are : (model : Model) (ups : List ℕ) (spans : Spans) (sigs : List Sig) (fields : List Field) (first all : List Sketch) → sigs ≡ model.sigs → fields ≡ model.fields → map (λ (s : Sketch). s.fixed) first ≡ map (λ (d : Sig). is_fixed d.is_var) sigs → AreSigSketches sigs ups spans (length sigs) first → All IsRightSketch all → AreFieldSketches ups fields (length first) (length fields) all → ((s : ℕ) → s < length first → slice_get all s ≡ slice_get first s) → AreSketches model ups spans all
+pub sketches_are : (model : Model) (ups : List ℕ) (spans : AtomRanges) (sigs : List Sig) (fields : List Field) (first all : List Sketch) → sigs ≡ model.sigs → fields ≡ model.fields → map (λ (s : Sketch). s.fixed) first ≡ map (λ (d : Sig). is_fixed d.is_var) sigs → AreSigSketches sigs ups spans (length sigs) first → All IsRightSketch all → AreFieldSketches ups fields (length first) (length fields) all → ((s : ℕ) → s < length first → slice_get all s ≡ slice_get first s) → AreSketches model ups spans all
 sketches_are model ups spans sigs fields first all e f fixed were right theirs kept =
     let count : length first ≡ length sigs = same_count (λ (s : Sketch). s.fixed) (λ (d : Sig). is_fixed d.is_var) first sigs fixed in
     let mine : AreSigSketches sigs ups spans (length sigs) all = λ s d lt at. let g = were s d lt at in (g.0, kept s (slice_get_within first s g.0 g.1) ∙ g.1, g.2) in
@@ -220,10 +220,10 @@ sketches_are model ups spans sigs fields first all e f fixed were right theirs k
 just_one : (atom a : ℕ) → atom ≤ a → a < atom + 1 → a ≡ atom
 just_one atom a low high = omega (arith, low, high)
 
-pub atom_just : (spans : Spans) (rows : List (List ℕ)) (atom : ℕ) (span : Span) (set : TupleList) → span ≡ record { first = atom; count = 1 } → (b : Bool) → b ≡ true → IsTrue b ↔ InRows spans rows (atom ∷ []) → HasJust set 1 (λ t. (a : ℕ) × InSpan span a × (t ≡ a ∷ [])) → HasJust set 1 (λ t. InRows spans rows t × (t ≡ atom ∷ []))
+pub atom_just : (spans : AtomRanges) (rows : List (List ℕ)) (atom : ℕ) (span : AtomRange) (set : TupleList) → span ≡ record { first = atom; count = 1 } → (b : Bool) → b ≡ true → IsTrue b ↔ InRows spans rows (atom ∷ []) → HasJust set 1 (λ t. (a : ℕ) × InSpan span a × (t ≡ a ∷ [])) → HasJust set 1 (λ t. InRows spans rows t × (t ≡ atom ∷ []))
 atom_just spans rows atom span set e b on its made =
     let among = its.0 on in
-    let is = subst (λ (s : Span). HasJust set 1 (λ t. (a : ℕ) × InSpan s a × (t ≡ a ∷ []))) e made in
+    let is = subst (λ (s : AtomRange). HasJust set 1 (λ t. (a : ℕ) × InSpan s a × (t ≡ a ∷ []))) e made in
     record {
       columns = is.columns;
       just = λ t. (
@@ -235,20 +235,20 @@ atom_just spans rows atom span set e b on its made =
       );
     }
 
-pub atom_none : (spans : Spans) (rows : List (List ℕ)) (atom : ℕ) (set : TupleList) → set ≡ record { arity = 1; tuples = [] } → (¬ (InRows spans rows (atom ∷ []))) → HasJust set 1 (λ t. InRows spans rows t × (t ≡ atom ∷ []))
+pub atom_none : (spans : AtomRanges) (rows : List (List ℕ)) (atom : ℕ) (set : TupleList) → set ≡ record { arity = 1; tuples = [] } → (¬ (InRows spans rows (atom ∷ []))) → HasJust set 1 (λ t. InRows spans rows t × (t ≡ atom ∷ []))
 atom_none spans rows atom set e not = subst (λ (s : TupleList). HasJust s 1 (λ t. InRows spans rows t × (t ≡ atom ∷ []))) (sym e) (record {
   columns = refl;
   just = λ t. ((λ h. absurd (no_members t h)), (λ h. absurd (not (subst (λ (u : List ℕ). InRows spans rows u) h.1 h.0))));
 })
 
-first_fits : (spans : Spans) (row : List ℕ) (a : ℕ) → FitSpans spans → InKinds spans row (a ∷ []) → a < 16384
+first_fits : (spans : AtomRanges) (row : List ℕ) (a : ℕ) → FitSpans spans → InKinds spans row (a ∷ []) → a < 16384
 first_fits spans [] a fit h = absurd h
 first_fits spans (k ∷ ks) a fit h = let most = fit k in let high = h.0.1 in omega (arith, most, high)
 
-pub atom_off : (spans : Spans) (rows : List (List ℕ)) (atom : ℕ) (set : TupleList) (b : Bool) → set ≡ record { arity = 1; tuples = [] } → b ≡ false → IsTrue b ↔ InRows spans rows (atom ∷ []) → HasJust set 1 (λ t. InRows spans rows t × (t ≡ atom ∷ []))
+pub atom_off : (spans : AtomRanges) (rows : List (List ℕ)) (atom : ℕ) (set : TupleList) (b : Bool) → set ≡ record { arity = 1; tuples = [] } → b ≡ false → IsTrue b ↔ InRows spans rows (atom ∷ []) → HasJust set 1 (λ t. InRows spans rows t × (t ≡ atom ∷ []))
 atom_off spans rows atom set b e off its = atom_none spans rows atom set e (iff_false its off)
 
-pub atom_far : (spans : Spans) (rows : List (List ℕ)) (atom : ℕ) (set : TupleList) → FitSpans spans → 16384 ≤ atom → set ≡ record { arity = 1; tuples = [] } → HasJust set 1 (λ t. InRows spans rows t × (t ≡ atom ∷ []))
+pub atom_far : (spans : AtomRanges) (rows : List (List ℕ)) (atom : ℕ) (set : TupleList) → FitSpans spans → 16384 ≤ atom → set ≡ record { arity = 1; tuples = [] } → HasJust set 1 (λ t. InRows spans rows t × (t ≡ atom ∷ []))
 atom_far spans rows atom set fit far e = atom_none spans rows atom set e (λ h. let less = first_fits spans h.0 atom fit h.2 in absurd (omega (arith, less, far)))
 
 atom_is : (o : Option ℕ) (atom : ℕ) (P : ℕ → Type 0) → o ≡ Some atom → IfSome o P ↔ P atom
@@ -262,7 +262,7 @@ atom_lacks (Some a) P e = absurd cc
 pub single : (k : Sketch) (atom : ℕ) → IsRightSketch k → k.atom ≡ Some atom → All (λ r. length r ≡ 1) k.rows.items
 single k atom right e = subst (λ (n : ℕ). All (λ (r : List ℕ). length r ≡ n) k.rows.items) ((atom_is k.atom atom (λ a. k.arity ≡ 1) e).0 right.atom) right.rows
 
-pub by_atom : (spans : Spans) (k : Sketch) (atom : ℕ) (set : TupleList) → IsRightSketch k → k.atom ≡ Some atom → HasJust set 1 (λ t. InRows spans k.rows.items t × (t ≡ atom ∷ [])) → HasJust set k.arity (InSketch spans k)
+pub by_atom : (spans : AtomRanges) (k : Sketch) (atom : ℕ) (set : TupleList) → IsRightSketch k → k.atom ≡ Some atom → HasJust set 1 (λ t. InRows spans k.rows.items t × (t ≡ atom ∷ [])) → HasJust set k.arity (InSketch spans k)
 by_atom spans k atom set right e is =
     let one : k.arity ≡ 1 = (atom_is k.atom atom (λ a. k.arity ≡ 1) e).0 right.atom in
     record {
@@ -274,7 +274,7 @@ by_atom spans k atom set right e is =
           );
     }
 
-pub by_rows : (spans : Spans) (k : Sketch) (set : TupleList) → k.atom ≡ None → HasJust set k.arity (InRows spans k.rows.items) → HasJust set k.arity (InSketch spans k)
+pub by_rows : (spans : AtomRanges) (k : Sketch) (set : TupleList) → k.atom ≡ None → HasJust set k.arity (InRows spans k.rows.items) → HasJust set k.arity (InSketch spans k)
 by_rows spans k set e is = record {
   columns = is.columns;
   just = λ t. ((λ h. ((is.just t).0 h, atom_lacks k.atom (λ a. t ≡ a ∷ []) e)), (λ h. (is.just t).1 h.0));
@@ -286,14 +286,14 @@ pub right_at : (all : List Sketch) (n : ℕ) (k : Sketch) → All IsRightSketch 
 right_at all n k right lt e = subst (λ (s : Sketch). IsRightSketch s) (sym e) (right n k lt)
 
 -- the bounds of the first sketches
-abbrev pub HasUppersTo : Spans → List Sketch → ℕ → List Bound → Type 0
+abbrev pub HasUppersTo : AtomRanges → List Sketch → ℕ → List Bound → Type 0
 HasUppersTo spans all n relations = (r : ℕ) (k : Sketch) → r < n → slice_get all r ≡ Some k → (b : Bound) × (slice_get relations r ≡ Some b) × HasJust b.upper k.arity (InSketch spans k)
 
-pub uppers_none : (spans : Spans) (all : List Sketch) → HasUppersTo spans all 0 []
+pub uppers_none : (spans : AtomRanges) (all : List Sketch) → HasUppersTo spans all 0 []
 uppers_none spans all r k lt at = absurd (omega arith)
 
 -- the bounds of the first relations
-pub record AreBoundsTo (spans : Spans) (all : List Sketch) (places : List ℕ) (n : ℕ) (list : List Bound) : Type 0 where
+pub record AreBoundsTo (spans : AtomRanges) (all : List Sketch) (places : List ℕ) (n : ℕ) (list : List Bound) : Type 0 where
   pub count : length list ≡ n
   pub orders : map (λ (b : Bound). b.order) list ≡ take n places
   pub fixed : map (λ (b : Bound). b.fixed) list ≡ map (λ (s : Sketch). s.fixed) (take n all)
@@ -303,7 +303,7 @@ take_none : {X : Type 0} (xs : List X) → take 0 xs ≡ []
 take_none [] = refl
 take_none (x ∷ xs) = refl
 
-pub bounds_none : (spans : Spans) (all : List Sketch) (places : List ℕ) (list : List Bound) → list ≡ [] → AreBoundsTo spans all places 0 list
+pub bounds_none : (spans : AtomRanges) (all : List Sketch) (places : List ℕ) (list : List Bound) → list ≡ [] → AreBoundsTo spans all places 0 list
 bounds_none spans all places list e = subst (λ (bs : List Bound). AreBoundsTo spans all places 0 bs) (sym e) (record {
   count = refl;
   orders = sym (take_none places);
@@ -311,7 +311,7 @@ bounds_none spans all places list e = subst (λ (bs : List Bound). AreBoundsTo s
   uppers = uppers_none spans all;
 })
 
-pub uppers_more : (spans : Spans) (all : List Sketch) (n : ℕ) (k : Sketch) (b : Bound) (old new : List Bound) → k ≡ get_or all n k → length old ≡ n → HasUppersTo spans all n old → HasJust b.upper k.arity (InSketch spans k) → new ≡ old ++ b ∷ [] → HasUppersTo spans all (n + 1) new
+pub uppers_more : (spans : AtomRanges) (all : List Sketch) (n : ℕ) (k : Sketch) (b : Bound) (old new : List Bound) → k ≡ get_or all n k → length old ≡ n → HasUppersTo spans all n old → HasJust b.upper k.arity (InSketch spans k) → new ≡ old ++ b ∷ [] → HasUppersTo spans all (n + 1) new
 uppers_more spans all n k b old new is count was its e r c lt at = elim (last_or r n lt) [
   | inl less ↦ let f = was r c less at in (f.0, get_kept old new b f.0 r e f.1, f.2)
   | inr same ↦
@@ -320,7 +320,7 @@ uppers_more spans all n k b old new is count was its e r c lt at = elim (last_or
       (b, subst (λ (m : ℕ). slice_get new m ≡ Some b) (sym same) (get_new old new b n e count), subst (λ (s : Sketch). HasJust b.upper s.arity (InSketch spans s)) it its)
 ]
 
-pub bounds_more : (spans : Spans) (all : List Sketch) (places : List ℕ) (n : ℕ) (b : Bound) (old new : List Bound) → n < length all → length places ≡ length all → b.order ≡ slice_index places n → ((k : Sketch) → slice_get all n ≡ Some k → IsBoundOf spans k b) → AreBoundsTo spans all places n old → new ≡ old ++ b ∷ [] → AreBoundsTo spans all places (n + 1) new
+pub bounds_more : (spans : AtomRanges) (all : List Sketch) (places : List ℕ) (n : ℕ) (b : Bound) (old new : List Bound) → n < length all → length places ≡ length all → b.order ≡ slice_index places n → ((k : Sketch) → slice_get all n ≡ Some k → IsBoundOf spans k b) → AreBoundsTo spans all places n old → new ≡ old ++ b ∷ [] → AreBoundsTo spans all places (n + 1) new
 bounds_more spans all places n b old new lt counted order its was e =
     let k = some_at all n lt in
     let here : k.0 ≡ get_or all n k.0 = sym (get_or_from_slice_get all n k.0 k.0 k.1) in
@@ -333,5 +333,5 @@ bounds_more spans all places n b old new lt counted order its was e =
       uppers = uppers_more spans all n k.0 b old new here was.count was.uppers is.upper e;
     }
 
-pub uppers_all : (spans : Spans) (all : List Sketch) (n : ℕ) (list : List Bound) → length all ≤ n → HasUppersTo spans all n list → HasUppers spans all list
+pub uppers_all : (spans : AtomRanges) (all : List Sketch) (n : ℕ) (list : List Bound) → length all ≤ n → HasUppersTo spans all n list → HasUppers spans all list
 uppers_all spans all n list le was r k at = let within = slice_get_within all r k at in was r k (omega (arith, within, le)) at

@@ -7,8 +7,8 @@ use Rattle.core_tree.specs.Columns.{or_zero}
 use Rattle.core_meaning.specs.declared.scopes.SigScope.{SigScope}
 use Rattle.core_meaning.specs.declared.scopes.Scopes.{Scopes}
 use Rattle.core_meaning.specs.Kept.{atoms_of_sig, atom_count, first_atom, universe_size}
-use Rattle.bound_uppers.specs.declared.numbers.Span.{Span}
-use Rattle.bound_uppers.specs.declared.numbers.Spans.{Spans}
+use Rattle.bound_uppers.specs.declared.numbers.AtomRange.{AtomRange}
+use Rattle.bound_uppers.specs.declared.numbers.AtomRanges.{AtomRanges}
 use Rattle.bound_uppers.specs.Kinds.{span_in, spans_from, HasSpans}
 
 -- ---- how many atoms there are
@@ -71,23 +71,23 @@ spans_end limit first [] x =
 spans_end limit first (y ∷ xs) x =
     let whole = count_cons y xs in
     let same : first + atoms_of_sig y + atom_count xs ≡ first + atom_count (y ∷ xs) = omega (arith, whole) in
-    ap (λ (ss : List Span). span_in limit first (or_zero y.number) ∷ ss) (spans_end limit (first + atoms_of_sig y) xs x ∙ ap (λ (n : ℕ). spans_from limit (first + atoms_of_sig y) xs ++ span_in limit n (or_zero x.number) ∷ []) same)
+    ap (λ (ss : List AtomRange). span_in limit first (or_zero y.number) ∷ ss) (spans_end limit (first + atoms_of_sig y) xs x ∙ ap (λ (n : ℕ). spans_from limit (first + atoms_of_sig y) xs ++ span_in limit n (or_zero x.number) ∷ []) same)
 
-pub spans_more : (limit : ℕ) (xs : List SigScope) (k next : ℕ) (x : SigScope) (old new : List Span) → k < length xs → x ≡ get_or xs k x → next ≡ first_atom xs k → old ≡ spans_from limit 0 (take k xs) → new ≡ old ++ span_in limit next (or_zero x.number) ∷ [] → new ≡ spans_from limit 0 (take (k + 1) xs)
+pub spans_more : (limit : ℕ) (xs : List SigScope) (k next : ℕ) (x : SigScope) (old new : List AtomRange) → k < length xs → x ≡ get_or xs k x → next ≡ first_atom xs k → old ≡ spans_from limit 0 (take k xs) → new ≡ old ++ span_in limit next (or_zero x.number) ∷ [] → new ≡ spans_from limit 0 (take (k + 1) xs)
 spans_more limit xs k next x old new lt is begins was e =
     let at : next ≡ 0 + atom_count (take k xs) = omega (arith, begins) in
-    e ∙ (ap (λ (ss : List Span). ss ++ span_in limit next (or_zero x.number) ∷ []) was
+    e ∙ (ap (λ (ss : List AtomRange). ss ++ span_in limit next (or_zero x.number) ∷ []) was
     ∙ (ap (λ (n : ℕ). spans_from limit 0 (take k xs) ++ span_in limit n (or_zero x.number) ∷ []) at
     ∙ (sym (spans_end limit 0 (take k xs) x) ∙ ap (λ (ys : List SigScope). spans_from limit 0 ys) (sym (taken xs k x lt is)))))
 
-pub spans_all : (limit : ℕ) (xs : List SigScope) (k : ℕ) (all : List Span) → length xs ≤ k → all ≡ spans_from limit 0 (take k xs) → all ≡ spans_from limit 0 xs
+pub spans_all : (limit : ℕ) (xs : List SigScope) (k : ℕ) (all : List AtomRange) → length xs ≤ k → all ≡ spans_from limit 0 (take k xs) → all ≡ spans_from limit 0 xs
 spans_all limit xs k all le e = e ∙ ap (λ (ys : List SigScope). spans_from limit 0 ys) (take_all xs k le)
 
 pub spans_none : (limit : ℕ) (xs : List SigScope) → [] ≡ spans_from limit 0 (take 0 xs)
 spans_none limit [] = refl
 spans_none limit (x ∷ xs) = refl
 
-pub spans_are : (scopes : Scopes) (numbers : List SigScope) (atoms count : ℕ) (sigs : List Span) → numbers ≡ scopes.numbers → length numbers < 4294967294 → atoms ≡ atom_count numbers → count ≡ 2 ^ scopes.bits → atoms + count ≤ 16384 → sigs ≡ spans_from (atoms + count) 0 numbers → (spans : Spans) → spans.sigs.items ≡ sigs → spans.integers ≡ record { first = atoms; count = count } → HasSpans scopes spans
+pub spans_are : (scopes : Scopes) (numbers : List SigScope) (atoms count : ℕ) (sigs : List AtomRange) → numbers ≡ scopes.numbers → length numbers < 4294967294 → atoms ≡ atom_count numbers → count ≡ 2 ^ scopes.bits → atoms + count ≤ 16384 → sigs ≡ spans_from (atoms + count) 0 numbers → (spans : AtomRanges) → spans.sigs.items ≡ sigs → spans.integers ≡ record { first = atoms; count = count } → HasSpans scopes spans
 spans_are scopes numbers atoms count sigs e few is integers most are spans s i =
     let atoms_are : atoms ≡ atom_count scopes.numbers = is ∙ ap atom_count e in
     let size : atoms + count ≡ universe_size scopes = ap (λ (n : ℕ). n + count) atoms_are ∙ ap (λ (n : ℕ). atom_count scopes.numbers + n) integers in
@@ -100,7 +100,7 @@ spans_are scopes numbers atoms count sigs e few is integers most are spans s i =
 
 -- ---- the span of each sig
 
-pub span_there : (limit first : ℕ) (xs : List SigScope) (k : ℕ) (x : SigScope) (d : Span) → slice_get xs k ≡ Some x → get_or (spans_from limit first xs) k d ≡ span_in limit (first + first_atom xs k) (or_zero x.number)
+pub span_there : (limit first : ℕ) (xs : List SigScope) (k : ℕ) (x : SigScope) (d : AtomRange) → slice_get xs k ≡ Some x → get_or (spans_from limit first xs) k d ≡ span_in limit (first + first_atom xs k) (or_zero x.number)
 span_there limit first [] k x d e = cc
 span_there limit first (y ∷ xs) zero x d e =
     let is : y ≡ x = cc in
@@ -111,12 +111,12 @@ span_there limit first (y ∷ xs) (suc k) x d e =
     let same : first + atoms_of_sig y + first_atom xs k ≡ first + first_atom (y ∷ xs) (suc k) = omega (arith, whole) in
     span_there limit (first + atoms_of_sig y) xs k x d e ∙ ap (λ (n : ℕ). span_in limit n (or_zero x.number)) same
 
-pub span_at_place : (limit : ℕ) (xs : List SigScope) (k : ℕ) (x : SigScope) (d : Span) → slice_get xs k ≡ Some x → get_or (spans_from limit 0 xs) k d ≡ span_in limit (first_atom xs k) (or_zero x.number)
+pub span_at_place : (limit : ℕ) (xs : List SigScope) (k : ℕ) (x : SigScope) (d : AtomRange) → slice_get xs k ≡ Some x → get_or (spans_from limit 0 xs) k d ≡ span_in limit (first_atom xs k) (or_zero x.number)
 span_at_place limit xs k x d e =
     let same : 0 + first_atom xs k ≡ first_atom xs k = omega arith in
     span_there limit 0 xs k x d e ∙ ap (λ (n : ℕ). span_in limit n (or_zero x.number)) same
 
-pub span_lacks : (limit first : ℕ) (xs : List SigScope) (k : ℕ) (d : Span) → slice_get xs k ≡ None → get_or (spans_from limit first xs) k d ≡ d
+pub span_lacks : (limit first : ℕ) (xs : List SigScope) (k : ℕ) (d : AtomRange) → slice_get xs k ≡ None → get_or (spans_from limit first xs) k d ≡ d
 span_lacks limit first [] k d e = refl
 span_lacks limit first (y ∷ xs) zero d e = absurd cc
 span_lacks limit first (y ∷ xs) (suc k) d e = span_lacks limit (first + atoms_of_sig y) xs k d e

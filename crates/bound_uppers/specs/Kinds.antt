@@ -8,8 +8,8 @@ use Rattle.core_meaning.specs.declared.scopes.SigScope.{SigScope}
 use Rattle.core_meaning.specs.declared.scopes.Scopes.{Scopes}
 use Rattle.core_tree.specs.Columns.{or_zero}
 use Rattle.core_meaning.specs.Kept.{top_above, atoms_of_sig, atom_count, universe_size}
-use Rattle.bound_uppers.specs.declared.numbers.Span.{Span}
-use Rattle.bound_uppers.specs.declared.numbers.Spans.{Spans}
+use Rattle.bound_uppers.specs.declared.numbers.AtomRange.{AtomRange}
+use Rattle.bound_uppers.specs.declared.numbers.AtomRanges.{AtomRanges}
 
 -- the sig that a sig extends, and the one that a `var` sig extends
 abbrev pub parent_at : List Sig → ℕ → Option ℕ
@@ -59,42 +59,42 @@ HasRows xs ys = (t : List ℕ) → Contains xs t ↔ Contains ys t
 
 -- ---- the numbers of a kind
 
-abbrev pub InSpan : Span → ℕ → Type 0
+abbrev pub InSpan : AtomRange → ℕ → Type 0
 InSpan span a = (span.first ≤ a) × (a < span.first + span.count)
 
-abbrev pub no_span : Span
+abbrev pub no_span : AtomRange
 no_span = record { first = 0; count = 0 }
 
-abbrev pub span_at : Spans → ℕ → Span
+abbrev pub span_at : AtomRanges → ℕ → AtomRange
 span_at spans kind = if eqb kind integers_kind then spans.integers else get_or spans.sigs.items kind no_span
 
 -- the numbers of a tuple are in turn of these kinds
-abbrev pub InKinds : Spans → List ℕ → List ℕ → Type 0
+abbrev pub InKinds : AtomRanges → List ℕ → List ℕ → Type 0
 InKinds spans [] [] = Unit {0}
 InKinds spans (k ∷ ks) (a ∷ t) = InSpan (span_at spans k) a × InKinds spans ks t
 InKinds spans [] (a ∷ t) = ⊥
 InKinds spans (k ∷ ks) [] = ⊥
 
 -- they are of the kinds of one of the rows
-abbrev pub InRows : Spans → List (List ℕ) → List ℕ → Type 0
+abbrev pub InRows : AtomRanges → List (List ℕ) → List ℕ → Type 0
 InRows spans rows t = (row : List ℕ) × Contains rows row × InKinds spans row t
 
 -- so many numbers from one on, as far as they are below a limit
-abbrev pub span_in : ℕ → ℕ → ℕ → Span
+abbrev pub span_in : ℕ → ℕ → ℕ → AtomRange
 span_in limit first n = record { first = first; count = if nat_lt n (limit - first) then n else limit - first }
 
 -- the numbers of each sig, where those of the first begin with this one
-abbrev pub spans_from : ℕ → ℕ → List SigScope → List Span
+abbrev pub spans_from : ℕ → ℕ → List SigScope → List AtomRange
 spans_from limit first [] = []
 spans_from limit first (s ∷ ss) = span_in limit first (or_zero s.number) ∷ spans_from limit (first + atoms_of_sig s) ss
 
 -- the spans are those of the scopes: of each sig its numbers that are in the universe, and the integers
-pub record HasSpans (scopes : Scopes) (spans : Spans) : Type 0 where
+pub record HasSpans (scopes : Scopes) (spans : AtomRanges) : Type 0 where
   pub few : length scopes.numbers < 4294967294
   pub most : universe_size scopes ≤ 16384
   pub sigs : spans.sigs.items ≡ spans_from (universe_size scopes) 0 scopes.numbers
   pub integers : spans.integers ≡ record { first = atom_count scopes.numbers; count = 2 ^ scopes.bits }
 
 -- no span goes beyond the numbers of a universe
-abbrev pub FitSpans : Spans → Type 0
+abbrev pub FitSpans : AtomRanges → Type 0
 FitSpans spans = (k : ℕ) → (span_at spans k).first + (span_at spans k).count ≤ 16384

@@ -1,4 +1,4 @@
--- The upper bounds of a model's relations are those that its types, its literals and its scopes give.
+-- The upper bounds of a model's relations: those of its types, its literals and its scopes.
 use Rattle.std.specs.Prelude.{◌≡◌, ◌<◌, ◌+◌, ℕ, List, [], ◌∷◌, length, All, Some, slice_get}
 use Rattle.core_tuples.specs.Sets.{HasJust}
 use Rattle.core_tree.specs.declared.model.Model.{Model}

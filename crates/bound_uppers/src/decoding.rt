@@ -1,4 +1,4 @@
-// The lasso for which an assignment of the table's variables stands.
+//! The lasso for which an assignment of the table's variables stands.
 
 ghost use Rattle.std.specs.Prelude.{◌≡◌, ◌<◌, ◌≤◌, ◌^◌, ◌+◌, ◌++◌, ℕ, true, [], List, length, slice_get, Some, IfOk, OnOk, map};
 ghost use Rattle.std.specs.List.{range_with_len};
@@ -34,6 +34,7 @@ fn value_of(assignment: &Assignment, variable: u64) -> bool
 fn is_true(assignment: &Assignment, first: u64, place: u64) -> bool
     ensures { result ≡ truth assignment.now (first + place) }
 {
+    // for the proof: this call's result bounds the number of variables
     let _count = assignment.variables();
     match first.checked_add(place) {
         None => false,
@@ -68,10 +69,12 @@ fn put(alloc: Global, set: &mut TupleSet, upper: &TupleSet, place: usize) -> Res
     ensures columns { set.new.arity ≡ set.old.arity }
     ensures tuples { (t : List ℕ) → slice_get upper.now.tuples place ≡ Some t → IsStrictlySortedBy tuple_cmp (set.old.tuples ++ keep true t []) → OnOk result (set.new.tuples ≡ set.old.tuples ++ keep true t []) }
 {
+    // for the proof: this call's clause says that the bound is a set of tuples
     let _count = upper.len();
     let row = upper.tuple(place);
     let copy = row.copy(alloc)?;
     set.insert(copy)?;
+    // for the proof: this call's clause says that it is a set of tuples still
     let _columns = set.arity();
     Ok(())
 }
@@ -177,6 +180,7 @@ fn upper_sets(relations: &[Bound])
     ensures { (r : ℕ) (b : Bound) → slice_get relations.now r ≡ Some b → IsTupleSet b.upper }
 {
     for bound in relations {
+        // for the proof: this call's clause says that the bound is a set of tuples
         let _count = bound.upper.len();
     }
 }

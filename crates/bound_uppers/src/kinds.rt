@@ -1,7 +1,7 @@
-// Of which kinds the members of a relation are, column by column.
-//
-// A kind is the number of a top-level sig, or the greatest number for the integers. Kinds that
-// differ share no member.
+//! Of which kinds the members of a relation are, column by column.
+//!
+//! A kind is the number of a top-level sig, or the greatest number for the integers. Kinds that
+//! differ share no member.
 
 ghost use Rattle.std.specs.Prelude.{◌≡◌, ◌↔◌, ◌∷◌, ◌++◌, [], ℕ, suc, List, Contains, IfOk, OnOk, IsTrue, Some, ◌<◌, slice_get, slice_index, length};
 ghost use Rattle.core_tree.specs.declared.model.Sig.{Sig};

@@ -1,4 +1,4 @@
-// Laws of lassos and of the table.
+//! Laws: every lasso unrolls, the rows of a table rise, and an assignment stands for one lasso.
 
 ghost use Rattle.bound_uppers.specs.Shortest.{Unrolls};
 ghost use Rattle.bound_uppers.specs.Table.{RowsInOrder};

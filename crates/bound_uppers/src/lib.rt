@@ -1,5 +1,5 @@
-//! Upper bounds of the relations of a model, the table of variables that they give, and the lasso
-//! for which an assignment of those variables stands.
+//! Upper bounds of the relations of a model, and the table of variables that they give.
+//! An assignment of these variables stands for a lasso (`decoding`).
 #![tactic(auto)]
 
 pub mod decoding;
@@ -23,6 +23,3 @@ pub use places::{Cells, Layout};
 pub use shortening::shortest;
 pub use table::{Bound, BoundList, Bounds, BoundsFault};
 pub use uppers::bounds;
-
-#[cfg(test)]
-mod tests;

@@ -1,4 +1,4 @@
-// The numbers of the table's variables.
+//! The numbers of the table's variables: state by state, and relation by relation in order.
 
 ghost use Rattle.std.specs.Prelude.{◌≡◌, ◌<◌, length, map, if◌then◌else◌, nat_lt, slice_index, IfOk, false, true};
 ghost use Rattle.bound_uppers.specs.Table.{size_at, together, IsTable, IsLayout};

@@ -1,4 +1,4 @@
-// Which numbers of the universe stand for the atoms of a sig.
+//! Which numbers of the universe stand for the atoms of a sig.
 
 ghost use Rattle.std.specs.Prelude.{◌≡◌, ◌+◌, ◌<◌, ◌≤◌, ◌^◌, IfOk, IfSome, Some, length, slice_get};
 ghost use Rattle.core_tree.specs.Columns.{or_zero};
@@ -8,7 +8,7 @@ ghost use Rattle.bound_uppers.specs.Kinds.{span_in, spans_from, HasSpans, FitSpa
 use core_meaning::{Scopes, SigScope};
 use std::alloc::{AllocError, Global};
 
-/// The greatest number of atoms and integers together.
+/// The greatest number of atoms and integers together: `base_types::limits::ATOMS` (Atoms, S66).
 pub const MOST_NUMBERS: u32 = 16384;
 
 /// There are fewer sigs than this.
@@ -16,33 +16,33 @@ const MOST_SIGS: usize = 4_294_967_294;
 
 /// Numbers that follow one another.
 #[derive(Clone, Copy, Debug, PartialEq, Eq)]
-pub struct Span {
+pub struct AtomRange {
     pub first: u32,
     pub count: u32,
 }
 
 /// The numbers of the sigs and of the integers.
 #[derive(Drop)]
-pub struct Spans {
+pub struct AtomRanges {
     /// For each sig of the model so many numbers as its scope says, as far as the universe has
     /// them: of a top-level sig those of its atoms.
-    pub sigs: Vec<Span>,
+    pub sigs: Vec<AtomRange>,
     /// The integers.
-    pub integers: Span,
+    pub integers: AtomRange,
 }
 
 /// So many numbers from `first` on, as far as they are below a limit.
-fn span_within(limit: u32, first: u32, count: u64) -> Span
+fn span_within(limit: u32, first: u32, count: u64) -> AtomRange
     ensures { result ≡ span_in limit first count }
 {
     let room = limit.saturating_sub(first);
     if count < room as u64 {
-        Span {
+        AtomRange {
             first,
             count: count as u32,
         }
     } else {
-        Span { first, count: room }
+        AtomRange { first, count: room }
     }
 }
 
@@ -90,7 +90,7 @@ fn scope_at(numbers: &[SigScope], place: usize) -> SigScope
 
 /// The numbers of each sig in a universe of this size: those of a sig begin where the atoms of the
 /// sigs before it end. A universe that is too small for the atoms has none, as if memory were wanting.
-fn sig_spans(alloc: Global, numbers: &[SigScope], size: u32) -> Result<Vec<Span>, AllocError>
+fn sig_spans(alloc: Global, numbers: &[SigScope], size: u32) -> Result<Vec<AtomRange>, AllocError>
     ensures { IfOk result (λ v. v.items ≡ spans_from size 0 numbers.now) }
 {
     let mut sigs = Vec::new(alloc);
@@ -129,7 +129,7 @@ fn integers_in(bits: u32, room: u32) -> Option<u32>
 /// integers. A universe has at most 16,384 numbers: for scopes that ask for more there is no table,
 /// as if memory were wanting.
 #[tactic(auto, using(crate::proofs::Spanning::spans_are))]
-pub fn spans_of(alloc: Global, scopes: &Scopes) -> Result<Spans, AllocError>
+pub fn spans_of(alloc: Global, scopes: &Scopes) -> Result<AtomRanges, AllocError>
     ensures { IfOk result (HasSpans scopes.now) }
 {
     let numbers = scopes.numbers.as_slice();
@@ -145,9 +145,9 @@ pub fn spans_of(alloc: Global, scopes: &Scopes) -> Result<Spans, AllocError>
         None => return Err(AllocError),
     };
     let sigs = sig_spans(alloc, numbers, atoms + count)?;
-    let integers = Span {
+    let integers = AtomRange {
         first: atoms,
         count,
     };
-    Ok(Spans { sigs, integers })
+    Ok(AtomRanges { sigs, integers })
 }

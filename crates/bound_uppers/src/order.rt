@@ -1,4 +1,4 @@
-// The order of relations: each sig, then its fields, then the fields without owner.
+//! The order of relations: each sig, then its fields, then the fields without owner.
 
 ghost use Rattle.std.specs.Prelude.{◌≡◌, ◌<◌, ◌≤◌, ℕ, length, map, slice_index, IfOk};
 ghost use Rattle.bound_uppers.specs.Order.{with_owner, standings, order_in, one_at, AreOrders};

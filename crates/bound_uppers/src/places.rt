@@ -1,4 +1,4 @@
-// Which variable says that a tuple is in a relation at a state.
+//! Which variable says that a tuple is in a relation at a state.
 
 ghost use Rattle.std.specs.Prelude.{◌≡◌, ◌<◌, ◌^◌};
 

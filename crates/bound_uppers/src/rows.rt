@@ -1,16 +1,16 @@
-// The tuples of rows of kinds.
+//! The tuples of rows of kinds.
 
 ghost use Rattle.std.specs.Prelude.{◌≡◌, ◌⊎◌, ◌<◌, ◌≤◌, ◌+◌, ◌∷◌, [], ℕ, List, All, length, take, slice_index, IfOk, OnOk, IsTrue, ◌↔◌};
 ghost use Rattle.core_tuples.specs.Sets.{In, HasJust};
 ghost use Rattle.bound_uppers.specs.Kinds.{span_at, InSpan, InKinds, InRows, FitSpans};
 
 use crate::kinds::{INTEGERS, number_at};
-use crate::numbers::{Span, Spans};
+use crate::numbers::{AtomRange, AtomRanges};
 use core_tuples::{Tuple, TupleSet, product, union};
 use std::alloc::{AllocError, Global};
 
 /// The numbers of a kind.
-fn span_of(spans: &Spans, kind: u32) -> Span
+fn span_of(spans: &AtomRanges, kind: u32) -> AtomRange
     ensures { result ≡ span_at spans.now kind }
 {
     if kind == INTEGERS {
@@ -19,12 +19,12 @@ fn span_of(spans: &Spans, kind: u32) -> Span
     if (kind as usize) < spans.sigs.len() {
         spans.sigs[kind as usize]
     } else {
-        Span { first: 0, count: 0 }
+        AtomRange { first: 0, count: 0 }
     }
 }
 
 /// How many tuples a row has, or the greatest number where there are more.
-fn row_size(spans: &Spans, row: &Tuple) -> u64 {
+fn row_size(spans: &AtomRanges, row: &Tuple) -> u64 {
     let mut size = 1u64;
     for kind in row.numbers() {
         size = size.saturating_mul(span_of(spans, *kind).count as u64);
@@ -34,7 +34,7 @@ fn row_size(spans: &Spans, row: &Tuple) -> u64 {
 
 /// How many tuples rows of different kinds have together, or the greatest number where there are
 /// more.
-pub fn rows_size(spans: &Spans, rows: &[Tuple]) -> u64 {
+pub fn rows_size(spans: &AtomRanges, rows: &[Tuple]) -> u64 {
     let mut size = 0u64;
     for row in rows {
         size = size.saturating_add(row_size(spans, row));
@@ -56,7 +56,7 @@ fn add_number(alloc: Global, set: &mut TupleSet, number: u32) -> Result<(), Allo
 
 /// The numbers of a span, as a set of one column.
 #[tactic(auto, using(crate::proofs::Filling::span_none, crate::proofs::Filling::span_more, crate::proofs::Filling::span_just))]
-pub fn span_set(alloc: Global, span: Span) -> Result<TupleSet, AllocError>
+pub fn span_set(alloc: Global, span: AtomRange) -> Result<TupleSet, AllocError>
     requires { span.first + span.count ≤ 16384 }
     ensures { IfOk result (λ s. HasJust s 1 (λ t. (a : ℕ) × InSpan span a × (t ≡ a ∷ []))) }
 {
@@ -69,7 +69,7 @@ pub fn span_set(alloc: Global, span: Span) -> Result<TupleSet, AllocError>
 
 /// The tuples of one column of a kind.
 #[tactic(auto, using(crate::proofs::Filling::kind_just))]
-fn kind_set(alloc: Global, spans: &Spans, kind: u32) -> Result<TupleSet, AllocError>
+fn kind_set(alloc: Global, spans: &AtomRanges, kind: u32) -> Result<TupleSet, AllocError>
     requires fit { FitSpans spans.now }
     ensures { IfOk result (λ s. HasJust s 1 (InKinds spans.now (kind ∷ []))) }
 {
@@ -79,7 +79,12 @@ fn kind_set(alloc: Global, spans: &Spans, kind: u32) -> Result<TupleSet, AllocEr
 }
 
 /// The set with a further column, of a kind.
-fn longer(alloc: Global, spans: &Spans, set: &TupleSet, kind: u32) -> Result<TupleSet, AllocError>
+fn longer(
+    alloc: Global,
+    spans: &AtomRanges,
+    set: &TupleSet,
+    kind: u32,
+) -> Result<TupleSet, AllocError>
     requires fit { FitSpans spans.now }
     requires few { set.now.arity < 9 }
     ensures { IfOk result (λ s. (row : List ℕ) (n : ℕ) → n < length row → kind ≡ slice_index row n
@@ -92,7 +97,7 @@ fn longer(alloc: Global, spans: &Spans, set: &TupleSet, kind: u32) -> Result<Tup
 
 /// The tuples of a row of kinds.
 #[tactic(auto, using(crate::proofs::Filling::first_kind, crate::proofs::Filling::whole_row))]
-fn row_set(alloc: Global, spans: &Spans, row: &Tuple) -> Result<TupleSet, AllocError>
+fn row_set(alloc: Global, spans: &AtomRanges, row: &Tuple) -> Result<TupleSet, AllocError>
     requires fit { FitSpans spans.now }
     requires least { 1 ≤ length row.now }
     requires most { length row.now ≤ 9 }
@@ -113,7 +118,7 @@ fn row_set(alloc: Global, spans: &Spans, row: &Tuple) -> Result<TupleSet, AllocE
 pub fn rows_set(
     alloc: Global,
     arity: u32,
-    spans: &Spans,
+    spans: &AtomRanges,
     rows: &[Tuple],
 ) -> Result<TupleSet, AllocError>
     requires fit { FitSpans spans.now }
@@ -137,7 +142,7 @@ pub fn rows_set(
 }
 
 /// Whether a number is one of a span.
-fn is_among(span: Span, number: u64) -> bool
+fn is_among(span: AtomRange, number: u64) -> bool
     ensures { IsTrue result ↔ InSpan span number }
 {
     let first = span.first as u64;
@@ -152,7 +157,7 @@ fn is_among(span: Span, number: u64) -> bool
 
 /// Whether a number is of the kind of a row of one column.
 #[tactic(auto, using(crate::proofs::Filling::row_holds_just))]
-fn row_holds(spans: &Spans, row: &Tuple, number: u64) -> bool
+fn row_holds(spans: &AtomRanges, row: &Tuple, number: u64) -> bool
     requires { length row.now ≡ 1 }
     ensures { IsTrue result ↔ InKinds spans.now row.now (number ∷ []) }
 {
@@ -164,7 +169,7 @@ fn row_holds(spans: &Spans, row: &Tuple, number: u64) -> bool
 
 /// Whether a number is of the kind of one of some rows of one column.
 #[tactic(auto, using(crate::proofs::Filling::holds_none, crate::proofs::Filling::holds_yes, crate::proofs::Filling::holds_more, crate::proofs::Filling::holds_not, crate::proofs::Filling::row_columns))]
-pub fn rows_hold(spans: &Spans, rows: &[Tuple], number: u64) -> bool
+pub fn rows_hold(spans: &AtomRanges, rows: &[Tuple], number: u64) -> bool
     requires { All (λ r. length r ≡ 1) rows.now }
     ensures { IsTrue result ↔ InRows spans.now rows.now (number ∷ []) }
 {

@@ -1,4 +1,4 @@
-// The lasso with fewest states and the same sequence.
+//! The lasso with fewest states and the same sequence.
 
 ghost use Rattle.std.specs.Prelude.{◌≡◌, ◌≢◌, ◌<◌, ◌≤◌, ◌+◌, ◌-◌, ◌%◌, ◌↔◌, ℕ, length, take, slice_index, IfOk, IsTrue};
 ghost use Rattle.bound_uppers.specs.Shortest.{IsSameSequence, HasFewestStates, HasEarliestLoop};
@@ -138,6 +138,7 @@ pub fn shortest(alloc: Global, lasso: &Lasso) -> Result<Lasso, AllocError>
     ensures earliest { IfOk result HasEarliestLoop }
 {
     let all = numbers(alloc, lasso)?;
+    // for the proof: this call's clause says that the loop begins at one of the states
     let _count = lasso.states();
     let start = lasso.loop_start() as usize;
     let period = least_period(&all, start);
@@ -151,6 +152,7 @@ fn cut(alloc: Global, lasso: &Lasso, begin: usize, period: usize) -> Result<Lass
     requires fits { begin + period ≤ length lasso.now.states }
     ensures { IfOk result (λ l. l ≡ record { states = take (begin + period) lasso.now.states; loop_start = begin }) }
 {
+    // for the proof: this call's clause says that the loop begins at one of the states
     let _count = lasso.states();
     let states = first_states(alloc, lasso, begin + period)?;
     match make_lasso(states, begin as u32) {

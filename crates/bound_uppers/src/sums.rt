@@ -1,4 +1,4 @@
-// Sums of sizes that stand at places.
+//! Sums of sizes that stand at places, with overflow as want of memory.
 
 ghost use Rattle.std.specs.Prelude.{◌≡◌, ◌<◌, ◌+◌, ◌*◌, ◌^◌, ℕ, length, if◌then◌else◌, eqb, slice_index, IfOk, OnOk};
 ghost use Rattle.bound_uppers.specs.Sums.{AreSizes, AreStarts};
@@ -12,7 +12,7 @@ pub struct Weight {
     pub size: u64,
 }
 
-/// The sum of two numbers. There is no room for so many things as are none below 2^64.
+/// The sum of two numbers. Overflow is answered as want of memory: that many things would not fit.
 pub fn added(a: u64, b: u64) -> Result<u64, AllocError>
     ensures sum { IfOk result (λ n. n ≡ a + b) }
     ensures fits { IfOk result (λ n. n < 2 ^ 64) }
@@ -23,7 +23,8 @@ pub fn added(a: u64, b: u64) -> Result<u64, AllocError>
     }
 }
 
-/// The product of two numbers. There is no room for so many things as are none below 2^64.
+/// The product of two numbers. Overflow is answered as want of memory: that many things would not
+/// fit.
 pub fn multiplied(a: u64, b: u64) -> Result<u64, AllocError>
     ensures { IfOk result (λ n. n ≡ a * b) }
 {

@@ -1,4 +1,4 @@
-// Upper bounds, and why there are none.
+//! Upper bounds of all relations, and the faults for which there are none.
 
 use base_types::Refusal;
 use core_tree::ItemList;

@@ -1,4 +1,4 @@
-// The sigs that stand for a sig in bounds and in types.
+//! Top-level sigs, and the sig as which a sig stands in bounds and in types.
 
 ghost use Rattle.std.specs.Prelude.{◌≡◌, length, IfOk};
 ghost use Rattle.core_tree.specs.Types.{standing};

@@ -1,4 +1,4 @@
-// The upper bounds of the relations of a model.
+//! The upper bounds of the relations of a model, from its types, literals and scopes.
 
 ghost use Rattle.std.specs.Prelude.{◌≡◌, ◌<◌, ◌≤◌, ◌+◌, ◌++◌, ◌∷◌, [], ◌↔◌, ℕ, All, map, IfOk, OnOk, IsTrue, length, slice_get, slice_index, Some};
 ghost use Rattle.core_tuples.specs.Sets.{HasJust};
@@ -14,18 +14,18 @@ ghost use Rattle.bound_uppers.specs.Table.{IsTable, is_fixed, are_fixed};
 ghost use Rattle.bound_uppers.specs.Uppers.{AreUppers};
 
 use crate::kinds::{sig_kinds, type_kinds};
-use crate::numbers::{Span, Spans, spans_of};
+use crate::numbers::{AtomRange, AtomRanges, spans_of};
 use crate::order::orders;
 use crate::rows::{rows_hold, rows_set, rows_size, span_set};
 use crate::table::{Bound, BoundList, Bounds, BoundsFault};
 use crate::tops::tops;
-use base_types::{Place, Refusal, Rule};
+use base_types::{Position, Refusal, Rule};
 use core_meaning::Scopes;
 use core_tree::{Field, Model, Row, Sig, SigKind};
 use core_tuples::{Tuple, TupleSet};
 use std::alloc::{AllocError, Global};
 
-/// The most variables that a table has.
+/// The most variables that a table has, its loop indices among them (Cells, S67).
 pub const MOST_CELLS: u64 = 1_000_000;
 
 /// A relation before its tuples are made.
@@ -49,6 +49,7 @@ fn columns_of(columns: u32) -> u32
     if columns < 1 {
         return 1;
     }
+    // ArityLimit, S47: a relation has at most nine columns.
     if columns > 9 {
         return 9;
     }
@@ -56,7 +57,7 @@ fn columns_of(columns: u32) -> u32
 }
 
 /// Where the numbers of a sig begin; behind all atoms where there is none of this number.
-fn first_of(spans: &Spans, sig: u32) -> u32
+fn first_of(spans: &AtomRanges, sig: u32) -> u32
     ensures { result ≡ first_in spans.now sig }
 {
     if (sig as usize) < spans.sigs.len() {
@@ -68,7 +69,7 @@ fn first_of(spans: &Spans, sig: u32) -> u32
 
 /// The atom of a literal's sig, which has this number: it has no origin, and its place behind
 /// `String` is that of its atom.
-fn literal_atom(spans: &Spans, sig: &Sig, number: u32) -> Option<u64>
+fn literal_atom(spans: &AtomRanges, sig: &Sig, number: u32) -> Option<u64>
     ensures { result ≡ literal_in spans.now number sig.now }
 {
     if sig.origin.is_some() {
@@ -98,7 +99,7 @@ fn sig_sketch(
     sigs: &[Sig],
     sig: &Sig,
     ups: &[u32],
-    spans: &Spans,
+    spans: &AtomRanges,
     number: u32,
 ) -> Result<Sketch, AllocError>
     ensures fixed { IfOk result (λ s. s.fixed ≡ is_fixed sig.now.is_var) }
@@ -169,7 +170,7 @@ fn sig_sketches(
     alloc: Global,
     sigs: &[Sig],
     ups: &[u32],
-    spans: &Spans,
+    spans: &AtomRanges,
 ) -> Result<Vec<Sketch>, AllocError>
     ensures fixed { IfOk result (λ v. map (λ (s : Sketch). s.fixed) v.items ≡ map (λ (d : Sig). is_fixed d.is_var) sigs.now) }
     ensures right { IfOk result (λ v. All IsRightSketch v.items) }
@@ -215,7 +216,7 @@ fn sketches(
     alloc: Global,
     model: &Model,
     ups: &[u32],
-    spans: &Spans,
+    spans: &AtomRanges,
 ) -> Result<Vec<Sketch>, AllocError>
     ensures fixed { IfOk result (λ v. map (λ (s : Sketch). s.fixed) v.items ≡ are_fixed model.now) }
     ensures its { IfOk result (λ v. AreSketches model.now ups.now spans.now v.items) }
@@ -228,7 +229,7 @@ fn sketches(
 }
 
 /// How many tuples the upper bound has.
-fn sketch_size(spans: &Spans, sketch: &Sketch) -> u64
+fn sketch_size(spans: &AtomRanges, sketch: &Sketch) -> u64
     requires { IsRightSketch sketch.now }
 {
     match sketch.atom {
@@ -244,7 +245,7 @@ fn sketch_size(spans: &Spans, sketch: &Sketch) -> u64
 }
 
 /// How many variables the table has, or the greatest number where there are more.
-fn cells(spans: &Spans, all: &[Sketch], states: u32) -> u64
+fn cells(spans: &AtomRanges, all: &[Sketch], states: u32) -> u64
     requires { All IsRightSketch all.now }
 {
     let mut fixed = 0u64;
@@ -265,17 +266,23 @@ fn cells(spans: &Spans, all: &[Sketch], states: u32) -> u64
 
 /// The set of an atom, if it is in one of some rows of one column.
 #[tactic(auto, using(crate::proofs::Sketching::atom_just, crate::proofs::Sketching::atom_off, crate::proofs::Sketching::atom_far))]
-fn atom_set(alloc: Global, spans: &Spans, rows: &[Tuple], atom: u64) -> Result<TupleSet, AllocError>
+fn atom_set(
+    alloc: Global,
+    spans: &AtomRanges,
+    rows: &[Tuple],
+    atom: u64,
+) -> Result<TupleSet, AllocError>
     requires fit { FitSpans spans.now }
     requires columns { All (λ r. length r ≡ 1) rows.now }
     ensures { IfOk result (λ s. HasJust s 1 (λ t. InRows spans.now rows.now t × (t ≡ atom ∷ []))) }
 {
+    // Atoms, S66: there are at most 16,384 atoms and integers.
     if atom >= 16384 {
         let none = TupleSet::empty(alloc, 1);
         return Ok(none);
     }
     if rows_hold(spans, rows, atom) {
-        let span = Span {
+        let span = AtomRange {
             first: atom as u32,
             count: 1,
         };
@@ -288,7 +295,7 @@ fn atom_set(alloc: Global, spans: &Spans, rows: &[Tuple], atom: u64) -> Result<T
 
 /// The upper bound.
 #[tactic(auto, using(crate::proofs::Sketching::by_atom, crate::proofs::Sketching::by_rows))]
-fn upper_of(alloc: Global, spans: &Spans, sketch: &Sketch) -> Result<TupleSet, AllocError>
+fn upper_of(alloc: Global, spans: &AtomRanges, sketch: &Sketch) -> Result<TupleSet, AllocError>
     requires fit { FitSpans spans.now }
     requires right { IsRightSketch sketch.now }
     ensures { IfOk result (λ s. HasJust s sketch.now.arity (InSketch spans.now sketch.now)) }
@@ -309,7 +316,7 @@ fn upper_of(alloc: Global, spans: &Spans, sketch: &Sketch) -> Result<TupleSet, A
 #[tactic(auto, using(crate::proofs::Sketching::right_at))]
 fn bound_at(
     alloc: Global,
-    spans: &Spans,
+    spans: &AtomRanges,
     all: &[Sketch],
     places: &[u64],
     relation: usize,
@@ -333,7 +340,7 @@ fn bound_at(
 /// The bounds of the relations, in order.
 fn bound_list(
     alloc: Global,
-    spans: &Spans,
+    spans: &AtomRanges,
     all: &[Sketch],
     places: &[u64],
 ) -> Result<BoundList, AllocError>
@@ -368,7 +375,7 @@ fn states_of(states: u32) -> u32
 fn table_of(
     alloc: Global,
     model: &Model,
-    spans: &Spans,
+    spans: &AtomRanges,
     all: &[Sketch],
     states: u32,
 ) -> Result<Bounds, AllocError>
@@ -399,7 +406,7 @@ pub fn bounds(
     alloc: Global,
     model: &Model,
     scopes: &Scopes,
-    keyword: Place,
+    keyword: Position,
 ) -> Result<Bounds, BoundsFault>
     ensures table { IfOk result IsTable }
     ensures order { IfOk result (λ b. (r : ℕ) (c : Bound) → slice_get b.relations r ≡ Some c → c.order ≡ order_of model.now r) }

@@ -1,7 +1,7 @@
 -- The status and the text of an answer.
 use Rattle.std.specs.Prelude.{ℕ, ◌/◌, ◌%◌, List, [], ◌∷◌, ◌++◌, codes, decimal}
 use Rattle.base_types.specs.Place.{number_of}
-use Rattle.base_types.specs.declared.place.Place.{Place}
+use Rattle.base_types.specs.declared.place.Position.{Position}
 use Rattle.base_types.specs.declared.place.Refusal.{Refusal}
 use Rattle.sat_verdict.specs.Mode as lrat
 use Rattle.sat_verdict.specs.declared.mode.Verdict.{Verdict}
@@ -13,7 +13,7 @@ abbrev pub usage_line : List ℕ
 usage_line = codes "usage: alloyc MODE FILE [SECOND] [--command N] [--conflicts N] [--part PART] [--chooser N] [--expr E] [--at N]" ++ 10 ∷ []
 
 -- the line of a refusal, with the two digits of the rule's number
-abbrev pub numbered_line : ℕ → ℕ → List ℕ → Place → List ℕ
+abbrev pub numbered_line : ℕ → ℕ → List ℕ → Position → List ℕ
 numbered_line tens ones name place = codes "refused S" ++ (decimal tens ++ (decimal ones ++ (codes " " ++ (name ++ (codes ":" ++ (decimal place.line ++ (codes ":" ++ (decimal place.column ++ 10 ∷ []))))))))
 
 abbrev pub refused_line : Refusal → List ℕ → List ℕ

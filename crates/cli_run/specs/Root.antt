@@ -1,4 +1,5 @@
--- What the text of the root model comes to: a rule that it breaks at a place, or a module that it spells.
+-- What the text of the root model comes to: a rule that it breaks at a place, or a module that it
+-- spells.
 use Rattle.std.specs.Prelude.{◌≡◌, ℕ, List, Option, Some, None, Ok, Err, IsTrue}
 use Rattle.base_types.specs.declared.limits.TheConstants.{TREE_DEPTH}
 use Rattle.base_types.specs.declared.place.Refusal.{Refusal}

@@ -1,4 +1,5 @@
-// A search: the model is loaded and analysed, and what was found is written.
+//! A search: the model is loaded and analysed, and what was found is written.
+
 ghost use Rattle.std.specs.Prelude.{◌≡◌, Some, IfOk, IsTrue};
 ghost use Rattle.base_types.specs.Causes.{NoneFell};
 ghost use Rattle.syntax_lexer.specs.Tokens.{tokens_of};
@@ -25,7 +26,8 @@ use syntax_tree::Loaded;
 /// The name of the text of a ring.
 const RING: &str = "make";
 
-/// The answer of a search on the text of a module, whose model is loaded first.
+/// The answer of a search on the text of a module, whose model is loaded first. The text is there
+/// for the proof: only the clauses name it.
 #[tactic(auto, using(crate::proofs::OnModel::found_on, crate::proofs::OnModel::search_fault_on, crate::proofs::OnModel::later_of))]
 pub fn search<L: Libraries>(
     alloc: Global,

@@ -1,9 +1,10 @@
-// What the program has to say, with its status and its text.
+//! An answer is a status and a text.
+
 ghost use Rattle.std.specs.Prelude.{◌≡◌, IfOk, string_bytes};
 ghost use Rattle.cli_run.specs.Answer.{text_of, status_of, checked_line, fault_line, refused_line, numbered_line};
 
 use answer_judge::TraceAnswer;
-use base_types::{Bytes, Name, Place, Refusal};
+use base_types::{Bytes, Name, Position, Refusal};
 use sat_verdict::{Verdict, message_of, status_of as verdict_status};
 use std::alloc::{AllocError, Global};
 
@@ -107,7 +108,7 @@ fn numbered(
     tens: u8,
     ones: u8,
     name: &str,
-    place: Place,
+    place: Position,
 ) -> Result<String, AllocError>
     ensures { IfOk result (λ text. string_bytes text ≡ numbered_line tens ones name.now place) }
 {

@@ -1,4 +1,5 @@
-// The answer is written by one call.
+//! The answer is written by one call.
+
 ghost use Rattle.cli_run.specs.Run.{Delivered, Finished};
 
 use crate::Answer;

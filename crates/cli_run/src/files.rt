@@ -1,9 +1,10 @@
-// A file is asked for as a whole.
+//! A file is asked for as a whole.
+
 ghost use Rattle.std.specs.Prelude.{◌≡◌, ◌+◌, ◌<◌, ◌≤◌, ◌^◌, Ok, cond, nat_le, length};
 ghost use Rattle.base_types.specs.Causes.{NoneFell};
 ghost use Rattle.cli_run.specs.Files.{IsFile, at_start};
 
-use base_types::{Fetch, FetchFault, Libraries, Place, Refusal, Rule};
+use base_types::{Fetch, FetchFault, Libraries, Position, Refusal, Rule};
 use std::alloc::{AllocError, Global};
 
 /// What came of asking for a file.
@@ -55,7 +56,7 @@ pub fn at_start(rule: Rule) -> Refusal
 {
     Refusal {
         rule,
-        place: Place {
+        place: Position {
             module: 0,
             line: 1,
             column: 1,

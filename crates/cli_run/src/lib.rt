@@ -1,7 +1,8 @@
-//! The answer_analysis's top call: from the words of the command line to the bytes of the answer.
+//! The analyser's top call: from the words of the command line to the bytes of the answer.
 //!
-//! [`run_words`] asks the libraries for the files that the words name, does the work of the mode, builds the whole text of
-//! the answer, and writes it by one call. Its clauses say why each status comes.
+//! [`run_words`] asks the libraries for the files that the words name, does the work of the mode,
+//! builds the whole text of the answer, and writes it by one call. Its clauses say why each status
+//! comes.
 #![tactic(auto)]
 
 mod analysis;
@@ -18,6 +19,3 @@ mod work;
 
 pub use answer::Answer;
 pub use run::run_words;
-
-#[cfg(test)]
-mod tests;

@@ -1,4 +1,5 @@
-// What the text of the root model comes to.
+//! The text of the root model comes to a refusal, or to a module with its tokens.
+
 ghost use Rattle.std.specs.Prelude.{◌≤◌, length};
 ghost use Rattle.syntax_tree.specs.Instances.{literals_of};
 

@@ -1,4 +1,5 @@
-// A text that is refused, and a library that failed.
+//! A text that is refused, and a library that failed, are answers too.
+
 ghost use Rattle.std.specs.Prelude.{◌≡◌, IfOk};
 ghost use Rattle.cli_run.specs.Files.{at_start};
 

@@ -1,4 +1,5 @@
-// The text of the root model: its tokens, and the module that they spell.
+//! The text of the root model: its tokens, and the module that they spell.
+
 ghost use Rattle.std.specs.Prelude.{◌≡◌, ◌≤◌, length, IfOk};
 ghost use Rattle.syntax_tree.specs.Spelling.{EndsWell};
 ghost use Rattle.syntax_lexer.specs.Tokens.{tokens_of};

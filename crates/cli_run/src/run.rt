@@ -1,4 +1,5 @@
-// The top call.
+//! The top call does what the words ask for, and writes the answer by one call.
+
 ghost use Rattle.std.specs.Prelude.{◌≡◌, ◌≢◌, ◌⊎◌, ℕ, List, map, string_bytes, vec_len, Some, None, Err, IsTrue};
 ghost use Rattle.base_types.specs.Causes.{NoneFell, Rose};
 ghost use Rattle.base_types.specs.Texts.{Texts};
@@ -63,11 +64,13 @@ pub fn run_words<S: Sink>(
     ensures read_fault { result ≡ 4 → FailsToRead (fitting (vec_len choosers) (map string_bytes words.now)) (map faults libraries.old.items) (map faults libraries.new.items) (S.got out.old) (S.got out.new) }
     ensures read_fault_always { map faults libraries.new.items ≢ map faults libraries.old.items → (result ≡ 4) ⊎ (result ≡ 5) ⊎ (result ≡ 6) }
 
-    // 10, 20 and 30: the words ask for a search, and no file breaks a rule as a whole, and the text of the model spells a module.
-    // With 10 the part that is asked for was written of a trace; in a search for the fewest states it has one, or there are
-    // clauses and lines that refute them. With 20 the part was written of clauses and lines that refute them, in a search for
-    // facts that rule out every trace with such facts; with 30 the budget is spent, and clauses were written with as many
-    // lemmas as it has.
+    // 10, 20 and 30: the words ask for a search, and no file breaks a rule as a whole, and the
+    // text of the model spells a module. With 10 the part that is asked for was written of a
+    // trace; in a search for the fewest states the trace has one state, or the part is of clauses
+    // of one state less too, and of lines that refute them. With 20 the part that is asked for was
+    // written of clauses and of lines that refute them; in a search for facts that rule out every
+    // trace, it is of such facts too. With 30 the budget is spent, and clauses were written with
+    // as many lemmas as it has.
     ensures trace { result ≡ 10 → FindsTrace (fitting (vec_len choosers) (map string_bytes words.now)) (map holds libraries.old.items) (S.got out.old) (S.got out.new) }
     ensures absent { result ≡ 20 → FindsNone (fitting (vec_len choosers) (map string_bytes words.now)) (map holds libraries.old.items) (S.got out.old) (S.got out.new) }
     ensures unknown { result ≡ 30 → LeavesOpen (fitting (vec_len choosers) (map string_bytes words.now)) (map holds libraries.old.items) (S.got out.old) (S.got out.new) }

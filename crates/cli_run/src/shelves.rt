@@ -1,4 +1,5 @@
-// The list of boxed libraries, asked in order.
+//! A list of boxed libraries is asked in order.
+
 ghost use Rattle.std.specs.Prelude.{◌≡◌, List, map, Some, Ok};
 ghost use Rattle.base_types.specs.Texts.{Texts, Answers, AnswersFirst};
 ghost use Rattle.base_types.specs.Causes.{FetchCause, ListCause};

@@ -1,4 +1,5 @@
-// A trace is read: the model is loaded, then the expression is read, then the file of the trace.
+//! A trace is read: the model is loaded, then the expression is read, then the file of the trace.
+
 ghost use Rattle.std.specs.Prelude.{◌≡◌, ◌≤◌, length, true, is_some, Some, IfOk, IsTrue};
 ghost use Rattle.base_types.specs.Causes.{NoneFell};
 ghost use Rattle.syntax_lexer.specs.Tokens.{tokens_of};
@@ -24,7 +25,8 @@ use syntax_tree::Loaded;
 /// The name of the text of an expression.
 const EXPRESSION: &str = "expr";
 
-/// The answer of a run that reads a trace of the module with this text, whose model is loaded first.
+/// The answer of a run that reads a trace of the module with this text, whose model is loaded
+/// first. The text is there for the proof: only the clauses name it.
 #[tactic(auto, using(crate::proofs::OnModel::after_on, crate::proofs::OnModel::later_of, crate::proofs::Allowed::then_later))]
 pub fn traced<L: Libraries>(
     alloc: Global,

@@ -1,4 +1,5 @@
-// The answer to the words: the work of each mode.
+//! Each mode has its work, which is chosen by the settings that the words give.
+
 ghost use Rattle.std.specs.Prelude.{◌≡◌, ◌≢◌, ◌≤◌, List, length, true, is_some, Some, Ok, IfOk, map, string_bytes};
 ghost use Rattle.base_types.specs.Causes.{NoneFell};
 ghost use Rattle.cli_words.specs.Settings.{fitting, has_second};

@@ -1,4 +1,4 @@
--- What the words give.
+-- What the words give: for each name the first text that stands under it, or none.
 use Rattle.std.specs.Prelude.{◌≡◌, ◌≢◌, ℕ, List, [], Option, option_map, MatchOption, codes}
 use Rattle.std.specs.Borrow.{Bor}
 use Rattle.clap.specs.Faults.{fault_of}

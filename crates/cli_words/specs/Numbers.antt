@@ -1,4 +1,4 @@
--- Decimals among the words.
+-- Decimals among the words: which texts they are, and which number each is.
 use Rattle.std.specs.Prelude.{ℕ, ◌^◌, ◌&&◌, Bool, cond, List, Option, Some, None, length, nat_lt}
 use Rattle.std.specs.List.{list_all}
 use Rattle.std.specs.Char.{digit_value}

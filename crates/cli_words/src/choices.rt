@@ -1,4 +1,5 @@
-// The settings that are chosen by names and numbers.
+//! The settings that words choose by names and numbers.
+
 ghost use Rattle.std.specs.Prelude.{◌≡◌};
 ghost use Rattle.std.specs.Prelude.{option_and_then};
 ghost use Rattle.cli_words.specs.Given.{lent};

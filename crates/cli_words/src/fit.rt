@@ -1,4 +1,5 @@
-// Whether settings fit their mode.
+//! Not all settings fit each mode; a test tells which do.
+
 ghost use Rattle.std.specs.Prelude.{◌≡◌};
 ghost use Rattle.cli_words.specs.Settings.{fits, has_input, has_second, is_ring_size};
 

@@ -1,4 +1,5 @@
-// What the words give, as texts.
+//! The words give texts, under the names of the command line.
+
 ghost use Rattle.std.specs.Prelude.{◌≡◌, ◌≢◌, [], IfOk, MatchOption, map, option_map, string_bytes};
 ghost use Rattle.clap.specs.Faults.{fault_of};
 ghost use Rattle.clap.specs.Simple.{matches_of};

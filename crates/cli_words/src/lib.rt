@@ -1,7 +1,8 @@
 //! The command line of `alloyc`.
 //!
-//! The words are read by one simple `clap` command, so that the texts that they give are a function of the words. From these
-//! texts come the settings of a run, or none; whether the settings fit their mode is a test of the settings alone.
+//! The words are read by one simple `clap` command, so that the texts that they give are a
+//! function of the words. From these texts come the settings of a run, or none; whether the
+//! settings fit their mode is a test of the settings alone.
 #![tactic(auto)]
 
 mod choices;

@@ -1,4 +1,5 @@
-// The one simple command.
+//! The command line is one simple `clap` command.
+
 ghost use Rattle.std.specs.Prelude.{◌≡◌, IfOk, false, map, string_bytes};
 ghost use Rattle.clap.specs.Words.{app_of, found_of, new_rule, rule_of, with_rule};
 ghost use Rattle.clap.specs.Faults.{fault_of};

@@ -1,4 +1,5 @@
-// What is chosen by a word: the mode, and the part of the answer that is written.
+//! What is chosen by a word: the mode, and the part of the answer that is written.
+
 ghost use Rattle.std.specs.Prelude.{◌≡◌};
 ghost use Rattle.cli_words.specs.Named.{mode_named, later_mode_named, part_named, takes_second, searches};
 
@@ -19,7 +20,7 @@ pub enum Mode {
     Eval,
     /// Searches for a trace of fewest states.
     Least,
-    /// Names facts that rule out every trace, none of them to spare.
+    /// Names facts that rule out every trace, found by deletion.
     Core,
 }
 

@@ -1,4 +1,5 @@
-// The settings that the words give.
+//! The texts that the words give come to the settings of a run, or to none.
+
 ghost use Rattle.std.specs.Prelude.{◌≡◌, IfOk, map, option_map, string_bytes};
 ghost use Rattle.cli_words.specs.Given.{lent, GivesTexts, IsGiven};
 ghost use Rattle.cli_words.specs.Settings.{choices_in, settings_in, settings_of};

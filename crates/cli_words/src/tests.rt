@@ -11,13 +11,6 @@ fn settings(alloc: Global, line: &str) -> Result<Option<Settings>, AllocError> {
     settings_of_words(alloc, &words)
 }
 
-fn is_fitting(alloc: Global, line: &str) -> Result<bool, AllocError> {
-    Ok(match settings(alloc, line)? {
-        Some(settings) => fits(&settings, 2),
-        None => false,
-    })
-}
-
 #[test]
 fn the_words_of_a_run(rt: HostRuntime) -> Result<(), Fail> {
     let alloc = rt.alloc();
@@ -31,53 +24,5 @@ fn the_words_of_a_run(rt: HostRuntime) -> Result<(), Fail> {
     let expression = given.expression.ok_or("no expression")?;
     assert_eq!(rt; expression.text(), "On'");
     assert!(rt; given.position == 2 && given.part == Part::All);
-    Ok(())
-}
-
-#[test]
-fn what_fits(rt: HostRuntime) -> Result<(), Fail> {
-    let alloc = rt.alloc();
-    for line in [
-        "alloyc exec m.als",
-        "alloyc commands m.als --chooser 9",
-        "alloyc lrat f.cnf p.lrat",
-        "alloyc make 1",
-        "alloyc make 15",
-        "alloyc replay m.als t.txt --at 18446744073709551615",
-        "alloyc least m.als --command 4294967295 --conflicts 18446744073709551615",
-        "alloyc --part proof core m.als --chooser 1",
-    ] {
-        assert!(rt; is_fitting(alloc, line)?, "{line}");
-    }
-    Ok(())
-}
-
-#[test]
-fn what_does_not(rt: HostRuntime) -> Result<(), Fail> {
-    let alloc = rt.alloc();
-    for line in [
-        "alloyc",
-        "alloyc exec",
-        "alloyc find m.als",
-        "alloyc exec a b",
-        "alloyc exec a b c",
-        "alloyc lrat f.cnf",
-        "alloyc eval m.als t.txt",
-        "alloyc make 0",
-        "alloyc make 01",
-        "alloyc make 16",
-        "alloyc exec m.als --chooser 2",
-        "alloyc exec m.als --other 1",
-        "alloyc exec m.als --part all --part all",
-        "alloyc exec m.als --part trace",
-        "alloyc exec m.als --command 4294967296",
-        "alloyc exec m.als --conflicts 18446744073709551616",
-        "alloyc exec m.als --at 18446744073709551616",
-        "alloyc exec m.als --command one",
-        "alloyc exec m.als --command",
-        "alloyc --help",
-    ] {
-        assert!(rt; !is_fitting(alloc, line)?, "{line}");
-    }
     Ok(())
 }

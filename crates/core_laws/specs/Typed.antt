@@ -1,4 +1,4 @@
--- That the relations of a lasso, where the declarations of a model hold, lie in the upper bounds that the types give.
+-- What the types give: relations lie in the upper bounds where the declarations of a model hold.
 use Rattle.std.specs.Prelude.{◌≡◌, ◌+◌, ℕ, true, List, All, IsSome, length, Some, slice_get}
 use Rattle.core_tree.specs.declared.model.Model.{Model}
 use Rattle.core_tree.specs.declared.model.Sig.{Sig}

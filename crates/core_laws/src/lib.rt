@@ -1,8 +1,8 @@
-//! Laws of the meaning of models.
+//! Laws of the meaning of models, each in the clauses of an empty function; a caller calls it.
 //!
-//! A law: what a lasso satisfies is told by the sequence of states that it shows.
-//!
-//! A law: where the declarations of a model hold, its fields lie in their upper bounds.
+//! They say that an expression has one number of tuples and stands for one integer, that what a
+//! lasso satisfies is told by the sequence of states that it shows, and that fields lie in their
+//! upper bounds where the declarations of a model hold.
 #![tactic(auto)]
 
 ghost use Rattle.std.specs.Prelude.{◌≡◌, ℕ, ℤ, List};
@@ -21,18 +21,12 @@ pub fn integers_are_unique()
     ensures numbers { (w : World) (list : List Body) (e : Term) (atoms : List Binding) (i : ℕ) (n m : ℤ) → IsNumber w (InTerm w (bodies_of w list) e (atom_names atoms) i) n → IsNumber w (InTerm w (bodies_of w list) e (atom_names atoms) i) m → n ≡ m }
 {}
 
-#[cfg(test)]
-mod meaning_laws_tests;
-
 ghost use Rattle.core_laws.specs.Sequences.{SameSatisfied};
 
 /// A law: lassos that show the same sequence satisfy the same models and commands.
 pub fn same_sequences_satisfy_the_same()
     ensures { SameSatisfied }
 {}
-
-#[cfg(test)]
-mod sequence_laws_tests;
 
 ghost use Rattle.core_laws.specs.Typed.{FieldsLieInBounds};
 
@@ -41,6 +35,3 @@ ghost use Rattle.core_laws.specs.Typed.{FieldsLieInBounds};
 pub fn fields_lie_in_their_bounds()
     ensures { FieldsLieInBounds }
 {}
-
-#[cfg(test)]
-mod type_laws_tests;

@@ -5,8 +5,8 @@ use Rattle.core_tree.specs.declared.model.BodyForm.{BodyForm}
 use Rattle.core_tree.specs.declared.model.BodyForm.TheVariants.{Test, Term as Value}
 use Rattle.core_tree.specs.Trees.{term_of, claim_of}
 use Rattle.core_meaning.specs.World.{World}
-use Rattle.core_meaning.specs.declared.scope.Scope.{Scope}
-use Rattle.core_meaning.specs.declared.scope.Scope.TheVariants.{Empty, Atom', Written'}
+use Rattle.core_meaning.specs.declared.scope.Environment.{Environment}
+use Rattle.core_meaning.specs.declared.scope.Environment.TheVariants.{Empty, Atom', Written'}
 use Rattle.core_meaning.specs.Operators.{Tuples}
 use Rattle.core_meaning.specs.Meaning.{Names, Bodies, no_names, with_name, atom, InTerm, Holds}
 
@@ -44,13 +44,13 @@ abbrev pub bodies_of : World → List Body → Bodies
 bodies_of w list = called w list (length list)
 
 -- what the names of a scope stand for
-abbrev pub names_of : World → Bodies → Scope → Names
+abbrev pub names_of : World → Bodies → Environment → Names
 names_of w bodies Empty = no_names
 names_of w bodies (Atom' x a p rest) = with_name (names_of w bodies rest) x (atom a)
 names_of w bodies (Written' x e p outer q rest) = with_name (names_of w bodies rest) x (λ i. InTerm w bodies (term_of e.now) (names_of w bodies outer) i)
 
 -- each name of the scope stands for an atom
-abbrev pub IsAtoms : Scope → Type 0
+abbrev pub IsAtoms : Environment → Type 0
 IsAtoms Empty = Unit {0}
 IsAtoms (Atom' x a p rest) = IsAtoms rest
 IsAtoms (Written' x e p outer q rest) = ⊥

@@ -1,5 +1,4 @@
 -- What each operator means, on sets of tuples, on integers, on facts and on facts over time.
---
 -- Operators that are derived from others are written by negation: `or` is "not both false", `some`
 -- with variables is "not for all not", `always` is "not at some later position not", and so on.
 use Rattle.std.specs.Prelude.{◌≡◌, ◌≢◌, ◌⊎◌, ◌↔◌, ℕ, ◌+◌, ◌-◌, ◌<◌, ◌≤◌, List, [], ◌∷◌, ◌++◌, map, length, Contains, AllPairs, All, ℤ, pos, ◌<ℤ◌}

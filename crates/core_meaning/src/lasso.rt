@@ -1,4 +1,4 @@
-// Lassos: finitely many states that stand for an infinite sequence.
+//! Lassos: finitely many states that stand for an infinite sequence.
 
 ghost use Rattle.std.specs.Prelude.{◌≡◌, ◌<◌, ◌≤◌, ◌^◌, [], ◌∷◌, ◌++◌, length, MatchOption, IfOk, OnOk, OnErr, slice_get, Some};
 

@@ -7,9 +7,6 @@ pub mod scopes;
 pub mod target;
 
 pub use lasso::{Lasso, State, make_lasso};
-pub use scope::Scope;
+pub use scope::Environment;
 pub use scopes::{Scopes, SigScope, SigScopeList};
 pub use target::Target;
-
-#[cfg(test)]
-mod tests;

@@ -1,4 +1,4 @@
-// The scopes of a command.
+//! The scopes of a command, as numbers: its universe, and how many states a lasso has at most.
 
 ghost use Rattle.std.specs.Prelude.{◌≡◌, IfOk};
 

@@ -1,4 +1,4 @@
-// What a lasso is looked for.
+//! A target: the formulas that a lasso is to satisfy, and the scopes that it is to keep.
 
 use crate::scopes::Scopes;
 use core_tree::FormulaList;

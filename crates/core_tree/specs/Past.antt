@@ -1,5 +1,5 @@
--- How many past operators an expression or a formula nests, after calls are replaced by bodies and
--- `let` names by their values.
+-- How many past operators an expression or a formula nests: its past depth.
+-- It is counted as if calls were replaced by bodies and `let` names by their values.
 use Rattle.std.specs.Prelude.{ℕ, zero, suc, ◌+◌, ◌-◌, ◌^◌, nat_lt, eqb, if◌then◌else◌, max, List, length, Option, Some, None, slice_get}
 use Rattle.core_tree.specs.declared.operators.TemporalUnary.{TemporalUnary}
 use Rattle.core_tree.specs.declared.operators.TemporalUnary.TheVariants.{After, Always, Eventually, Before, Historically, Once}

@@ -1,7 +1,7 @@
--- Formulas and expressions as plain data, without where their parts lie in memory. Every definition
--- that speaks of formulas and expressions speaks of these.
+-- Formulas and expressions as plain data, without where their parts lie in memory.
+-- Every definition that speaks of formulas and expressions speaks of these.
 use Rattle.std.specs.Prelude.{ℕ, ℤ, List, [], ◌∷◌}
-use Rattle.base_types.specs.declared.place.Place.{Place}
+use Rattle.base_types.specs.declared.place.Position.{Position}
 use Rattle.core_tree.specs.declared.operators.Multiplicity.{Multiplicity}
 use Rattle.core_tree.specs.declared.operators.Quantity.{Quantity}
 use Rattle.core_tree.specs.declared.operators.Comparison.{Comparison}
@@ -31,7 +31,7 @@ mutual
     prime : Term → Term
     choose_term : Claim → Term → Term → Term
     comprehension : Variables → Claim → Term
-    number : ℤ → Place → Term
+    number : ℤ → Position → Term
     count : Term → Term
     arithmetic : IntOp → Term → Term → Term
     sum_over : Variables → Term → Term

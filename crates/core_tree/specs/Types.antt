@@ -1,6 +1,6 @@
--- The type of a resolved expression: rows of non-subset sigs and `Int`. In these types a `var` sig
--- stands as its nearest ancestor that isn't `var`, or as its top-level sig where there is none, so
--- that a type holds at every position.
+-- The type of a resolved expression: rows of non-subset sigs and `Int`.
+-- In these types a `var` sig stands as its nearest ancestor that isn't `var`, or as its top-level
+-- sig where there is none, so that a type holds at every position.
 use Rattle.std.specs.Prelude.{ℕ, zero, suc, eqb, Bool, true, false, if◌then◌else◌, List, [], ◌∷◌, ◌++◌, map, length, reverse, Option, Some, None, slice_get, is_some}
 use Rattle.std.specs.List.{flat_map}
 use Rattle.core_tree.specs.declared.operators.RelationOp.{RelationOp}

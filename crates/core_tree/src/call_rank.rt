@@ -1,4 +1,4 @@
-// The call rank of a body.
+//! The call rank of a body, which is above that of each body that it calls.
 
 ghost use Rattle.std.specs.Prelude.{◌≡◌, ◌<◌, length, slice_index, map};
 

@@ -1,4 +1,4 @@
-// Copies of trees: equal, apart from where their parts lie in memory.
+//! Copies of trees: equal, apart from where their parts lie in memory.
 
 ghost use Rattle.std.specs.Prelude.{◌≡◌, IfOk, map};
 ghost use Rattle.core_tree.specs.Trees.{term_of, claim_of, variable_of};

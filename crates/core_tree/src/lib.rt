@@ -1,5 +1,5 @@
-//! Resolved models: formulas and expressions in which every name has been read, and the lists that
-//! make up a model.
+//! Resolved models: the lists that make up a model, and its formulas and expressions.
+//! Every name in them has been read: it is the number of a sig, a field, a body or a variable.
 #![tactic(auto)]
 
 pub mod call_rank;
@@ -22,6 +22,3 @@ pub use operators::{
     TemporalUnary, UnaryRelation,
 };
 pub use tree::{Expr, Formula, Variable};
-
-#[cfg(test)]
-mod tests;

@@ -1,4 +1,4 @@
-// Lists that contracts see as the list of their items.
+//! Lists that contracts see as the list of their items.
 
 ghost use Rattle.std.specs.Prelude.{◌≡◌, [], ◌∷◌, ◌++◌, ◌<◌, length, slice_get, OnOk, OnErr, Some};
 

@@ -1,9 +1,9 @@
-// The parts of a resolved model.
+//! The parts of a resolved model: sigs, fields, facts, assertions, bodies and commands.
 
 use crate::list::ItemList;
 use crate::operators::Multiplicity;
 use crate::tree::{Expr, Formula};
-use base_types::{Name, Place};
+use base_types::{Name, Position};
 
 /// The sigs of a model: those of all instances in load order and then text order, then `String`,
 /// then the literals' sigs.
@@ -55,7 +55,7 @@ pub enum SigKind {
 #[derive(Clone, Copy, Debug, PartialEq, Eq, Drop)]
 pub struct Origin {
     pub instance: u32,
-    pub place: Place,
+    pub place: Position,
 }
 
 /// A sig.
@@ -122,7 +122,7 @@ pub struct Field {
 pub struct Fact {
     pub instance: u32,
     /// The place of its paragraph's first token.
-    pub place: Place,
+    pub place: Position,
     pub name: Option<Name>,
     pub formula: Formula,
 }
@@ -132,7 +132,7 @@ pub struct Fact {
 pub struct Assert {
     pub instance: u32,
     /// The place of its paragraph's first token.
-    pub place: Place,
+    pub place: Position,
     pub name: Option<Name>,
     pub formula: Formula,
 }
@@ -193,9 +193,9 @@ pub enum ScopeSubject {
 #[derive(Drop)]
 pub struct ScopeEntry {
     /// The place of its number.
-    pub number_place: Place,
+    pub number_place: Position,
     /// The place of its name; of the overall number's entry that of its number.
-    pub name_place: Place,
+    pub name_place: Position,
     pub number: u32,
     /// Whether `exactly` stands before the number.
     pub exactly: bool,
@@ -207,11 +207,11 @@ pub struct ScopeEntry {
 pub struct Command {
     pub kind: CommandKind,
     /// The place of `run` or `check`.
-    pub keyword: Place,
+    pub keyword: Position,
     /// The place of its first token, which is its label where one stands before `:`.
-    pub first: Place,
+    pub first: Position,
     /// The place of the name after the keyword, if any.
-    pub name_place: Option<Place>,
+    pub name_place: Option<Position>,
     /// Its label, or else the name that it runs or checks.
     pub label: Option<Name>,
     /// The predicate that it runs, if any.

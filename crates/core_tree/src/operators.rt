@@ -1,4 +1,4 @@
-// The operators of formulas and expressions.
+//! The operators of formulas and expressions, with what each asks or gives.
 
 /// How many tuples a bound, an end of an arrow or a sig allows (Alloy reference, "multiplicities").
 #[derive(Clone, Copy, Debug, PartialEq, Eq, Drop)]

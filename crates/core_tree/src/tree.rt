@@ -1,10 +1,10 @@
-// Resolved formulas and expressions.
+//! Resolved formulas and expressions: the trees that all later stages read.
 
 use crate::operators::{
     Comparison, Connective, IntOp, Multiplicity, Quantity, RelationOp, TemporalBinary,
     TemporalUnary, UnaryRelation,
 };
-use base_types::Place;
+use base_types::Position;
 
 /// A resolved formula.
 ///
@@ -90,7 +90,7 @@ pub enum Expr {
     /// `{ x: a, y: b | F }`.
     Comprehension(Vec<Variable>, Box<Formula>),
     /// An integer literal, with its place.
-    Number(i64, Place),
+    Number(i64, Position),
     /// `#e`.
     Count(Box<Expr>),
     /// One of the five operators on integers.

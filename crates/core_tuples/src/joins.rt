@@ -1,4 +1,4 @@
-//! Join, product and transpose.
+//! Join, product and transpose of sets of tuples.
 
 ghost use Rattle.std.specs.Prelude.{◌≡◌, ◌<◌, ◌≤◌, ◌+◌, ◌-◌, ◌==◌, ◌&&◌, ◌||◌, ◌++◌, ◌∷◌, [], ℕ, Bool, List, All, length, take, drop, slice_index, IfOk, OnOk};
 ghost use Rattle.std.specs.List.{list_any, AllWithin};

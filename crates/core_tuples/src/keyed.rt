@@ -1,4 +1,4 @@
-//! A tuple with its index.
+//! A tuple with its index, by which tuples of one number of columns compare as one number.
 
 ghost use Rattle.std.specs.Prelude.{◌≡◌, length, IfOk};
 ghost use Rattle.core_tuples.specs.Sets.{tuple_cmp};
@@ -52,6 +52,7 @@ impl Keyed {
         ensures same { result.now ≡ self.now }
         ensures fits { FitsIndex self.now }
     {
+        // for the proof: a field is read, so that the invariant of the tuple is at hand
         let _ = &self.index;
         &self.tuple
     }

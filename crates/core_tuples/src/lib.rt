@@ -7,8 +7,6 @@ pub mod merge;
 pub mod ops;
 pub mod rows;
 pub mod set;
-#[cfg(test)]
-mod tests;
 pub mod tuple;
 pub mod universe;
 

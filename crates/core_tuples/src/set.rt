@@ -1,4 +1,4 @@
-//! A finite set of tuples.
+//! A finite set of tuples, kept as a vector in order without repeats.
 
 ghost use Rattle.std.specs.Prelude.{◌≡◌, ◌↔◌, ◌⊎◌, ℕ, [], ◌∷◌, ◌++◌, ◌<◌, ◌≤◌, All, length, IfOk, OnOk, OnErr, IfErr, Contains, IsTrue, slice_get, Some};
 ghost use Rattle.std.specs.List.Sorted.{IsStrictlySortedBy};
@@ -64,6 +64,7 @@ impl TupleSet {
     pub fn copy(&self, alloc: Global) -> Result<TupleSet, AllocError>
         ensures { IfOk result (λ s. s ≡ self.now) }
     {
+        // for the proof: a field is read, so that the invariant of the set is at hand
         let _ = &self.arity;
         Ok(TupleSet {
             arity: self.arity,
@@ -92,6 +93,7 @@ impl TupleSet {
         ensures all { result.now ≡ self.now.tuples }
         ensures set { IsTupleSet self.now }
     {
+        // for the proof: a field is read, so that the invariant of the set is at hand
         let _ = &self.arity;
         &self.tuples
     }
@@ -110,6 +112,7 @@ impl TupleSet {
         ensures ok { OnOk result (HasJust self.new self.old.arity (λ t. In t self.old ⊎ (t ≡ tuple))) }
         ensures err { OnErr result (self.new ≡ self.old) }
     {
+        // for the proof: a field is read, so that the invariant of the set is at hand
         let _ = &self.arity;
         if let Err(place) = place_of(&self.tuples, &tuple) {
             self.tuples.insert(place, Keyed::new(tuple))?;
@@ -122,6 +125,7 @@ impl TupleSet {
 fn is_row(tuple: &Tuple, arity: u32) -> bool
     ensures { IsTrue result ↔ ((length tuple.now ≡ arity) × All IsNumber tuple.now) }
 {
+    // Atoms, S66: there are at most 16,384 atoms and integers.
     tuple.numbers().len() == arity as usize && tuple.numbers().iter().all(|x| *x < 16384)
 }
 

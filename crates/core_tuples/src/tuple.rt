@@ -1,4 +1,4 @@
-// A tuple of numbers of the universe.
+//! A tuple of numbers of the universe, and the order of tuples.
 
 ghost use Rattle.std.specs.Prelude.{◌≡◌, refl, ◌↔◌, [], ◌∷◌, ◌++◌, length, IfOk, OnOk, OnErr, IsTrue};
 ghost use Rattle.std.specs.Ordering.{as_partial_cmp, nat_cmp};

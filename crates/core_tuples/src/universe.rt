@@ -1,4 +1,4 @@
-//! The numbers that stand for atoms and integers.
+//! The universe: how many numbers stand for atoms, and after them for integers.
 
 /// How many numbers there are: first one for each atom of a sig, the distinct string literals last
 /// among them, then one for each integer of the bitwidth, from the least up.

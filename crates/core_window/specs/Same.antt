@@ -1,4 +1,5 @@
--- Sets of tuples that are the same, and that each operator keeps this.
+-- Lemmas and their proofs; nothing to read here but `SameTuples`.
+-- Each operator on sets of tuples keeps that they are the same.
 use Rattle.std.specs.Prelude.{◌⊎◌, ◌↔◌, ◌≢◌, ℕ, List, [], ◌∷◌, ◌++◌, Contains, ℤ}
 use Rattle.std.proofs.Common.{inl, inr}
 use Rattle.core_tree.specs.declared.operators.Multiplicity.{Multiplicity}

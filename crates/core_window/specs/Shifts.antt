@@ -1,4 +1,5 @@
--- Temporal operators one period later, where their formulas repeat.
+-- Lemmas and their proofs; nothing to read here but `uncounted`.
+-- They are on temporal operators one period later, where their formulas repeat.
 use Rattle.std.specs.Prelude.{◌≡◌, ◌⊎◌, ◌↔◌, ℕ, zero, suc, ◌+◌, ◌-◌, ◌*◌, ◌^◌, ◌<◌, ◌≤◌, Bool, true, false, nat_lt, if◌then◌else◌, max}
 use Rattle.std.proofs.Common.{inl, inr, refl, sym, subst, arith}
 use Rattle.std.proofs.lemmas.Bool.{cases_lt, cond_below, cond_above}

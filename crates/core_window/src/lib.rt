@@ -68,6 +68,3 @@ pub fn window_law()
     ensures folded { (w : World) (list : List Body) (f : Claim) (atoms : List Binding) (h i : ℕ) → HasLoop w.lasso → past_of (body_depths list) f (atom_depths atoms) ≤ h → h < uncounted →
         Holds w (bodies_of w list) f (atom_names atoms) (fold_of w.lasso h i) ↔ Holds w (bodies_of w list) f (atom_names atoms) i }
 {}
-
-#[cfg(test)]
-mod tests;

@@ -1,6 +1,7 @@
--- A call means its body: where each body calls only bodies of lower rank, calls that may nest deeper
--- than the ranks go change nothing. The names that a body sees, one added after the other, are those
--- that the arguments pass.
+-- Lemmas and their proofs; nothing to read here but `entered`, the names that a body sees.
+-- A call means its body: where each body calls only bodies of lower rank, calls that may nest
+-- deeper than the ranks go change nothing. The names that a body sees, one added after the other,
+-- are those that the arguments pass.
 use Rattle.std.specs.Prelude.{◌≡◌, ◌↔◌, ◌<◌, ◌≤◌, ℕ, zero, suc, ◌+◌, ◌-◌, ◌^◌, List, length, Bool, true, false, eqb, Option, Some, None, slice_get}
 use Rattle.std.proofs.Common.{arith, sym, subst, inl, inr, refl}
 use Rattle.std.proofs.lemmas.Bool.{cases_lt, cond_above, eq-eqb, ne_eqb}

@@ -1,5 +1,6 @@
--- How many past operators a formula nests at most, counted without replacing names by what they
--- stand for: what a `let` value or an argument nests is added to what the rest does.
+-- How many past operators a formula nests at most: its weight.
+-- It is counted without replacing names by what they stand for: what a `let` value or an argument
+-- nests is added to what the rest does.
 use Rattle.std.specs.Prelude.{◌≡◌, ℕ, ◌+◌, ◌-◌, ◌^◌, ◌<◌, nat_lt, if◌then◌else◌, max, List, length, Option, Some, None, slice_get}
 use Rattle.core_tree.specs.declared.operators.TemporalUnary.{TemporalUnary}
 use Rattle.core_tree.specs.declared.operators.TemporalUnary.TheVariants.{After, Always, Eventually, Before, Historically, Once}

@@ -1,4 +1,4 @@
-// A weight for each body.
+//! A weight for each body, from those of lower rank on.
 
 ghost use Rattle.std.specs.Prelude.{◌≡◌, ◌<◌, ◌≤◌, IfOk, IfSome, IsTrue, length, slice_get, Some};
 ghost use Rattle.core_tree.specs.declared.model.Body.{Body};

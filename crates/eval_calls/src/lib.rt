@@ -1,5 +1,6 @@
-//! How many past operators formulas nest at most, and laws of calls: a call means its body, the names
-//! of a body stand for the arguments, and a formula repeats after as many rounds as it weighs.
+//! How many past operators formulas nest at most, and laws of calls.
+//! The laws say that a call means its body, that the names of a body stand for the arguments, and
+//! that a formula repeats after as many rounds of the loop as it weighs.
 #![tactic(auto)]
 
 pub mod bodies;
@@ -7,6 +8,3 @@ pub mod weight;
 
 pub use bodies::{MANY, weigh};
 pub use weight::{MOST, of_expr, of_formula};
-
-#[cfg(test)]
-mod tests;

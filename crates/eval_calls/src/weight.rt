@@ -1,4 +1,4 @@
-// The weight of a tree: how many past operators it nests at most.
+//! The weight of a tree: how many past operators it nests at most.
 
 ghost use Rattle.std.specs.Prelude.{◌≡◌, map};
 ghost use Rattle.core_tree.specs.Trees.{term_of, claim_of, variable_of, term_list, claim_list, variable_list};

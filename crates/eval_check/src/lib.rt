@@ -75,6 +75,3 @@ pub fn satisfies(
     let last = holds(alloc, model, scopes, lasso, command, 0)?;
     Ok(last)
 }
-
-#[cfg(test)]
-mod tests;

@@ -1,4 +1,4 @@
-// The sets that are there without evaluation.
+//! The sets that are there without evaluation: relations, `univ`, `iden` and the integers.
 
 ghost use Rattle.std.specs.Prelude.{◌≡◌, ◌⊎◌, ◌∷◌, [], ◌+◌, ◌<◌, ◌^◌, ℕ, List, length, IfOk, IfSome, IfNone, OnOk};
 ghost use Rattle.core_tuples.specs.Sets.{In};

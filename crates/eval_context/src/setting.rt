@@ -1,4 +1,4 @@
-// What formulas are judged in.
+//! The setting: a model with its scopes, a lasso, and the window of that lasso.
 
 ghost use Rattle.std.specs.Prelude.{◌≡◌, ◌<◌, ◌≤◌, ◌+◌, ◌^◌, length, IfOk};
 ghost use Rattle.core_meaning.specs.Kept.{atom_count};
@@ -61,6 +61,7 @@ pub fn make_setting<'a>(
     let Some(atoms) = count_atoms(scopes.numbers.as_slice()) else {
         return Err(EvaluationFault::Unfit);
     };
+    // Atoms, S66: there are at most 16,384 atoms and integers.
     if atoms + integer_count(scopes.bits) > 16384 {
         return Err(EvaluationFault::Unfit);
     }

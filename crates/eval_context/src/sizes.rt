@@ -1,11 +1,11 @@
-// How large the universe of some scopes is.
+//! How large the universe of some scopes is.
 
 ghost use Rattle.std.specs.Prelude.{◌≡◌, ◌≤◌, ◌+◌, ◌^◌, IfSome, IsTrue};
 ghost use Rattle.core_meaning.specs.Kept.{atoms_of_sig, atom_count};
 
 use core_meaning::{Scopes, SigScope};
 
-/// How many numbers a universe has at most.
+/// How many numbers a universe has at most: `base_types::limits::ATOMS` (Atoms, S66).
 const MOST: u64 = 16384;
 
 /// How many atoms a sig brings: its number where it is top-level.

@@ -1,4 +1,5 @@
--- Sums that are wrapped as they grow.
+-- Lemmas and their proofs; nothing to read here.
+-- They are on sums that are wrapped as they grow.
 use Rattle.std.proofs.Common.{◌≡◌, ℕ, ◌+◌, ◌-◌, ◌*◌, ◌%◌, ◌^◌, ◌<◌, ◌≤◌, nat_lt, Bool, true, false, cond, refl, sym, ap, ◌∙◌, arith, ℤ, pos, negsuc, ◌+ℤ◌, ◌-ℤ◌, ◌/◌, List, [], ◌∷◌, ◌++◌}
 use lib.Pow.{pow_pos}
 use native.Mathlib.Nat.{mul-le-mul_left}

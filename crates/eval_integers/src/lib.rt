@@ -1,8 +1,6 @@
-//! Integers of a bitwidth, wrapped in two's complement: their bits, the five operators, and
-//! comparisons.
-//!
-//! Integers of a setting's bitwidth: what sets stand for in integer places, and the operators and
-//! comparisons on these, which give sets of one integer.
+//! Integers of a bitwidth, wrapped in two's complement, as the evaluator has them.
+//! They are their bits, the five operators and comparisons, and what sets stand for in integer
+//! places.
 #![tactic(auto)]
 
 pub mod numbers;
@@ -11,11 +9,6 @@ pub use numbers::{compares, half_count, integer_count, low_bits, result_of, wrap
 
 pub mod operators;
 pub mod values;
-#[cfg(test)]
-mod wrapped_integers_tests;
 
 pub use operators::{arithmetic, compare, count_of};
 pub use values::{add, literal, number_of, wrapped};
-
-#[cfg(test)]
-mod integer_operators_tests;

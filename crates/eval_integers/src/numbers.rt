@@ -1,4 +1,4 @@
-// Integers of a bitwidth.
+//! Integers of a bitwidth: wrapping, the five operators, and comparisons.
 
 ghost use Rattle.std.specs.Prelude.{◌≡◌, ◌≢◌, ◌↔◌, IsTrue, ◌<◌, ◌≤◌, ◌-◌, ◌^◌, ◌+ℤ◌, ◌≤ℤ◌, ◌<ℤ◌, pos, negsuc};
 ghost use Rattle.std.specs.Int.RustNames.{int_div, int_rem};

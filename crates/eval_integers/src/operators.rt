@@ -1,4 +1,4 @@
-// Operators and comparisons on what sets stand for in integer places.
+//! Operators and comparisons on what sets stand for in integer places.
 
 ghost use Rattle.std.specs.Prelude.{◌≡◌, ◌↔◌, ◌∷◌, [], ◌+ℤ◌, ◌≤ℤ◌, ◌<ℤ◌, pos, negsuc, ℕ, ℤ, List, IfOk, IsTrue};
 ghost use Rattle.core_tuples.specs.Sets.{In};

@@ -1,4 +1,4 @@
-// What sets stand for in integer places.
+//! What sets stand for in integer places.
 
 ghost use Rattle.std.specs.Prelude.{◌≡◌, ◌≤◌, ◌-◌, ◌^◌, ◌∷◌, [], ◌+ℤ◌, ◌≤ℤ◌, ◌<ℤ◌, pos, negsuc, map, ℕ, IfOk, IfSome, IfNone, List};
 ghost use Rattle.core_tuples.specs.Sets.{In};

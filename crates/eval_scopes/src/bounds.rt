@@ -1,4 +1,4 @@
-// Upper bounds of sigs.
+//! Upper bounds of sigs: which numbers of the universe a sig may have.
 
 ghost use Rattle.std.specs.Prelude.{◌≡◌, ◌↔◌, ◌∷◌, [], ◌+◌, ◌-◌, ◌<◌, ◌≤◌, List, take, length, IfOk, IsTrue, slice_get};
 ghost use Rattle.core_tree.specs.Types.{standing, sig_rows, parent_rows};

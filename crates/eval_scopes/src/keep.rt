@@ -1,4 +1,4 @@
-// Whether a lasso keeps scopes.
+//! Whether a lasso keeps scopes, sig by sig and field by field.
 
 ghost use Rattle.std.specs.Prelude.{◌≡◌, ◌↔◌, ◌≤◌, ◌∷◌, [], ℕ, List, Contains, length, IfOk, IfSome, IsTrue};
 ghost use Rattle.core_meaning.specs.Kept.{InSigBound, IsWithin, Keeps};

@@ -1,4 +1,4 @@
-// What a relation is at all positions together.
+//! What a relation is at all positions together, and whether it is the same at all of them.
 
 ghost use Rattle.std.specs.Prelude.{◌≡◌, ◌↔◌, ◌⊎◌, ℕ, List, false, IfOk, IsTrue};
 ghost use Rattle.core_tuples.specs.Sets.{In};

@@ -1,4 +1,4 @@
-// Why an evaluation gives no answer.
+//! Why an evaluation gives no answer: a fault of memory, or operands that don't fit.
 
 use std::alloc::AllocError;
 

@@ -1,4 +1,4 @@
-// The operators on sets.
+//! The operators on sets: union, difference, intersection, join, product and the rest.
 
 ghost use Rattle.std.specs.Prelude.{◌≡◌, ◌∷◌, [], ℕ, IfOk};
 ghost use Rattle.core_tuples.specs.Sets.{In};
@@ -119,6 +119,7 @@ pub fn paired(alloc: Global, a: &TupleSet, b: &TupleSet) -> Result<TupleSet, Eva
     ensures { IfOk result (λ s. IsSetOf s (product_tuples (λ t. In t a.now) (λ t. In t b.now))) }
 {
     let columns = a.arity() as usize + b.arity() as usize;
+    // ArityLimit, S47: a relation has at most nine columns.
     if columns <= 9 {
         return Ok(product(alloc, a, b)?);
     }

@@ -1,4 +1,4 @@
-// Sets made tuple by tuple.
+//! Sets made tuple by tuple: what is kept of a set, and what is added to one.
 
 ghost use Rattle.std.specs.Prelude.{◌≡◌, ◌≤◌, ◌↔◌, ◌⊎◌, ◌++◌, ◌∷◌, [], ℕ, List, length, slice_index, All, IsTrue, IfOk, OnOk, OnErr, MatchOption};
 ghost use Rattle.core_tuples.specs.Index.{IsNumber};
@@ -26,6 +26,7 @@ pub enum Rule {
 fn is_row(tuple: &Tuple, arity: u32) -> bool
     ensures { IsTrue result ↔ ((length tuple.now ≡ arity) × All IsNumber tuple.now) }
 {
+    // Atoms, S66: there are at most 16,384 atoms and integers.
     tuple.numbers().len() == arity as usize && tuple.numbers().iter().all(|x| *x < 16384)
 }
 
@@ -46,6 +47,7 @@ pub fn put(set: &mut TupleSet, tuple: Tuple) -> Result<(), EvaluationFault>
 pub fn empty_of(alloc: Global, columns: usize) -> TupleSet
     ensures { IsSetOf result (λ _. ⊥) }
 {
+    // ArityLimit, S47: a relation has at most nine columns.
     if columns >= 1 && columns <= 9 {
         return TupleSet::empty(alloc, columns as u32);
     }

@@ -1,4 +1,4 @@
-// Tests of sets and of how many tuples they have.
+//! Tests of sets and of how many tuples they have.
 
 ghost use Rattle.std.specs.Prelude.{◌≡◌, ◌↔◌, ℕ, length, reverse, IsTrue};
 ghost use Rattle.core_tuples.specs.Sets.{In, IsTupleSet};

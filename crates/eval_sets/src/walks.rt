@@ -1,4 +1,4 @@
-// The walks along a relation.
+//! The transitive closure: walks along a relation, one step longer in each round.
 
 ghost use Rattle.std.specs.Prelude.{◌≡◌, IfOk};
 ghost use Rattle.core_tuples.specs.Sets.{In, HasJust};

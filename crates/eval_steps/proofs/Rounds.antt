@@ -5,8 +5,8 @@ use Rattle.core_tree.specs.Trees.{Term, Claim, within}
 use Rattle.core_tree.specs.declared.operators.Multiplicity.{Multiplicity}
 use Rattle.core_tree.specs.declared.model.Body.{Body}
 use Rattle.core_tree.specs.Past.{body_depths}
-use Rattle.core_meaning.specs.declared.scope.Scope.{Scope}
-use Rattle.core_meaning.specs.declared.scope.Scope.TheVariants.{Empty}
+use Rattle.core_meaning.specs.declared.scope.Environment.{Environment}
+use Rattle.core_meaning.specs.declared.scope.Environment.TheVariants.{Empty}
 use Rattle.core_meaning.specs.Meaning.{Names, with_name, atom}
 use Rattle.core_meaning.specs.Sequence.{LassoValue, period}
 use Rattle.core_meaning.specs.Operators.{Times}
@@ -28,14 +28,14 @@ module _ (s : SettingValue) where
   pub none_repeat : NamesRepeat s Empty 0
   none_repeat some = no_names_again (world s) some
 
-  pub atom_repeats : (x a : ℕ) (rest : Scope) (n : ℕ) → NamesRepeat s rest n → (some : HasLoop s.lasso) → RepeatNames (world s) some (with_name (scope_names s rest) x (atom a)) (λ z. n)
+  pub atom_repeats : (x a : ℕ) (rest : Environment) (n : ℕ) → NamesRepeat s rest n → (some : HasLoop s.lasso) → RepeatNames (world s) some (with_name (scope_names s rest) x (atom a)) (λ z. n)
   atom_repeats x a rest n again some y h i le few far = atom_again (world s) some (scope_names s rest) (λ z. n) x a (again some) y h i (one_within (eqb y x) 0 n h (omega arith) le) few far
 
   -- the names of a scope with one written name more
-  abbrev pub written_names : ℕ → Term → Scope → Scope → Names
+  abbrev pub written_names : ℕ → Term → Environment → Environment → Names
   written_names x e outer rest = with_name (scope_names s rest) x (λ j. Means s e (scope_names s outer) j)
 
-  pub written_repeats : (x : ℕ) (e : Term) (outer rest : Scope) (m n : ℕ) → TermRepeats s e outer m → NamesRepeat s rest n → (some : HasLoop s.lasso) → RepeatNames (world s) some (written_names x e outer rest) (λ z. max m n)
+  pub written_repeats : (x : ℕ) (e : Term) (outer rest : Environment) (m n : ℕ) → TermRepeats s e outer m → NamesRepeat s rest n → (some : HasLoop s.lasso) → RepeatNames (world s) some (written_names x e outer rest) (λ z. max m n)
   written_repeats x e outer rest m n own again some y h i le few far =
       more_again (world s) some (scope_names s rest) (λ z. n) x m (λ j. Means s e (scope_names s outer) j) (again some) (own some) y h i
       (one_within (eqb y x) m n h (le_trans (le-max_left m n) le) (le_trans (le-max_right m n) le)) few far
@@ -44,12 +44,12 @@ module _ (s : SettingValue) where
     abbrev pub calls : ℕ → ℕ
     calls body = calls_below s.model.bodies weights most body
 
-    pub term_rounds : (e : Term) (scope : Scope) (n r : ℕ) → r ≡ weight_in calls e + n → r < most → NamesRepeat s scope n → TermRepeats s e scope r
+    pub term_rounds : (e : Term) (scope : Environment) (n r : ℕ) → r ≡ weight_in calls e + n → r < most → NamesRepeat s scope n → TermRepeats s e scope r
     term_rounds e scope n r is few again some h i le small far =
         let below = term_below calls (body_depths s.model.bodies) top top_few (bodies_bounded s.model.bodies weights weighed most) e (below_top (weight_in calls e) (omega arith)) (λ x. n) n (λ x. omega arith) in
         term_again (world s) some (bodies s) (body_depths s.model.bodies) (bodies_again (world s) some s.model.bodies) e (scope_names s scope) (λ x. n) (again some) h i (le_trans below (omega arith)) small far
 
-    pub claim_rounds : (f : Claim) (scope : Scope) (n r : ℕ) → HasLoop s.lasso → r ≡ weight_of calls f + n → r < most → NamesRepeat s scope n → ClaimRepeats s f scope r
+    pub claim_rounds : (f : Claim) (scope : Environment) (n r : ℕ) → HasLoop s.lasso → r ≡ weight_of calls f + n → r < most → NamesRepeat s scope n → ClaimRepeats s f scope r
     claim_rounds f scope n r some is few again h i le small far =
         let below = claim_below calls (body_depths s.model.bodies) top top_few (bodies_bounded s.model.bodies weights weighed most) f (below_top (weight_of calls f) (omega arith)) (λ x. n) n (λ x. omega arith) in
         holds_again (world s) some (bodies s) (body_depths s.model.bodies) (bodies_again (world s) some s.model.bodies) f (scope_names s scope) (λ x. n) (again some) h i (le_trans below (omega arith)) small far
@@ -73,21 +73,21 @@ module _ (s : SettingValue) where
   bound_repeats weights weighed bs eb ws ew e n m atoms r some er few =
       bound_in_atoms weights weighed e n m atoms r some (er ∙ ap (λ (z : List Body). weight_in (calls_below z ws most) e) eb ∙ ap (λ (z : List ℕ). weight_in (calls_below s.model.bodies z most) e) ew) few
 
-  pub expr_repeats : (weights : List ℕ) → AreWeighed s.model.bodies weights → (bs : List Body) → bs ≡ s.model.bodies → (ws : List ℕ) → ws ≡ weights → (v : ℕ) (e : Term) (scope : Scope) (n r : ℕ) → v ≡ weight_in (calls_below bs ws most) e → r ≡ v + n → r < most → NamesRepeat s scope n → TermRepeats s e scope r
+  pub expr_repeats : (weights : List ℕ) → AreWeighed s.model.bodies weights → (bs : List Body) → bs ≡ s.model.bodies → (ws : List ℕ) → ws ≡ weights → (v : ℕ) (e : Term) (scope : Environment) (n r : ℕ) → v ≡ weight_in (calls_below bs ws most) e → r ≡ v + n → r < most → NamesRepeat s scope n → TermRepeats s e scope r
   expr_repeats weights weighed bs eb ws ew v e scope n r ev er few again =
       term_rounds weights weighed e scope n r (er ∙ ap (λ (z : ℕ). z + n) (ev ∙ ap (λ (z : List Body). weight_in (calls_below z ws most) e) eb ∙ ap (λ (z : List ℕ). weight_in (calls_below s.model.bodies z most) e) ew)) few again
 
-  pub claim_repeats : (weights : List ℕ) → AreWeighed s.model.bodies weights → (bs : List Body) → bs ≡ s.model.bodies → (ws : List ℕ) → ws ≡ weights → (v : ℕ) (f : Claim) (scope : Scope) (n r : ℕ) → HasLoop s.lasso → v ≡ weight_of (calls_below bs ws most) f → r ≡ v + n → r < most → NamesRepeat s scope n → ClaimRepeats s f scope r
+  pub claim_repeats : (weights : List ℕ) → AreWeighed s.model.bodies weights → (bs : List Body) → bs ≡ s.model.bodies → (ws : List ℕ) → ws ≡ weights → (v : ℕ) (f : Claim) (scope : Environment) (n r : ℕ) → HasLoop s.lasso → v ≡ weight_of (calls_below bs ws most) f → r ≡ v + n → r < most → NamesRepeat s scope n → ClaimRepeats s f scope r
   claim_repeats weights weighed bs eb ws ew v f scope n r some ev er few again =
       claim_rounds weights weighed f scope n r some (er ∙ ap (λ (z : ℕ). z + n) (ev ∙ ap (λ (z : List Body). weight_of (calls_below z ws most) f) eb ∙ ap (λ (z : List ℕ). weight_of (calls_below s.model.bodies z most) f) ew)) few again
 
-  pub written_rounds : (x : ℕ) (e : Term) (outer rest : Scope) (names m n r : ℕ) → r ≡ max m n → names ≤ m → r < most → (names < most → NamesRepeat s outer names) → (m < most → NamesRepeat s outer names → TermRepeats s e outer m) → (n < most → NamesRepeat s rest n) → (some : HasLoop s.lasso) → RepeatNames (world s) some (written_names x e outer rest) (λ z. r)
+  pub written_rounds : (x : ℕ) (e : Term) (outer rest : Environment) (names m n r : ℕ) → r ≡ max m n → names ≤ m → r < most → (names < most → NamesRepeat s outer names) → (m < most → NamesRepeat s outer names → TermRepeats s e outer m) → (n < most → NamesRepeat s rest n) → (some : HasLoop s.lasso) → RepeatNames (world s) some (written_names x e outer rest) (λ z. r)
   written_rounds x e outer rest names m n r er le few f g h =
       let low = le-max_left m n in
       let high = le-max_right m n in
       subst (λ (z : ℕ). (some : HasLoop s.lasso) → RepeatNames (world s) some (written_names x e outer rest) (λ q. z)) (sym er) (written_repeats x e outer rest m n (g (omega arith) (f (omega arith))) (h (omega arith)))
 
-  pub limit_is : (f : Claim) (scope : Scope) (r i from p end : ℕ) → ClaimRepeats s f scope r → r < uncounted → from ≡ repeats_from s.lasso r → p ≡ period s.lasso → 1 ≤ p → end ≡ max i from + p → IsLimit (λ j. HoldsIn s f (scope_names s scope) j) i end
+  pub limit_is : (f : Claim) (scope : Environment) (r i from p end : ℕ) → ClaimRepeats s f scope r → r < uncounted → from ≡ repeats_from s.lasso r → p ≡ period s.lasso → 1 ≤ p → end ≡ max i from + p → IsLimit (λ j. HoldsIn s f (scope_names s scope) j) i end
   limit_is f scope r i from p end again few is round some e =
       let low = le-max_left i from in
       let high = le-max_right i from in (

@@ -9,7 +9,7 @@ use Rattle.core_tree.specs.declared.operators.Multiplicity.TheVariants.{Set, One
 use Rattle.core_meaning.specs.Operators.{Tuples, Times, IsNumber, HasMultiplicity}
 use Rattle.core_meaning.specs.Meaning.{Names, Bodies, with_name, atom, IsApart, InTerm, Picked, ForEach, Fits, Holds}
 use Rattle.core_meaning.specs.Called.{InBody, BodyHolds, bodies_of, names_of}
-use Rattle.core_meaning.specs.declared.scope.Scope.{Scope}
+use Rattle.core_meaning.specs.declared.scope.Environment.{Environment}
 use Rattle.core_window.specs.Window.{IsFar, HasLoop, RepeatsSet, RepeatNames}
 use Rattle.core_window.specs.Shifts.{uncounted}
 use Rattle.core_meaning.specs.Sequence.{LassoValue, period}
@@ -33,7 +33,7 @@ use Rattle.eval_steps.specs.declared.rows.First.TheVariants.{Any, Each}
 abbrev pub bodies : SettingValue → Bodies
 bodies s = bodies_of (world s) s.model.bodies
 
-abbrev pub scope_names : SettingValue → Scope → Names
+abbrev pub scope_names : SettingValue → Environment → Names
 scope_names s scope = names_of (world s) (bodies s) scope
 
 -- an expression's tuples, and a formula's truth
@@ -66,14 +66,14 @@ earlier_list Start = []
 earlier_list (Then' a p rest) = a ∷ earlier_list rest
 
 -- each name of a scope stands for the same in each round of the loop after so many rounds
-abbrev pub NamesRepeat : SettingValue → Scope → ℕ → Type 0
+abbrev pub NamesRepeat : SettingValue → Environment → ℕ → Type 0
 NamesRepeat s scope n = (some : HasLoop s.lasso) → RepeatNames (world s) some (scope_names s scope) (λ x. n)
 
 -- the same of an expression and of a formula
-abbrev pub TermRepeats : SettingValue → Term → Scope → ℕ → Type 0
+abbrev pub TermRepeats : SettingValue → Term → Environment → ℕ → Type 0
 TermRepeats s e scope n = (some : HasLoop s.lasso) → RepeatsSet (world s) some n (λ j. Means s e (scope_names s scope) j)
 
-abbrev pub ClaimRepeats : SettingValue → Claim → Scope → ℕ → Type 0
+abbrev pub ClaimRepeats : SettingValue → Claim → Environment → ℕ → Type 0
 ClaimRepeats s f scope n = (h i : ℕ) → n ≤ h → h < uncounted → IsFar s.lasso h i → HoldsIn s f (scope_names s scope) i ↔ HoldsIn s f (scope_names s scope) (i + period s.lasso)
 
 -- the same of a formula whose names stand for these

@@ -1,4 +1,4 @@
-// The atoms of the variables before one in its list.
+//! The atoms that were chosen for the variables before one in its list, and `disj`.
 
 ghost use Rattle.std.specs.Prelude.{◌↔◌, IsTrue};
 ghost use Rattle.core_meaning.specs.Meaning.{IsApart};

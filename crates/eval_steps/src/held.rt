@@ -1,4 +1,4 @@
-// Sets of tuples that are lent or owned.
+//! Sets of tuples that are lent or owned.
 
 ghost use Rattle.std.specs.Prelude.{◌≡◌, IfOk};
 ghost use Rattle.eval_steps.specs.Judged.{set_in};

@@ -1,17 +1,17 @@
-// What formulas are judged by.
+//! The judge: a model with its scopes, a lasso, and a weight for each body.
 
 ghost use Rattle.std.specs.Prelude.{◌≡◌, ◌↔◌, ◌<◌, ◌≤◌, ◌+◌, ◌*◌, ◌^◌, ◌-◌, ℕ, List, IfOk};
 ghost use Rattle.core_tree.specs.Trees.{within, term_of, claim_of};
 ghost use Rattle.core_tree.specs.declared.operators.Multiplicity.{Multiplicity};
 ghost use Rattle.core_meaning.specs.Sequence.{period};
-ghost use Rattle.core_meaning.specs.declared.scope.Scope.{Scope};
+ghost use Rattle.core_meaning.specs.declared.scope.Environment.{Environment};
 ghost use Rattle.core_meaning.specs.Meaning.{no_names};
 ghost use Rattle.core_window.specs.Fold.{repeats_from, window_end};
 ghost use Rattle.core_window.specs.Window.{HasLoop};
 ghost use Rattle.core_window.specs.Windows.{Binding, atom_names};
 ghost use Rattle.eval_steps.specs.Judged.{scope_names, Means, HoldsIn, HasWeights, NamesRepeat, TermRepeats, ClaimRepeats, Again, value_term, IsLimit, IsFolded};
 
-use core_meaning::{Lasso, Scope, Scopes};
+use core_meaning::{Environment, Lasso, Scopes};
 use core_tree::{BodyList, Expr, Formula};
 use eval_calls::{MANY, MOST, of_expr, of_formula, weigh};
 use eval_context::{Setting, make_setting};
@@ -68,6 +68,7 @@ impl<'a> Judge<'a> {
     pub fn setting(&self) -> &Setting<'a>
         ensures { result.now ≡ self.now }
     {
+        // for the proof: a field is read, so that the invariant of the judge is at hand
         let _ = &self.weights;
         &self.setting
     }
@@ -82,6 +83,7 @@ impl<'a> Judge<'a> {
         ensures now { result.now ≡ self.now.model.bodies }
         ensures weighed { HasWeights self.now }
     {
+        // for the proof: a field is read, so that the invariant of the judge is at hand
         let _ = &self.weights;
         &self.setting.model().bodies
     }
@@ -117,7 +119,7 @@ impl<'a> Judge<'a> {
 
     /// The rounds that an expression needs where the names of its scope need so many.
     fn expr_rounds(&self, expr: &Expr, names: u32) -> u32
-        ensures repeats { (scope : Scope) → result < 2 ^ 32 - 1 → NamesRepeat self.now scope names → TermRepeats self.now (term_of expr.now) scope result }
+        ensures repeats { (scope : Environment) → result < 2 ^ 32 - 1 → NamesRepeat self.now scope names → TermRepeats self.now (term_of expr.now) scope result }
         ensures more { names ≤ result }
     {
         let bodies = self.bodies();
@@ -130,9 +132,10 @@ impl<'a> Judge<'a> {
 
     /// The rounds that a formula needs where the names of its scope need so many.
     fn claim_rounds(&self, formula: &Formula, names: u32) -> u32
-        ensures repeats { (scope : Scope) → result < 2 ^ 32 - 1 → NamesRepeat self.now scope names → ClaimRepeats self.now (claim_of formula.now) scope result }
+        ensures repeats { (scope : Environment) → result < 2 ^ 32 - 1 → NamesRepeat self.now scope names → ClaimRepeats self.now (claim_of formula.now) scope result }
         ensures more { names ≤ result }
     {
+        // for the proof: this call's clauses say that the lasso has a loop
         let _ = self.period();
         let bodies = self.bodies();
         let weight = of_formula(bodies, &self.weights, MOST, formula);
@@ -147,6 +150,7 @@ impl<'a> Judge<'a> {
     pub fn fact_rounds(&self, fact: &Formula) -> u32
         ensures { (atoms : List Binding) → result < 2 ^ 32 - 1 → Again self.now (claim_of fact.now) (atom_names atoms) result }
     {
+        // for the proof: this call's clauses say that the lasso has a loop
         let _ = self.period();
         let bodies = self.bodies();
         of_formula(bodies, &self.weights, MOST, fact)
@@ -156,6 +160,7 @@ impl<'a> Judge<'a> {
     pub fn bound_rounds(&self, bound: &Expr) -> u32
         ensures { (atoms : List Binding) (n : ℕ) (m : Multiplicity) → result < 2 ^ 32 - 1 → Again self.now (within (value_term n) m (term_of bound.now)) (atom_names atoms) result }
     {
+        // for the proof: this call's clauses say that the lasso has a loop
         let _ = self.period();
         let bodies = self.bodies();
         of_expr(bodies, &self.weights, MOST, bound)
@@ -163,13 +168,13 @@ impl<'a> Judge<'a> {
 }
 
 /// From how many rounds of the loop on the names of a scope stand for the same in each round.
-fn scope_rounds(judge: &Judge, scope: &Scope) -> u32
+fn scope_rounds(judge: &Judge, scope: &Environment) -> u32
     ensures { result < 2 ^ 32 - 1 → NamesRepeat judge.now scope.now result }
 {
     match scope {
-        Scope::Empty => 0,
-        Scope::Atom(_, _, rest) => scope_rounds(judge, *rest),
-        Scope::Written(_, expr, outer, rest) => {
+        Environment::Empty => 0,
+        Environment::Atom(_, _, rest) => scope_rounds(judge, *rest),
+        Environment::Written(_, expr, outer, rest) => {
             let names = scope_rounds(judge, *outer);
             let written = judge.expr_rounds(*expr, names);
             let others = scope_rounds(judge, *rest);
@@ -179,7 +184,7 @@ fn scope_rounds(judge: &Judge, scope: &Scope) -> u32
 }
 
 /// From how many rounds of the loop on a formula has the same truth in each round.
-pub fn claim_repeats(judge: &Judge, formula: &Formula, scope: &Scope) -> u32
+pub fn claim_repeats(judge: &Judge, formula: &Formula, scope: &Environment) -> u32
     ensures { result < 2 ^ 32 - 1 → ClaimRepeats judge.now (claim_of formula.now) scope.now result }
 {
     let names = scope_rounds(judge, scope);
@@ -187,7 +192,7 @@ pub fn claim_repeats(judge: &Judge, formula: &Formula, scope: &Scope) -> u32
 }
 
 /// From how many rounds of the loop on an expression has the same tuples in each round.
-pub fn term_repeats(judge: &Judge, expr: &Expr, scope: &Scope) -> u32
+pub fn term_repeats(judge: &Judge, expr: &Expr, scope: &Environment) -> u32
     ensures { result < 2 ^ 32 - 1 → TermRepeats judge.now (term_of expr.now) scope.now result }
 {
     let names = scope_rounds(judge, scope);
@@ -199,7 +204,7 @@ pub fn term_repeats(judge: &Judge, expr: &Expr, scope: &Scope) -> u32
 pub fn limit(
     judge: &Judge,
     formula: &Formula,
-    scope: &Scope,
+    scope: &Environment,
     position: u64,
 ) -> Result<u64, EvaluationFault>
     ensures { IfOk result (λ end. IsLimit (λ j. HoldsIn judge.now (claim_of formula.now) (scope_names judge.now scope.now) j) position end) }
@@ -232,7 +237,7 @@ fn folded(judge: &Judge, rounds: u32, position: u64) -> u64
 pub fn claim_place(judge: &Judge, formula: &Formula, position: u64) -> Result<u64, EvaluationFault>
     ensures { IfOk result (λ place. HoldsIn judge.now (claim_of formula.now) no_names place ↔ HoldsIn judge.now (claim_of formula.now) no_names position) }
 {
-    let rounds = claim_repeats(judge, formula, &Scope::Empty);
+    let rounds = claim_repeats(judge, formula, &Environment::Empty);
     if rounds >= MANY {
         return Err(EvaluationFault::Unfit);
     }
@@ -243,8 +248,9 @@ pub fn claim_place(judge: &Judge, formula: &Formula, position: u64) -> Result<u6
 pub fn term_place(judge: &Judge, expr: &Expr, position: u64) -> Result<u64, EvaluationFault>
     ensures { IfOk result (λ place. (t : List ℕ) → Means judge.now (term_of expr.now) no_names place t ↔ Means judge.now (term_of expr.now) no_names position t) }
 {
+    // for the proof: this call's clauses say that the lasso has a loop
     let _ = judge.period();
-    let rounds = term_repeats(judge, expr, &Scope::Empty);
+    let rounds = term_repeats(judge, expr, &Environment::Empty);
     if rounds >= MANY {
         return Err(EvaluationFault::Unfit);
     }

@@ -1,5 +1,6 @@
-//! What a walk over expressions and formulas is made of: what they are judged by, sets that were
-//! found, choices of atoms, steps over trees and positions, and sides of arrows.
+//! What a walk over expressions and formulas is made of.
+//! That is what they are judged by, sets that were found, choices of atoms, steps over trees and
+//! positions, and sides of arrows.
 #![tactic(auto)]
 
 pub mod earlier;
@@ -21,6 +22,3 @@ pub use parts::{
 pub use rows::{First, Goal, Row, add_rows, chosen_set, first_row, sum_of_rows};
 pub use sides::{Arrow, arrow_of, asks, heads, is_long, tails};
 pub use steps::{DEEP, after, deeper, next_name, says};
-
-#[cfg(test)]
-mod tests;

@@ -1,4 +1,4 @@
-// The operators on sets that were found.
+//! The sets of relations and constants at a position, and the operators on sets that were found.
 
 ghost use Rattle.std.specs.Prelude.{◌≡◌, ◌↔◌, ◌∷◌, [], ◌+◌, ◌<◌, ◌^◌, ℕ, ℤ, length, slice_get, Some, IfOk, IsTrue};
 ghost use Rattle.core_tuples.specs.Sets.{In};
@@ -194,6 +194,7 @@ pub fn atom_at(set: &TupleSet, place: usize) -> u32
     requires columns { set.now.arity ≡ 1 }
     ensures { slice_get set.now.tuples place ≡ Some (result ∷ []) }
 {
+    // for the proof: this call's clause says that it is a set of tuples
     let _ = set.len();
     let tuple = set.tuple(place);
     let numbers = tuple.numbers();

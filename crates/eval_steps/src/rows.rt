@@ -1,4 +1,4 @@
-// Choices of atoms for the variables of a list.
+//! Choices of atoms for the variables of a list.
 
 ghost use Rattle.std.specs.Prelude.{◌≡◌, ◌++◌, ◌∷◌, [], ◌+◌, ◌+ℤ◌, ℕ, ℤ, List, map, length, Contains, AllPairs, IfOk, OnOk};
 ghost use Rattle.core_tuples.specs.Sets.{In};

@@ -1,4 +1,4 @@
-// The sides of arrows.
+//! The sides of an arrow: what goes with each tuple of one, for its multiplicities.
 
 ghost use Rattle.std.specs.Prelude.{◌≡◌, ◌≤◌, ℕ, List, length, IfOk, OnOk, IsTrue};
 ghost use Rattle.core_tree.specs.Trees.{term_of};

@@ -1,4 +1,4 @@
-// Steps of the walk over trees and positions.
+//! Steps of the walk: one call deeper, the next position, the next parameter, a negation.
 
 ghost use Rattle.std.specs.Prelude.{◌≡◌, ◌↔◌, ◌+◌, ◌-◌, ◌<◌, IfOk, IsTrue};
 ghost use Rattle.eval_steps.specs.Judged.{Says};

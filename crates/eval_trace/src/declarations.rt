@@ -1,4 +1,4 @@
-// Whether the declarations of a model hold.
+//! Whether the declarations of a model hold, and the least position at which they don't.
 
 ghost use Rattle.std.specs.Prelude.{◌↔◌, ◌<◌, ◌^◌, ◌-◌, ℕ, IfOk, IsTrue};
 ghost use Rattle.core_meaning.specs.Satisfied.{DeclaresAt};
@@ -121,6 +121,7 @@ fn first_failing(judge: &Judge) -> Result<Option<u64>, EvaluationFault>
     if rounds == u32::MAX {
         return Err(EvaluationFault::Unfit);
     }
+    // for the proof: this call's clauses say that the lasso has a loop
     let _ = judge.period();
     let end = judge.rounds_end(rounds)?;
     for position in 0..end {

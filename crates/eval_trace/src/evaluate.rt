@@ -1,4 +1,4 @@
-// What is asked of a model on a lasso.
+//! Whether a closed formula holds on a lasso, and the tuples of a closed expression.
 
 ghost use Rattle.std.specs.Prelude.{◌↔◌, IfOk, IsTrue};
 ghost use Rattle.core_tree.specs.Trees.{term_of, claim_of};
@@ -6,7 +6,7 @@ ghost use Rattle.core_meaning.specs.Meaning.{no_names};
 ghost use Rattle.core_meaning.specs.Satisfied.{HoldsAt, InTermAt};
 ghost use Rattle.eval_sets.specs.SetOf.{IsSetOf};
 
-use core_meaning::{Lasso, Scope, Scopes};
+use core_meaning::{Environment, Lasso, Scopes};
 use core_tree::{Expr, Formula, Model};
 use core_tuples::TupleSet;
 use eval_sets::EvaluationFault;
@@ -27,7 +27,7 @@ fn judged(
 {
     let judge = judge_of(alloc, model, scopes, lasso)?;
     let place = claim_place(&judge, formula, position)?;
-    holds_in(&judge, formula, &Scope::Empty, place, DEEP)
+    holds_in(&judge, formula, &Environment::Empty, place, DEEP)
 }
 
 /// Whether a closed formula of the model holds at a position of the lasso's infinite sequence.
@@ -65,7 +65,7 @@ fn found(
 {
     let judge = judge_of(alloc, model, scopes, lasso)?;
     let place = term_place(&judge, expr, position)?;
-    let set = tuples_in(&judge, expr, &Scope::Empty, place, DEEP)?;
+    let set = tuples_in(&judge, expr, &Environment::Empty, place, DEEP)?;
     copy_of(alloc, &set)
 }
 

@@ -1,4 +1,4 @@
-// Whether the declaration of a field holds.
+//! Whether the declaration of a field holds at a position.
 
 ghost use Rattle.std.specs.Prelude.{◌≡◌, ◌↔◌, ℕ, List, IfOk, IsTrue};
 ghost use Rattle.core_meaning.specs.Declarations.{FieldDeclared};
@@ -7,7 +7,7 @@ ghost use Rattle.eval_steps.specs.Judged.{bodies, IsFound};
 ghost use Rattle.eval_trace.specs.Asked.{Entries, Values, IsOwned, AreBounded, AreDifferent, ListIs, IsListed, IsAlone, FieldIs};
 
 use crate::sigs::{shares, sig_list};
-use core_meaning::Scope;
+use core_meaning::Environment;
 use core_tree::{Bound, Field, FieldBound, FieldList, RelationOp};
 use eval_sets::{EvaluationFault, rows_after};
 use eval_steps::{DEEP, Held, Judge, atom_at, combined, is_inside, nothing, relation_at, set_of};
@@ -85,8 +85,8 @@ fn values_hold(
         let atom = atom_at(atoms, number);
         let held = values_at(judge, place, atom, position)?;
         let value = set_of(&held);
-        let none = Scope::Empty;
-        let scope = Scope::Atom(0, atom, &none);
+        let none = Environment::Empty;
+        let scope = Environment::Atom(0, atom, &none);
         let word = bound.multiplicity;
         let within = is_within(&*judge, value, word, &bound.expr, &scope, position, DEEP)?;
         if !within {

@@ -1,5 +1,6 @@
-//! What a model says of a lasso, judged by its meaning alone: the truth of a formula, the tuples of
-//! an expression, the first position at which a declaration fails, and whether scopes are kept.
+//! What a model says of a lasso, judged by its meaning alone.
+//! That is the truth of a formula, the tuples of an expression, the first position at which a
+//! declaration fails, and whether scopes are kept.
 #![tactic(auto)]
 
 pub mod declarations;
@@ -10,6 +11,3 @@ pub mod sigs;
 pub use declarations::declared;
 pub use eval_scopes::keeps;
 pub use evaluate::{holds, tuples};
-
-#[cfg(test)]
-mod tests;

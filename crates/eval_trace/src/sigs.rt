@@ -1,4 +1,4 @@
-// Whether the declaration of a sig holds.
+//! Whether the declaration of a sig holds at a position.
 
 ghost use Rattle.std.specs.Prelude.{◌≡◌, ◌↔◌, ℕ, List, IfOk, IsTrue, MatchOption};
 ghost use Rattle.core_tuples.specs.Sets.{In};
@@ -9,7 +9,7 @@ ghost use Rattle.eval_context.specs.Settings.{world};
 ghost use Rattle.eval_steps.specs.Judged.{bodies, IsFound, set_in};
 ghost use Rattle.eval_trace.specs.Asked.{Members, InParent, InParents, AreApart, InChildren, IsFilled, HoldsForEach, HasAppended, SigIs};
 
-use core_meaning::Scope;
+use core_meaning::Environment;
 use core_tree::{Column, Formula, Quantity, RelationOp, Sig, SigKind, SigList};
 use eval_sets::{EvaluationFault, has_multiplicity};
 use eval_steps::{
@@ -201,8 +201,8 @@ fn holds_for_each(
     }
     for number in 0..set.len() {
         let atom = atom_at(set, number);
-        let none = Scope::Empty;
-        let scope = Scope::Atom(0, atom, &none);
+        let none = Environment::Empty;
+        let scope = Environment::Atom(0, atom, &none);
         let truth = holds_in(&*judge, fact, &scope, position, DEEP)?;
         if !truth {
             return Ok(false);

@@ -2,7 +2,7 @@
 use Rattle.std.proofs.Common.{◌≡◌, ℕ, List, [], ◌∷◌, length, subst, Result, IfOk}
 use Rattle.core_tree.specs.Trees.{name, term_of}
 use Rattle.core_tree.specs.declared.model.Body.{Body}
-use Rattle.core_meaning.specs.declared.scope.Scope.{Scope}
+use Rattle.core_meaning.specs.declared.scope.Environment.{Environment}
 use Rattle.core_meaning.specs.World.{World}
 use Rattle.core_meaning.specs.Called.{called, names_of}
 use Rattle.core_window.specs.Same.{turn}
@@ -13,7 +13,7 @@ use Rattle.eval_steps.specs.Judged.{bodies, scope_names, Means, IsFound, set_in}
 use Rattle.eval_steps.specs.declared.held.Held.{Held}
 use Rattle.eval_tree.specs.Found.{if_ok_to, set_to}
 
-module _ (s : SettingValue) (scope : Scope) (x i : ℕ) (m : Meant) (stands : (w : World) (list : List Body) (n j : ℕ) (t : List ℕ) → Stands w (called w list n) m (names_of w (called w list n) scope x) j t) where
+module _ (s : SettingValue) (scope : Environment) (x i : ℕ) (m : Meant) (stands : (w : World) (list : List Body) (n j : ℕ) (t : List ℕ) → Stands w (called w list n) m (names_of w (called w list n) scope x) j t) where
   stands_as : (k : Meant) → m ≡ k → (t : List ℕ) → Stands (world s) (bodies s) k (scope_names s scope x) i t
   stands_as k is t = subst (λ q. Stands (world s) (bodies s) q (scope_names s scope x) i t) is (stands (world s) s.model.bodies (length s.model.bodies) i t)
 

@@ -1,4 +1,4 @@
-// Bounds, and the multiplicities of their arrows.
+//! Whether a set lies in a bound, and has the multiplicities of its arrows.
 
 ghost use Rattle.std.specs.Prelude.{◌≡◌, ◌↔◌, List, length, ℕ, IfOk, IsTrue};
 ghost use Rattle.core_tree.specs.Trees.{term_of};
@@ -10,7 +10,7 @@ ghost use Rattle.eval_steps.specs.Judged.{bodies, scope_names, Means, FitsAfter,
 ghost use Rattle.eval_tree.specs.Evaluates.{Evaluates};
 
 use crate::walk::Walk;
-use core_meaning::Scope;
+use core_meaning::Environment;
 use core_tree::{Expr, Formula, Multiplicity};
 use core_tuples::{TupleSet, inside};
 use eval_sets::{EvaluationFault, has_multiplicity, rows_after, rows_before};
@@ -18,8 +18,20 @@ use eval_steps::{Arrow, Held, Judge, arrow_of, asks, deeper, heads, is_long, set
 
 impl<
     'a,
-    T: for<'j> Fn(&'j Judge<'j>, &Expr, &Scope<'_>, u64, u32) -> Result<Held<'j>, EvaluationFault>,
-    H: for<'j> Fn(&'j Judge<'j>, &Formula, &Scope<'_>, u64, u32) -> Result<bool, EvaluationFault>,
+    T: for<'j> Fn(
+        &'j Judge<'j>,
+        &Expr,
+        &Environment<'_>,
+        u64,
+        u32,
+    ) -> Result<Held<'j>, EvaluationFault>,
+    H: for<'j> Fn(
+        &'j Judge<'j>,
+        &Formula,
+        &Environment<'_>,
+        u64,
+        u32,
+    ) -> Result<bool, EvaluationFault>,
 > Walk<'a, T, H> {
     /// Whether a set lies in a bound and has its multiplicities.
     pub fn is_within(
@@ -27,7 +39,7 @@ impl<
         set: &TupleSet,
         word: Multiplicity,
         bound: &Expr,
-        scope: &Scope,
+        scope: &Environment,
         position: u64,
     ) -> Result<bool, EvaluationFault>
         requires { Evaluates self.now.deep (T.pre self.now.term) (T.post self.now.term) (H.pre self.now.claim) (H.post self.now.claim) }
@@ -48,7 +60,7 @@ impl<
     fn columns_of(
         &self,
         expr: &Expr,
-        scope: &Scope,
+        scope: &Environment,
         position: u64,
         deep: u32,
     ) -> Result<usize, EvaluationFault>
@@ -78,7 +90,7 @@ impl<
         &self,
         set: &TupleSet,
         expr: &Expr,
-        scope: &Scope,
+        scope: &Environment,
         position: u64,
         deep: u32,
     ) -> Result<bool, EvaluationFault>
@@ -114,7 +126,7 @@ impl<
         &self,
         set: &TupleSet,
         bound: &Expr,
-        scope: &Scope,
+        scope: &Environment,
         position: u64,
         deep: u32,
     ) -> Result<bool, EvaluationFault>
@@ -143,7 +155,7 @@ impl<
         side: &Expr,
         word: Multiplicity,
         other: &Expr,
-        scope: &Scope,
+        scope: &Environment,
         position: u64,
         deep: u32,
     ) -> Result<bool, EvaluationFault>
@@ -168,7 +180,7 @@ impl<
         sides: &TupleSet,
         word: Multiplicity,
         other: &Expr,
-        scope: &Scope,
+        scope: &Environment,
         position: u64,
         deep: u32,
     ) -> Result<bool, EvaluationFault>
@@ -201,7 +213,7 @@ impl<
         side: &Expr,
         word: Multiplicity,
         other: &Expr,
-        scope: &Scope,
+        scope: &Environment,
         position: u64,
         deep: u32,
     ) -> Result<bool, EvaluationFault>
@@ -226,7 +238,7 @@ impl<
         sides: &TupleSet,
         word: Multiplicity,
         other: &Expr,
-        scope: &Scope,
+        scope: &Environment,
         position: u64,
         deep: u32,
     ) -> Result<bool, EvaluationFault>

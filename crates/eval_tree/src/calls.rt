@@ -1,4 +1,4 @@
-// The bodies that are called.
+//! The bodies that are called.
 
 ghost use Rattle.std.specs.Prelude.{◌↔◌, map, IfOk, IsTrue};
 ghost use Rattle.core_tree.specs.Trees.{term_of, term_list};
@@ -8,15 +8,27 @@ ghost use Rattle.eval_steps.specs.Judged.{bodies, scope_names, IsFound, InCalled
 ghost use Rattle.eval_tree.specs.Evaluates.{Evaluates};
 
 use crate::walk::Walk;
-use core_meaning::Scope;
+use core_meaning::Environment;
 use core_tree::{BodyForm, Expr, Formula};
 use eval_sets::EvaluationFault;
 use eval_steps::{Held, Judge, deeper, next_name, nothing};
 
 impl<
     'a,
-    T: for<'j> Fn(&'j Judge<'j>, &Expr, &Scope<'_>, u64, u32) -> Result<Held<'j>, EvaluationFault>,
-    H: for<'j> Fn(&'j Judge<'j>, &Formula, &Scope<'_>, u64, u32) -> Result<bool, EvaluationFault>,
+    T: for<'j> Fn(
+        &'j Judge<'j>,
+        &Expr,
+        &Environment<'_>,
+        u64,
+        u32,
+    ) -> Result<Held<'j>, EvaluationFault>,
+    H: for<'j> Fn(
+        &'j Judge<'j>,
+        &Formula,
+        &Environment<'_>,
+        u64,
+        u32,
+    ) -> Result<bool, EvaluationFault>,
 > Walk<'a, T, H> {
     /// The tuples of a function's body whose parameters from a number on stand for the arguments, in
     /// the scope of the call.
@@ -25,8 +37,8 @@ impl<
         body: u32,
         arguments: &[Expr],
         from: u32,
-        outer: &Scope,
-        inner: &Scope,
+        outer: &Environment,
+        inner: &Environment,
         position: u64,
         deep: u32,
     ) -> Result<Held<'a>, EvaluationFault>
@@ -36,7 +48,7 @@ impl<
         let next = deeper(deep)?;
         match arguments.split_first() {
             Some((first, rest)) => {
-                let more = Scope::Written(from, first, &*outer, &*inner);
+                let more = Environment::Written(from, first, &*outer, &*inner);
                 self.enter_term(body, rest, next_name(from)?, outer, &more, position, next)
             }
             None => {
@@ -59,8 +71,8 @@ impl<
         body: u32,
         arguments: &[Expr],
         from: u32,
-        outer: &Scope,
-        inner: &Scope,
+        outer: &Environment,
+        inner: &Environment,
         position: u64,
         deep: u32,
     ) -> Result<bool, EvaluationFault>
@@ -70,7 +82,7 @@ impl<
         let next = deeper(deep)?;
         match arguments.split_first() {
             Some((first, rest)) => {
-                let more = Scope::Written(from, first, &*outer, &*inner);
+                let more = Environment::Written(from, first, &*outer, &*inner);
                 self.enter_claim(body, rest, next_name(from)?, outer, &more, position, next)
             }
             None => {

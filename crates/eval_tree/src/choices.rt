@@ -1,4 +1,4 @@
-// Choices of atoms for the variables of a list.
+//! Choices of atoms for the variables of a list.
 
 ghost use Rattle.std.specs.Prelude.{◌↔◌, ◌+◌, ℕ, List, [], map, length, IfOk, IsTrue};
 ghost use Rattle.core_tree.specs.Trees.{claim_of, variable_of, variable_list, no_variables};
@@ -9,7 +9,7 @@ ghost use Rattle.eval_steps.specs.Judged.{bodies, scope_names, HoldsIn, Says, ea
 ghost use Rattle.eval_tree.specs.Evaluates.{Evaluates};
 
 use crate::walk::Walk;
-use core_meaning::Scope;
+use core_meaning::Environment;
 use core_tree::{Expr, Formula, Quantity, Variable};
 use core_tuples::TupleSet;
 use eval_sets::EvaluationFault;
@@ -19,15 +19,27 @@ use eval_steps::{
 
 impl<
     'a,
-    T: for<'j> Fn(&'j Judge<'j>, &Expr, &Scope<'_>, u64, u32) -> Result<Held<'j>, EvaluationFault>,
-    H: for<'j> Fn(&'j Judge<'j>, &Formula, &Scope<'_>, u64, u32) -> Result<bool, EvaluationFault>,
+    T: for<'j> Fn(
+        &'j Judge<'j>,
+        &Expr,
+        &Environment<'_>,
+        u64,
+        u32,
+    ) -> Result<Held<'j>, EvaluationFault>,
+    H: for<'j> Fn(
+        &'j Judge<'j>,
+        &Formula,
+        &Environment<'_>,
+        u64,
+        u32,
+    ) -> Result<bool, EvaluationFault>,
 > Walk<'a, T, H> {
     /// All choices of atoms for variables at which a formula holds, or with the value of an expression.
     pub fn every_row(
         &self,
         variables: &[Variable],
         goal: &Goal,
-        scope: &Scope,
+        scope: &Environment,
         position: u64,
     ) -> Result<Vec<Row>, EvaluationFault>
         requires { Evaluates self.now.deep (T.pre self.now.term) (T.post self.now.term) (H.pre self.now.claim) (H.post self.now.claim) }
@@ -53,7 +65,7 @@ impl<
     fn last_row(
         &self,
         goal: &Goal,
-        scope: &Scope,
+        scope: &Environment,
         position: u64,
     ) -> Result<Vec<Row>, EvaluationFault>
         requires { Evaluates self.now.deep (T.pre self.now.term) (T.post self.now.term) (H.pre self.now.claim) (H.post self.now.claim) }
@@ -82,7 +94,7 @@ impl<
         goal: &Goal,
         most: usize,
         earlier: &Earlier,
-        scope: &Scope,
+        scope: &Environment,
         position: u64,
         deep: u32,
     ) -> Result<Vec<Row>, EvaluationFault>
@@ -112,7 +124,7 @@ impl<
         goal: &Goal,
         most: usize,
         earlier: &Earlier,
-        scope: &Scope,
+        scope: &Environment,
         position: u64,
         deep: u32,
     ) -> Result<Vec<Row>, EvaluationFault>
@@ -130,7 +142,7 @@ impl<
             if !apart {
                 continue;
             }
-            let inner = Scope::Atom(variable.name, atom, &*scope);
+            let inner = Environment::Atom(variable.name, atom, &*scope);
             let chosen = Earlier::Then(atom, &*earlier);
             let more = self.rows_in(rest, goal, most, &chosen, &inner, position, next)?;
             add_rows(self.judge.alloc(), atom, &more, &mut rows)?;
@@ -149,7 +161,7 @@ impl<
         formula: &Formula,
         sense: bool,
         earlier: &Earlier,
-        scope: &Scope,
+        scope: &Environment,
         position: u64,
         deep: u32,
     ) -> Result<bool, EvaluationFault>
@@ -182,7 +194,7 @@ impl<
         formula: &Formula,
         sense: bool,
         earlier: &Earlier,
-        scope: &Scope,
+        scope: &Environment,
         position: u64,
         deep: u32,
     ) -> Result<bool, EvaluationFault>
@@ -199,7 +211,7 @@ impl<
             if !apart {
                 continue;
             }
-            let inner = Scope::Atom(variable.name, atom, &*scope);
+            let inner = Environment::Atom(variable.name, atom, &*scope);
             let chosen = Earlier::Then(atom, &*earlier);
             let each = self.for_each(rest, formula, sense, &chosen, &inner, position, next)?;
             if !each {
@@ -215,7 +227,7 @@ impl<
         quantity: Quantity,
         variables: &[Variable],
         formula: &Formula,
-        scope: &Scope,
+        scope: &Environment,
         position: u64,
     ) -> Result<bool, EvaluationFault>
         requires { Evaluates self.now.deep (T.pre self.now.term) (T.post self.now.term) (H.pre self.now.claim) (H.post self.now.claim) }

@@ -1,4 +1,4 @@
-// The tuples of an expression, and the truth of a formula, form by form.
+//! The tuples of an expression, and the truth of a formula, form by form.
 
 ghost use Rattle.std.specs.Prelude.{◌↔◌, map, IfOk, IsTrue};
 ghost use Rattle.core_tree.specs.Trees.{term_of, claim_of, claim_list};
@@ -9,7 +9,7 @@ ghost use Rattle.eval_steps.specs.Judged.{bodies, scope_names, Means, HoldsIn, I
 ghost use Rattle.eval_tree.specs.Evaluates.{Evaluates};
 
 use crate::walk::Walk;
-use core_meaning::Scope;
+use core_meaning::Environment;
 use core_tree::{Connective, Expr, Formula};
 use eval_context::{Meant, look_up};
 use eval_sets::EvaluationFault;
@@ -21,14 +21,26 @@ use eval_steps::{
 
 impl<
     'a,
-    T: for<'j> Fn(&'j Judge<'j>, &Expr, &Scope<'_>, u64, u32) -> Result<Held<'j>, EvaluationFault>,
-    H: for<'j> Fn(&'j Judge<'j>, &Formula, &Scope<'_>, u64, u32) -> Result<bool, EvaluationFault>,
+    T: for<'j> Fn(
+        &'j Judge<'j>,
+        &Expr,
+        &Environment<'_>,
+        u64,
+        u32,
+    ) -> Result<Held<'j>, EvaluationFault>,
+    H: for<'j> Fn(
+        &'j Judge<'j>,
+        &Formula,
+        &Environment<'_>,
+        u64,
+        u32,
+    ) -> Result<bool, EvaluationFault>,
 > Walk<'a, T, H> {
     /// The tuples of an expression at a position.
     pub fn term_at(
         &self,
         expr: &Expr,
-        scope: &Scope,
+        scope: &Environment,
         position: u64,
     ) -> Result<Held<'a>, EvaluationFault>
         requires { Evaluates self.now.deep (T.pre self.now.term) (T.post self.now.term) (H.pre self.now.claim) (H.post self.now.claim) }
@@ -89,12 +101,13 @@ impl<
                 sum_of_rows(self.judge, &rows)
             }
             Expr::Let(name, a, b) => {
-                let inner = Scope::Written(*name, &**a, &*scope, &*scope);
+                let inner = Environment::Written(*name, &**a, &*scope, &*scope);
                 self.tuples(b, &inner, position)
             }
             Expr::Call(body, arguments) => {
+                // for the proof: this call's clause says that the weights are those of the bodies
                 let _ = self.judge.bodies();
-                let start = Scope::Empty;
+                let start = Environment::Empty;
                 self.enter_term(*body, arguments, 0, scope, &start, position, self.deep)
             }
         }
@@ -104,7 +117,7 @@ impl<
     pub fn claim_at(
         &self,
         formula: &Formula,
-        scope: &Scope,
+        scope: &Environment,
         position: u64,
     ) -> Result<bool, EvaluationFault>
         requires { Evaluates self.now.deep (T.pre self.now.term) (T.post self.now.term) (H.pre self.now.claim) (H.post self.now.claim) }
@@ -163,12 +176,13 @@ impl<
             Formula::Temporal(op, f) => self.temporal(*op, f, scope, position),
             Formula::TemporalPair(op, f, g) => self.temporal_pair(*op, f, g, scope, position),
             Formula::Let(name, a, f) => {
-                let inner = Scope::Written(*name, &**a, &*scope, &*scope);
+                let inner = Environment::Written(*name, &**a, &*scope, &*scope);
                 self.holds(f, &inner, position)
             }
             Formula::Call(body, arguments) => {
+                // for the proof: this call's clause says that the weights are those of the bodies
                 let _ = self.judge.bodies();
-                let start = Scope::Empty;
+                let start = Environment::Empty;
                 self.enter_claim(*body, arguments, 0, scope, &start, position, self.deep)
             }
         }
@@ -178,7 +192,7 @@ impl<
     fn every(
         &self,
         list: &[Formula],
-        scope: &Scope,
+        scope: &Environment,
         position: u64,
         deep: u32,
     ) -> Result<bool, EvaluationFault>
@@ -204,7 +218,7 @@ impl<
         op: Connective,
         f: &Formula,
         g: &Formula,
-        scope: &Scope,
+        scope: &Environment,
         position: u64,
     ) -> Result<bool, EvaluationFault>
         requires { Evaluates self.now.deep (T.pre self.now.term) (T.post self.now.term) (H.pre self.now.claim) (H.post self.now.claim) }
@@ -237,7 +251,7 @@ impl<
 pub fn tuples_in<'a>(
     judge: &'a Judge<'a>,
     expr: &Expr,
-    scope: &Scope<'_>,
+    scope: &Environment<'_>,
     position: u64,
     deep: u32,
 ) -> Result<Held<'a>, EvaluationFault>
@@ -260,7 +274,7 @@ pub fn tuples_in<'a>(
 pub fn holds_in<'a>(
     judge: &'a Judge<'a>,
     formula: &Formula,
-    scope: &Scope<'_>,
+    scope: &Environment<'_>,
     position: u64,
     deep: u32,
 ) -> Result<bool, EvaluationFault>

@@ -1,4 +1,4 @@
-//! The tuples and the integer of an expression, and the truth of a formula, at a position of a lasso.
+//! The tuples and the integer of an expression, and the truth of a formula, at a position.
 #![tactic(auto)]
 
 pub mod bounds;

@@ -1,4 +1,4 @@
-// Temporal operators.
+//! The temporal operators: a walk ahead for `until`, and one back for `since`.
 
 ghost use Rattle.std.specs.Prelude.{◌↔◌, ◌+◌, IfOk, IsTrue};
 ghost use Rattle.core_tree.specs.Trees.{claim_of};
@@ -7,22 +7,34 @@ ghost use Rattle.eval_steps.specs.Judged.{scope_names, HoldsIn, Says, SaysFirst}
 ghost use Rattle.eval_tree.specs.Evaluates.{Evaluates};
 
 use crate::walk::Walk;
-use core_meaning::Scope;
+use core_meaning::Environment;
 use core_tree::{Expr, Formula, TemporalBinary, TemporalUnary};
 use eval_sets::EvaluationFault;
 use eval_steps::{First, Held, Judge, after, deeper, limit, says};
 
 impl<
     'a,
-    T: for<'j> Fn(&'j Judge<'j>, &Expr, &Scope<'_>, u64, u32) -> Result<Held<'j>, EvaluationFault>,
-    H: for<'j> Fn(&'j Judge<'j>, &Formula, &Scope<'_>, u64, u32) -> Result<bool, EvaluationFault>,
+    T: for<'j> Fn(
+        &'j Judge<'j>,
+        &Expr,
+        &Environment<'_>,
+        u64,
+        u32,
+    ) -> Result<Held<'j>, EvaluationFault>,
+    H: for<'j> Fn(
+        &'j Judge<'j>,
+        &Formula,
+        &Environment<'_>,
+        u64,
+        u32,
+    ) -> Result<bool, EvaluationFault>,
 > Walk<'a, T, H> {
     /// Whether a temporal operator on one formula holds.
     pub fn temporal(
         &self,
         op: TemporalUnary,
         f: &Formula,
-        scope: &Scope,
+        scope: &Environment,
         position: u64,
     ) -> Result<bool, EvaluationFault>
         requires { Evaluates self.now.deep (T.pre self.now.term) (T.post self.now.term) (H.pre self.now.claim) (H.post self.now.claim) }
@@ -56,7 +68,7 @@ impl<
         op: TemporalBinary,
         f: &Formula,
         g: &Formula,
-        scope: &Scope,
+        scope: &Environment,
         position: u64,
     ) -> Result<bool, EvaluationFault>
         requires { Evaluates self.now.deep (T.pre self.now.term) (T.post self.now.term) (H.pre self.now.claim) (H.post self.now.claim) }
@@ -96,7 +108,7 @@ impl<
         &self,
         f: &Formula,
         g: &Formula,
-        scope: &Scope,
+        scope: &Environment,
         position: u64,
     ) -> Result<bool, EvaluationFault>
         requires { Evaluates self.now.deep (T.pre self.now.term) (T.post self.now.term) (H.pre self.now.claim) (H.post self.now.claim) }
@@ -116,7 +128,7 @@ impl<
         &self,
         first: First,
         sense: bool,
-        scope: &Scope,
+        scope: &Environment,
         position: u64,
     ) -> Result<bool, EvaluationFault>
         requires { Evaluates self.now.deep (T.pre self.now.term) (T.post self.now.term) (H.pre self.now.claim) (H.post self.now.claim) }
@@ -138,7 +150,7 @@ impl<
         first: First,
         second: &Formula,
         sense: bool,
-        scope: &Scope,
+        scope: &Environment,
         position: u64,
     ) -> Result<bool, EvaluationFault>
         requires { Evaluates self.now.deep (T.pre self.now.term) (T.post self.now.term) (H.pre self.now.claim) (H.post self.now.claim) }
@@ -166,7 +178,7 @@ impl<
         first: First,
         second: &Formula,
         sense: bool,
-        scope: &Scope,
+        scope: &Environment,
         position: u64,
         deep: u32,
     ) -> Result<bool, EvaluationFault>

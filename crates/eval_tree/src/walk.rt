@@ -1,4 +1,4 @@
-// What the parts of a form are evaluated with.
+//! The walk: what the parts of a form are evaluated with.
 
 ghost use Rattle.std.specs.Prelude.{◌↔◌, IfOk, IsTrue};
 ghost use Rattle.core_tree.specs.Trees.{term_of, claim_of};
@@ -7,7 +7,7 @@ ghost use Rattle.eval_context.specs.Settings.{world};
 ghost use Rattle.eval_steps.specs.Judged.{scope_names, Means, HoldsIn, IsFound};
 ghost use Rattle.eval_tree.specs.Evaluates.{Evaluates};
 
-use core_meaning::Scope;
+use core_meaning::Environment;
 use core_tree::{Expr, Formula};
 use eval_integers::number_of;
 use eval_sets::EvaluationFault;
@@ -25,14 +25,26 @@ pub struct Walk<'a, T, H> {
 
 impl<
     'a,
-    T: for<'j> Fn(&'j Judge<'j>, &Expr, &Scope<'_>, u64, u32) -> Result<Held<'j>, EvaluationFault>,
-    H: for<'j> Fn(&'j Judge<'j>, &Formula, &Scope<'_>, u64, u32) -> Result<bool, EvaluationFault>,
+    T: for<'j> Fn(
+        &'j Judge<'j>,
+        &Expr,
+        &Environment<'_>,
+        u64,
+        u32,
+    ) -> Result<Held<'j>, EvaluationFault>,
+    H: for<'j> Fn(
+        &'j Judge<'j>,
+        &Formula,
+        &Environment<'_>,
+        u64,
+        u32,
+    ) -> Result<bool, EvaluationFault>,
 > Walk<'a, T, H> {
     /// The tuples of a part.
     pub fn tuples(
         &self,
         expr: &Expr,
-        scope: &Scope,
+        scope: &Environment,
         position: u64,
     ) -> Result<Held<'a>, EvaluationFault>
         requires { Evaluates self.now.deep (T.pre self.now.term) (T.post self.now.term) (H.pre self.now.claim) (H.post self.now.claim) }
@@ -45,7 +57,7 @@ impl<
     pub fn holds(
         &self,
         formula: &Formula,
-        scope: &Scope,
+        scope: &Environment,
         position: u64,
     ) -> Result<bool, EvaluationFault>
         requires { Evaluates self.now.deep (T.pre self.now.term) (T.post self.now.term) (H.pre self.now.claim) (H.post self.now.claim) }
@@ -58,7 +70,7 @@ impl<
     pub fn number_in(
         &self,
         expr: &Expr,
-        scope: &Scope,
+        scope: &Environment,
         position: u64,
     ) -> Result<i64, EvaluationFault>
         requires { Evaluates self.now.deep (T.pre self.now.term) (T.post self.now.term) (H.pre self.now.claim) (H.post self.now.claim) }

@@ -1,4 +1,4 @@
-// Bounds, where calls nest below a number.
+//! Whether a set lies in a bound, where calls nest below a number.
 
 ghost use Rattle.std.specs.Prelude.{◌↔◌, IfOk, IsTrue};
 ghost use Rattle.core_tree.specs.Trees.{term_of};
@@ -10,7 +10,7 @@ ghost use Rattle.eval_steps.specs.Judged.{bodies, scope_names, Means};
 
 use crate::forms::{holds_in, tuples_in};
 use crate::walk::Walk;
-use core_meaning::Scope;
+use core_meaning::Environment;
 use core_tree::{Expr, Multiplicity};
 use core_tuples::TupleSet;
 use eval_sets::EvaluationFault;
@@ -23,7 +23,7 @@ pub fn is_within<'a>(
     set: &TupleSet,
     word: Multiplicity,
     bound: &Expr,
-    scope: &Scope<'_>,
+    scope: &Environment<'_>,
     position: u64,
     deep: u32,
 ) -> Result<bool, EvaluationFault>

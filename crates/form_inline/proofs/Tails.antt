@@ -5,7 +5,7 @@ use Rattle.std.proofs.lemmas.List.{map-append}
 use Rattle.std.proofs.lemmas.Option.{slice_get-get_or}
 use Rattle.core_tree.specs.declared.operators.Quantity.TheVariants.{Some as SomeOf}
 use Rattle.core_tree.specs.declared.operators.Multiplicity.{Multiplicity}
-use Rattle.base_types.specs.declared.place.Place.{Place}
+use Rattle.base_types.specs.declared.place.Position.{Position}
 use Rattle.core_tree.specs.declared.model.Body.{Body}
 use Rattle.core_tree.specs.declared.model.BodyForm.{BodyForm}
 use Rattle.core_tree.specs.declared.model.BodyForm.TheVariants.{Test, Term as Value}
@@ -52,10 +52,10 @@ no_arrow (Product' p a l r q b) h = absurd (h (record { ptr = p.ptr; alloc = p.a
 no_arrow e h = tt
 
 -- a number that is copied
-pub number_tail : {E : Type 0} (P : Term → Type 0) (old : Expr) (z : ℤ) (place : Place) (r : Result Expr E) → P (number z place) → old ≡ Number z place → IfOk r (λ e. term_of e ≡ term_of old) → IfOk r (λ e. P (term_of e))
+pub number_tail : {E : Type 0} (P : Term → Type 0) (old : Expr) (z : ℤ) (place : Position) (r : Result Expr E) → P (number z place) → old ≡ Number z place → IfOk r (λ e. term_of e ≡ term_of old) → IfOk r (λ e. P (term_of e))
 number_tail P old z place r u is = if_ok_to (λ e. term_of e ≡ term_of old) (λ e. P (term_of e)) (λ e same. subst P (sym (same ∙ ap term_of is)) u) r
 
-pub number_says : (bodies : List Body) (given : Given) (n : ℕ) (old : Expr) (z : ℤ) (place : Place) → old ≡ Number z place → SameTerm bodies (number z place) (term_of old) given n
+pub number_says : (bodies : List Body) (given : Given) (n : ℕ) (old : Expr) (z : ℤ) (place : Position) → old ≡ Number z place → SameTerm bodies (number z place) (term_of old) given n
 number_says bodies given n old z place is = subst (λ c. SameTerm bodies (number z place) c given n) (sym (ap term_of is)) (record { same = λ w m i t. ((λ x. x), (λ x. x)) })
 
 -- variables

@@ -1,4 +1,5 @@
--- When a tree that is written out says the same as the tree that it comes from, whose calls and `let` names it has not.
+-- When a tree that is written out says the same as the tree that it comes from.
+-- The first has no calls and no `let` names, of which the second may have any.
 use Rattle.std.specs.Prelude.{◌≡◌, ◌↔◌, ℕ, ◌<◌, ◌+◌, List, [], ◌∷◌, ◌++◌, map, Option, Some, None}
 use Rattle.core_tree.specs.declared.operators.Multiplicity.{Multiplicity}
 use Rattle.core_tree.specs.declared.operators.Multiplicity.TheVariants.{Set}

@@ -1,4 +1,4 @@
-// What the names of a formula stand for while it is written out.
+//! The environment of the writing out: what each name of a formula stands for.
 
 ghost use Rattle.core_tree.specs.declared.model.Body.{Body};
 ghost use Rattle.std.specs.Prelude.{List, ℕ};

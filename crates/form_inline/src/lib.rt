@@ -6,8 +6,6 @@
 #![tactic(auto)]
 
 pub mod given;
-#[cfg(test)]
-mod tests;
 pub mod writing;
 
 pub use writing::inline;

@@ -1,4 +1,4 @@
-// Formulas and expressions written out, one small function a form.
+//! Formulas and expressions with calls and `let` names written out, one small function a form.
 
 ghost use Rattle.std.specs.Prelude.{◌≡◌, ◌↔◌, ◌<◌, ◌+◌, ◌++◌, ◌^◌, ℕ, List, IfOk, All, map};
 ghost use Rattle.core_tree.specs.Trees.{term_of, claim_of, variable_of, term_list, call_claim, call_term, test, empty};

@@ -1,4 +1,5 @@
--- The forms that are left. `=`, `iff`, `implies else` and `one` are among them, since each would be written with an operand
+-- The forms that are left when derived operators are written out.
+-- `=`, `iff`, `implies else` and `one` are among them, since each would be written with an operand
 -- twice; a call, a `let` and the operators of Operators are not.
 use Rattle.std.specs.Prelude.{◌≡◌, ◌⊎◌, false, List}
 use Rattle.core_tree.specs.declared.operators.Quantity.{Quantity}

@@ -1,4 +1,4 @@
-// Formulas of the kernel made from others.
+//! The kernel's formulas made from others, among them the duals of `until` and `since`.
 
 ghost use Rattle.std.specs.Prelude.{◌≡◌, IfOk};
 ghost use Rattle.core_tree.specs.declared.operators.Quantity.TheVariants.{Some as SomeOf, One as OneOf, Lone as LoneOf};

@@ -1,4 +1,4 @@
-// Derived operators over kernel formulas and expressions.
+//! Each derived operator written out, over operands that are kernel formulas and expressions.
 
 ghost use Rattle.std.specs.Prelude.{◌≡◌, IfOk, [], map};
 ghost use Rattle.core_tree.specs.Trees.{claim_of, term_of, variable_of, negation};

@@ -1,4 +1,4 @@
-// Kernel formulas and expressions, one small function a form.
+//! The kernel formula of a formula: one small function a form.
 
 ghost use Rattle.std.specs.Prelude.{◌≡◌, ◌↔◌, ◌≤◌, ℕ, ℤ, Bool, Option, IfOk, map};
 ghost use Rattle.core_tree.specs.Trees.{claim_of, term_of, variable_of};

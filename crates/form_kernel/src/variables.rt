@@ -1,7 +1,7 @@
-// Kernel formulas under several variables, written with one variable at a time.
-//
-// A variable whose atom differs from those of some variables before it has a bound without these.
-// That needs names of which none hides another: variables whose names don't rise stay together.
+//! Kernel formulas under several variables, written with one variable at a time.
+//!
+//! A variable whose atom differs from those of some variables before it has a bound without these.
+//! That needs names of which none hides another: variables whose names don't rise stay together.
 
 ghost use Rattle.std.specs.Prelude.{◌≡◌, ◌<◌, ◌≤◌, [], ◌∷◌, take, length, map, IfOk};
 ghost use Rattle.core_tree.specs.declared.operators.RelationOp.TheVariants.{Difference as DifferenceOf};
@@ -13,7 +13,8 @@ use crate::build::{both, lone, not};
 use core_tree::{Expr, Formula, RelationOp, Variable};
 use std::alloc::{AllocError, Global};
 
-/// The most variables that stand in one comprehension: a relation has at most so many columns.
+/// The most variables that stand in one comprehension: a relation has at most so many columns
+/// (ArityLimit, S47).
 pub const MOST_COLUMNS: usize = 9;
 
 /// `e - x` for the variable `x`.

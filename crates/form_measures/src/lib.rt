@@ -1,5 +1,5 @@
-//! What the rules of scopes ask of formulas and expressions once calls are written out: how deep
-//! they are, how many past operators they nest, and which numbers stand in them.
+//! What the rules of scopes ask of formulas and expressions once calls are written out.
+//! That is how deep they are, how many past operators they nest, and which numbers stand in them.
 #![tactic(auto)]
 
 mod bodies;

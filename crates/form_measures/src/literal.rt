@@ -3,7 +3,7 @@
 ghost use Rattle.std.specs.Prelude.{◌≡◌, ◌≤◌, IfOk};
 
 use crate::spot::earliest;
-use base_types::Place;
+use base_types::Position;
 use core_tree::{Body, BodyForm, Expr, Formula, Origin, Variable};
 use std::alloc::{AllocError, Global};
 
@@ -46,7 +46,7 @@ impl Reach {
     }
 
     /// A number in a tree of this instance.
-    fn take_number(&mut self, instance: u32, number: i64, place: Place) {
+    fn take_number(&mut self, instance: u32, number: i64, place: Position) {
         if number < self.least || number > self.greatest {
             self.first = earliest(self.first, Origin { instance, place });
         }

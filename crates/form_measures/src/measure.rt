@@ -1,6 +1,6 @@
-//! How deep formulas and expressions are once calls and `let` names are written out, and how many
-//! past operators they nest there. Nothing is written out for it: a body is measured once, with how
-//! deep each of its parameters is used.
+//! How deep formulas are, and how many past operators they nest, once calls are written out.
+//! Nothing is written out for it: a body is measured once, with how deep each of its parameters is
+//! used. A `let` name counts as what it stands for.
 
 ghost use Rattle.std.specs.Prelude.{◌<◌, length, IfSome};
 

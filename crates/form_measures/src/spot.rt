@@ -1,11 +1,11 @@
-//! Places across instances, in the order in which refusals count: the earliest instance in load
-//! order, then the least place.
+//! Places across instances, in the order in which refusals count.
+//! The earliest instance in load order comes first, and in it the least place.
 
-use base_types::Place;
+use base_types::Position;
 use core_tree::Origin;
 
 /// Whether a place comes before another one of its text.
-fn is_earlier_place(a: Place, b: Place) -> bool {
+fn is_earlier_place(a: Position, b: Position) -> bool {
     a.line < b.line || (a.line == b.line && a.column < b.column)
 }
 

@@ -1,4 +1,4 @@
-// The fields that stand for relation parameters.
+//! The fields that stand for relation parameters.
 
 use base_types::Name;
 use core_tree::{Field, FieldList, RowList, Sig};

@@ -1,4 +1,4 @@
-// What a command asks of a lasso whose fields stand for the relation parameters of its predicate.
+//! What a command asks of the fields that stand for its predicate's relation parameters.
 
 use core_tree::{Expr, Formula, Parameter, Quantity, RelationOp, Variable};
 use std::alloc::{AllocError, Global};

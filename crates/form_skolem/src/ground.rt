@@ -1,4 +1,4 @@
-// What the types of a model's bounds are made of.
+//! What types are made of, from a model's sigs and fields, for the types of parameters' bounds.
 
 use base_lists::Items;
 use core_tree::{Column, Field, Model, Sig, SigKind};

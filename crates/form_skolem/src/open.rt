@@ -1,4 +1,4 @@
-// Relation parameters made fields.
+//! The model in which each relation parameter of the command's predicate is a field.
 
 ghost use Rattle.std.specs.Prelude.{◌≡◌, length, IfOk};
 

@@ -1,4 +1,4 @@
-// Formulas and expressions made from others.
+//! Small formulas and expressions of which those of declarations are made.
 
 ghost use Rattle.std.specs.Prelude.{◌≡◌, IfOk};
 ghost use Rattle.core_tree.specs.Trees.{term_of, claim_of, sig as sig_term, field as field_term, name as name_term, combine as combine_term, inside as inside_claim, within as within_claim, test as test_claim, for_all, no_variables, more_variables};

@@ -1,4 +1,4 @@
-// The sigs that extend others.
+//! The children of each sig: the sigs that extend it.
 
 ghost use Rattle.std.specs.Prelude.{◌≡◌, ◌<◌, ◌+◌, ◌++◌, List, [], ◌∷◌, IfOk, OnOk, Some, All, length, get_or, set, slice_get};
 ghost use Rattle.core_tree.specs.declared.model.Column.TheVariants.{Sig as SigColumn};

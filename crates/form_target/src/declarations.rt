@@ -1,4 +1,4 @@
-// All formulas of a model's declarations.
+//! The formulas of all declarations of a model, those of the sigs before those of the fields.
 
 ghost use Rattle.std.specs.Prelude.{◌≡◌, ◌↔◌, ◌+◌, ℕ, All, IfOk, OnOk};
 ghost use Rattle.core_tree.specs.Models.{IsModel};

@@ -1,4 +1,4 @@
-// What the declarations of fields ask.
+//! What the declarations of fields ask of a position: bounds, multiplicities and `disj`.
 
 ghost use Rattle.std.specs.Prelude.{◌≡◌, ◌↔◌, OnOk, Some, IsTrue, slice_get};
 ghost use Rattle.form_target.specs.Asked.{list_in, ShareList, EachOf, IsOwned, IsBounded, HasApartValues, IsFieldDeclared, IsAlone, IsApartFrom, IsFieldAsked};

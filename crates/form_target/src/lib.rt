@@ -1,15 +1,13 @@
-//! What the declarations of a model ask of a position, as formulas.
+//! What a lasso of a command is to satisfy, as formulas of the kernel: the target.
 //!
-//! Each function adds the formulas of one part of a declaration to a list. They all hold at a
-//! position exactly where those before them do and that part of the declaration does.
-//!
-//! What a lasso of a command is to satisfy: the declarations, the facts and the command as formulas of the kernel.
+//! The target has what the declarations ask, a formula for each fact, and the command's formula
+//! (`target`). What the declarations of sigs and fields ask of a position is made part by part:
+//! each function adds the formulas of one part of a declaration to a list, and they all hold at a
+//! position exactly where those before them do and that part does.
 #![tactic(auto)]
 
 pub mod build;
 pub mod children;
-#[cfg(test)]
-mod decl_constraints_tests;
 pub mod declarations;
 pub mod fields;
 pub mod sigs;

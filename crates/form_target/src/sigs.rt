@@ -1,4 +1,4 @@
-// What the declarations of sigs ask.
+//! What the declarations of sigs ask of a position: parents, `abstract`, multiplicities, facts.
 
 ghost use Rattle.std.specs.Prelude.{◌≡◌, All, OnOk, Some, length, slice_get};
 ghost use Rattle.core_tree.specs.Models.{IsParent};

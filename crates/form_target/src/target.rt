@@ -1,4 +1,4 @@
-// The formulas that a lasso is to satisfy.
+//! The target of a command: the formulas that a lasso is to satisfy, in order.
 
 ghost use Rattle.std.specs.Prelude.{◌≡◌, List, [], ◌∷◌, ◌++◌, map, All, IfOk};
 ghost use Rattle.core_tree.specs.declared.operators.TemporalUnary.TheVariants.{Always as AlwaysOf};
@@ -9,7 +9,7 @@ ghost use Rattle.core_tree.specs.declared.tree.Formula.{Formula};
 ghost use Rattle.form_target.specs.declared.target.Part.{Part as PartOf};
 
 use crate::implied;
-use base_types::{Name, Place};
+use base_types::{Name, Position};
 use core_meaning::{Scopes, Target};
 use core_tree::{Command, Fact, Formula, FormulaList, ItemList, Model, TemporalUnary};
 use form_inline::inline;
@@ -22,7 +22,7 @@ pub struct Part {
     /// The instance that has it.
     pub instance: u32,
     /// Where its keyword stands.
-    pub place: Place,
+    pub place: Position,
     pub name: Option<Name>,
     /// What it says of position 0.
     pub formula: Formula,

@@ -1,4 +1,4 @@
-//! Operators on integers.
+//! The five operators on integers, wrapped to their width.
 
 ghost use Rattle.std.specs.Prelude.{◌≡◌, ◌<◌, ℕ, Bool, length, IfOk};
 ghost use Rattle.gate_trait.specs.Built.{Keeps, AllIn};

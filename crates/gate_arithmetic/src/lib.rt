@@ -1,5 +1,5 @@
-//! Integers of the language as circuits: its five operators, the integer that a set stands for, and
-//! the set of an integer.
+//! Integers of the language as circuits.
+//! They are its five operators, the integer that a set stands for, and the set of an integer.
 #![tactic(auto)]
 
 pub mod integers;
@@ -9,6 +9,3 @@ pub mod singles;
 pub use integers::{integer_op, operate};
 pub use members::integer_of;
 pub use singles::matrix_of;
-
-#[cfg(test)]
-mod tests;

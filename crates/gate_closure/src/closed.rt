@@ -1,4 +1,4 @@
-//! The transitive closure.
+//! The transitive closure, by squaring the matrix again and again.
 
 ghost use Rattle.std.specs.Prelude.{◌≡◌, ◌≤◌, ◌<◌, ◌+◌, ◌*◌, ◌↔◌, ℕ, Bool, true, List, All, IfOk};
 ghost use Rattle.gate_trait.specs.Built.{Keeps};
@@ -19,6 +19,7 @@ fn doubled<G: Gates>(alloc: Global, gates: &mut G, a: &Matrix) -> Result<Matrix,
     ensures truth { IfOk result (λ m. (x : ℕ → Bool) (t : List ℕ) → (truth (G.node_value gates.new x) m t ≡ true)
         ↔ IsReachedWithin (G.node_value gates.old x) a.now 2 t) }
 {
+    // for the proof: this call's clause says that it is a matrix
     let _ = a.arity();
     let two = join(alloc, gates, a, a)?;
     union(alloc, gates, a, &two)
@@ -41,6 +42,7 @@ pub fn closure<G: Gates>(
     ensures truth { IfOk result (λ m. (x : ℕ → Bool) (t : List ℕ) → (truth (G.node_value gates.new x) m t ≡ true)
         ↔ IsReached (G.node_value gates.old x) a.now t) }
 {
+    // for the proof: this call's clause says that it is a matrix
     let _ = a.arity();
     let mut pairs = a.copy(alloc)?;
     let limit = u128::from(atoms);

@@ -1,4 +1,4 @@
-//! Override and restriction: tuples that are kept where their first or last atom is, or isn't, in a set.
+//! Override and restriction, by whether the first or last atom of a tuple is in a set.
 
 ghost use Rattle.std.specs.Prelude.{◌≡◌, ◌≤◌, ◌<◌, ◌+◌, ◌↔◌, ◌&&◌, ◌∷◌, [], not, ℕ, Bool, true, List, All, length, IfOk, OnOk, Option};
 ghost use Rattle.std.specs.Option.{ForSome};
@@ -139,6 +139,7 @@ pub fn override_by<G: Gates>(
     ensures truth { IfOk result (λ m. (x : ℕ → Bool) (t : List ℕ) → (truth (G.node_value gates.new x) m t ≡ true)
         ↔ IsOverridden (G.node_value gates.old x) a.now b.now t) }
 {
+    // for the proof: this call's clause says that it is a matrix
     let _ = a.arity();
     let over = firsts(alloc, gates, b)?;
     let rest = filtered(alloc, gates, Side::First, Kept::Outside, a, &over)?;
@@ -161,6 +162,7 @@ pub fn left_restrict<G: Gates>(
     ensures truth { IfOk result (λ m. (x : ℕ → Bool) (t : List ℕ) → (truth (G.node_value gates.new x) m t ≡ true)
         ↔ IsLeftRestricted (G.node_value gates.old x) a.now b.now t) }
 {
+    // for the proof: this call's clause says that it is a matrix
     let _ = b.arity();
     filtered(alloc, gates, Side::First, Kept::Inside, b, a)
 }
@@ -181,6 +183,7 @@ pub fn right_restrict<G: Gates>(
     ensures truth { IfOk result (λ m. (x : ℕ → Bool) (t : List ℕ) → (truth (G.node_value gates.new x) m t ≡ true)
         ↔ IsRightRestricted (G.node_value gates.old x) a.now b.now t) }
 {
+    // for the proof: this call's clause says that it is a matrix
     let _ = a.arity();
     filtered(alloc, gates, Side::Last, Kept::Inside, a, b)
 }

@@ -6,6 +6,3 @@ pub mod filters;
 
 pub use closed::closure;
 pub use filters::{left_restrict, override_by, right_restrict};
-
-#[cfg(test)]
-mod tests;

@@ -1,4 +1,5 @@
--- The numbers that truth values mean.
+-- Lemmas and their proofs; nothing to read here.
+-- They are on the numbers that truth values mean.
 use Rattle.std.proofs.Common.{◌≡◌, ℕ, zero, suc, ◌+◌, ◌-◌, ◌*◌, ◌%◌, ◌^◌, ◌<◌, nat_lt, Bool, true, false, not, cond, inl, inr, List, [], ◌∷◌, ◌++◌, length, take, map, get_or, replicate, refl, sym, ◌∙◌, ap, arith, length-take}
 use Rattle.std.proofs.Math.Nat.{pow-succ'}
 use Rattle.std.proofs.lemmas.Nat.{mod-mul-add}

@@ -1,4 +1,5 @@
--- Sums of the numbers that nodes mean.
+-- Lemmas and their proofs; nothing to read here.
+-- They are on sums of the numbers that nodes mean.
 use lib.Pow.{pow_pos}
 use Rattle.std.proofs.lemmas.Bool.Decides.{nat_tests}
 use Rattle.std.proofs.Math.Nat.{mod-eq_of_lt}

@@ -1,4 +1,4 @@
-//! Sums and differences.
+//! Sums and differences, by ripple-carry adders.
 
 ghost use Rattle.std.specs.Prelude.{◌≡◌, ◌<◌, ◌+◌, ◌*◌, ◌^◌, ◌-◌, ◌%◌, ℕ, Bool, length, IfOk, if◌then◌else◌, ◌+ℤ◌, ◌-ℤ◌, pos};
 ghost use Rattle.gate_trait.specs.Built.{Keeps, Computes, AllIn, xor};

@@ -1,4 +1,4 @@
-//! The bits of an integer.
+//! The bits of an integer: a list of nodes, the least first.
 
 ghost use Rattle.std.specs.Prelude.{◌≡◌, ◌==◌, ◌<◌, [], ◌∷◌, ◌++◌, length, OnOk, OnErr, slice_get, reverse, Some};
 

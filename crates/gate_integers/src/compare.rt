@@ -1,4 +1,4 @@
-//! Comparisons.
+//! Comparisons of integers: less, and equal.
 
 ghost use Rattle.std.specs.Prelude.{◌≡◌, ◌<◌, ◌≤◌, ◌↔◌, ◌<ℤ◌, ℕ, Bool, true, nat_lt, length, take, IfOk};
 ghost use Rattle.gate_trait.specs.Built.{Keeps, Computes, AllIn};

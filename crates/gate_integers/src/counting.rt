@@ -1,4 +1,4 @@
-//! How many nodes are true, as an integer.
+//! How many nodes are true, as an integer, by adders from the least weight up.
 
 ghost use Rattle.std.specs.Prelude.{◌≡◌, ◌+◌, ◌*◌, ℕ, Bool, count_by, length, take, IfOk, pos};
 ghost use Rattle.gate_trait.specs.Built.{Keeps, AllIn};

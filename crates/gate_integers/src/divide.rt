@@ -1,4 +1,4 @@
-//! Quotients and remainders.
+//! Quotients and remainders, by long division of the magnitudes.
 
 ghost use Rattle.std.specs.Prelude.{◌≡◌, ◌<◌, ◌≤◌, ◌+◌, ◌-◌, ◌*◌, ◌^◌, nat_lt, ℕ, Bool, length, IfOk, reverse, slice_get, Some};
 ghost use Rattle.gate_trait.specs.Built.{Keeps, AllIn};

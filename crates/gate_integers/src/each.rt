@@ -1,4 +1,4 @@
-//! One step for each bit of a list.
+//! One step for each bit of a list: negation, choice, and whether some bit is true.
 
 ghost use Rattle.std.specs.Prelude.{◌≡◌, ◌<◌, ◌&&◌, ℕ, Bool, not, false, length, map, IfOk, nat_lt, replicate, if◌then◌else◌};
 ghost use Rattle.gate_trait.specs.Built.{Keeps, AllIn, xor};
@@ -113,6 +113,7 @@ pub fn copied<G: Gates>(alloc: Global, gates: &G, a: &[Node]) -> Result<Bits, Al
     ensures belongs { IfOk result (λ bits. AllIn (G.belongs gates.now) bits) }
     ensures same { IfOk result (λ bits. bits ≡ a.now) }
 {
+    // for the proof: only the clauses name the gates
     let _circuit = gates;
     let mut bits = Bits::new(alloc);
     for node in a {

@@ -1,4 +1,4 @@
-//! Counts of nodes against a limit.
+//! Counts of nodes against a limit, by a sequential counter.
 
 ghost use Rattle.std.specs.Prelude.{◌≡◌, ◌<◌, ◌≤◌, ◌+◌, ◌^◌, ◌↔◌, ℕ, Bool, true, count_by, length, IfOk, OnOk};
 ghost use Rattle.gate_trait.specs.Built.{Keeps, AllIn};

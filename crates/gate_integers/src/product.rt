@@ -1,4 +1,4 @@
-//! Products.
+//! Products, as sums of shifted rows.
 
 ghost use Rattle.std.specs.Prelude.{◌≡◌, ◌<◌, ◌+◌, ◌*◌, ◌^◌, ◌%◌, ◌*ℤ◌, ℕ, Bool, length, IfOk};
 ghost use Rattle.gate_trait.specs.declared.node.Node.{Node as CircuitNode};
@@ -25,6 +25,7 @@ pub(crate) fn shifted_in<G: Gates>(
     ensures number { IfOk result (λ bits. (v : CircuitNode → Bool) → number v bits
         ≡ (bit (v low) + 2 * number v a.now) % 2 ^ length a.now) }
 {
+    // for the proof: only the clauses name the gates
     let _circuit = gates;
     let mut bits = Bits::new(alloc);
     let mut next = low;

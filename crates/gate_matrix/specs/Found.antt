@@ -1,3 +1,4 @@
+-- Lemmas and their proofs; nothing to read here.
 -- Entries in order: each tuple has one node at most, and its entry is found.
 use Rattle.std.proofs.Common.{All, ◌≡◌, ℕ, suc, zero, ◌<◌, Bool, true, false, ◌&&◌, ◌||◌, cond, List, [], ◌∷◌, length, get_or, Option, Some, Result, Ok, Err, OnOk, OnErr, subst, sym, ap, ◌∙◌, refl, arith, inl, inr}
 use Rattle.std.specs.declared.cmp.Ordering.TheVariants.{Less}

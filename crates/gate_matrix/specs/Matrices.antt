@@ -1,5 +1,6 @@
--- Matrices: maps from tuples to nodes. Under values of the nodes, a matrix means the set of the tuples
--- whose nodes are true; a tuple without a node isn't in the set.
+-- Matrices: maps from tuples to nodes.
+-- Under values of the nodes, a matrix means the set of the tuples whose nodes are true; a tuple
+-- without a node isn't in the set.
 use Rattle.std.specs.List.{list_any}
 use Rattle.std.specs.Prelude.{◌≡◌, ◌≤◌, ◌⊎◌, ◌&&◌, Contains, drop, ℕ, Bool, false, Option, Some, None, List, [], ◌∷◌, ◌++◌, length, map, All, if◌then◌else◌}
 use Rattle.std.specs.List.Sorted.{IsStrictlySortedBy}

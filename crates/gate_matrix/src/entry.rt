@@ -1,4 +1,4 @@
-//! An entry of a matrix.
+//! An entry of a matrix: a tuple, and the node that says whether it is in the set.
 
 ghost use Rattle.std.specs.Prelude.{◌≡◌, ◌++◌, IfOk, OnOk, Option};
 

@@ -1,4 +1,4 @@
-//! Join, product and transpose.
+//! Join, product and transpose of matrices.
 
 ghost use Rattle.std.specs.Prelude.{◌≡◌, ◌<◌, ◌≤◌, ◌+◌, ◌-◌, ◌==◌, ◌&&◌, ◌||◌, ◌↔◌, ◌++◌, ◌∷◌, [], ℕ, Bool, true, List, All, length, take, drop, IfOk, OnOk};
 ghost use Rattle.std.specs.List.{list_any, AllWithin};

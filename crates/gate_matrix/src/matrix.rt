@@ -1,4 +1,4 @@
-//! A matrix: tuples with nodes.
+//! A matrix: a sparse map from tuples to nodes, in the order of the tuples.
 
 ghost use Rattle.std.specs.Prelude.{◌≡◌, ◌<◌, ◌≤◌, ℕ, List, [], All, length, map, IfOk, OnOk, OnErr, Some, slice_get, if◌then◌else◌};
 ghost use Rattle.core_tuples.specs.Sets.{is_same};
@@ -62,6 +62,7 @@ impl Matrix {
         ensures ok { OnOk result (IsPut self.old tuple node self.new) }
         ensures err { OnErr result (self.new ≡ self.old) }
     {
+        // for the proof: a field is read, so that the invariant of the matrix is at hand
         let _ = &self.arity;
         put_entry(&mut self.entries, tuple, node)
     }
@@ -106,6 +107,7 @@ impl Matrix {
         ensures all { result.now ≡ self.now.entries }
         ensures matrix { IsMatrix self.now }
     {
+        // for the proof: a field is read, so that the invariant of the matrix is at hand
         let _ = &self.arity;
         &self.entries
     }
@@ -114,6 +116,7 @@ impl Matrix {
     pub fn copy(&self, alloc: Global) -> Result<Matrix, AllocError>
         ensures { IfOk result (λ m. m ≡ self.now) }
     {
+        // for the proof: a field is read, so that the invariant of the matrix is at hand
         let _ = &self.arity;
         Ok(Matrix {
             arity: self.arity,

@@ -1,4 +1,4 @@
-//! Where a tuple stands among entries in order.
+//! Where a tuple stands among entries in order, by binary search.
 
 ghost use Rattle.std.specs.Prelude.{◌≡◌, ◌↔◌, ◌<◌, ℕ, All, length, IfOk, IfErr, IsTrue, slice_get, Some};
 ghost use Rattle.std.specs.List.Sorted.{IsStrictlySortedBy};
@@ -15,6 +15,7 @@ use std::cmp::Ordering;
 pub(crate) fn is_row(tuple: &Tuple, arity: u32) -> bool
     ensures { IsTrue result ↔ ((length tuple.now ≡ arity) × All IsNumber tuple.now) }
 {
+    // Atoms, S66: there are at most 16,384 atoms and integers.
     tuple.numbers().len() == arity as usize && tuple.numbers().iter().all(|x| *x < 16384)
 }
 

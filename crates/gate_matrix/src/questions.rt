@@ -1,4 +1,4 @@
-//! Questions about sets.
+//! Questions about sets: `in`, `=`, `some`, `lone` and `one`, each as one node.
 
 ghost use Rattle.std.specs.Prelude.{◌≡◌, ◌↔◌, ◌&&◌, ◌||◌, ℕ, Bool, true, IfOk};
 ghost use Rattle.std.specs.List.{list_any};

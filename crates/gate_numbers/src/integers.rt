@@ -1,4 +1,4 @@
-// Operators and comparisons on integers.
+//! Operators and comparisons on integers, and the number of tuples of a set.
 
 ghost use Rattle.std.specs.Prelude.{◌≡◌, ◌↔◌, ◌<◌, ◌<ℤ◌, ◌+ℤ◌, ℕ, Bool, true, IfOk, OnOk, length, map};
 ghost use Rattle.gate_trait.specs.Built.{Keeps, AllIn};
@@ -113,6 +113,7 @@ fn entry_nodes<G: Gates>(alloc: Global, gates: &G, matrix: &Matrix) -> Result<No
     for entry in entries {
         nodes.push(entry.node)?;
     }
+    // for the proof: only the clauses name the gates
     let _ = gates;
     Ok(nodes)
 }
@@ -132,6 +133,7 @@ pub fn count_of<G: Gates>(
         → IsCount w (set_of (G.node_value gates.old x) matrix.now) (signed (G.node_value gates.new x) s)) }
 {
     let nodes = entry_nodes(alloc, gates, matrix)?;
+    // for the proof: this call's clause says that it is a matrix
     let _columns = matrix.arity();
     let made = gate_integers::count(alloc, gates, nodes.as_slice(), width)?;
     Ok(made)

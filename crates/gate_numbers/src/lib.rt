@@ -1,5 +1,5 @@
-//! Circuits of integers: each operator and comparison on bits, the number of tuples of a set, and integers
-//! as sets and back. Where the widths of the operands don't fit, the answer is the error of memory.
+//! Circuits of integers: operators and comparisons on bits, and integers as sets and back.
+//! Where the widths of the operands don't fit, the answer is the error of memory.
 #![tactic(auto)]
 
 pub mod integers;
@@ -7,6 +7,3 @@ pub mod values;
 
 pub use integers::{calculate, compare, constant_bits, count_of, masked_sum};
 pub use values::{integer_of, matrix_of};
-
-#[cfg(test)]
-mod tests;

@@ -1,4 +1,4 @@
-// Sets as integers, and integers as sets.
+//! Sets as integers, and integers as sets.
 
 ghost use Rattle.std.specs.Prelude.{◌≡◌, ◌≤◌, ◌+◌, ◌^◌, ℕ, Bool, length, IfOk, IsTrue};
 ghost use Rattle.gate_trait.specs.Built.{Keeps, AllIn};
@@ -22,6 +22,7 @@ fn is_universe(universe: Universe) -> bool
     if universe.bits < 1 || universe.bits > 12 {
         return false;
     }
+    // Atoms, S66: there are at most 16,384 atoms and integers.
     u64::from(universe.atoms) + 2_u64.pow(universe.bits) <= 16384
 }
 

@@ -1,4 +1,4 @@
-//! Operators on two relations.
+//! Operators on two relations, where the operands fit.
 
 ghost use Rattle.std.specs.Prelude.{◌≡◌, ◌≤◌, ◌+◌, ◌-◌, ℕ, Bool, IfOk};
 ghost use Rattle.gate_trait.specs.Built.{Keeps};

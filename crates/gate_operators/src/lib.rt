@@ -1,5 +1,5 @@
-//! Operators of the language on sets and integers, as circuits: one operator at one position, from
-//! its operands.
+//! Operators of the language on sets and integers, as circuits.
+//! Each is one operator at one position, from its operands.
 #![tactic(auto)]
 
 pub mod combined;
@@ -11,6 +11,3 @@ pub use combined::{combine, multiplied};
 pub use questions::{TestOp, test_op};
 pub use relations::{RelOp, relation_op};
 pub use unary::{closed, closed_below, identity, transposed};
-
-#[cfg(test)]
-mod tests;

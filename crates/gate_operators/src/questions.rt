@@ -1,4 +1,4 @@
-//! Tests of sets.
+//! Tests of sets, chosen by a name.
 
 ghost use Rattle.std.specs.Prelude.{◌≡◌, ◌↔◌, ◌≤◌, ℕ, Bool, true, length, All, IfOk};
 ghost use Rattle.gate_trait.specs.Built.{Keeps};

@@ -1,4 +1,4 @@
-//! Operators on lists of relations.
+//! Operators on lists of relations, chosen by a name.
 
 ghost use Rattle.std.specs.Prelude.{◌≡◌, ◌≤◌, ℕ, Bool, length, All, IfOk};
 ghost use Rattle.gate_trait.specs.Built.{Keeps};

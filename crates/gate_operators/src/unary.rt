@@ -1,4 +1,4 @@
-//! Operators on one relation.
+//! Operators on one relation: transpose, closure, and the identity of a set.
 
 ghost use Rattle.std.specs.Prelude.{◌≡◌, ◌∷◌, [], ℕ, Bool, IfOk};
 ghost use Rattle.gate_trait.specs.Built.{Keeps};

@@ -1,5 +1,5 @@
--- What operators and tests on two sets give, and the sets that depend on no other one. An operator or a
--- test on one set leaves the second aside.
+-- What operators and tests on two sets give, and the sets that depend on no other one.
+-- An operator or a test on one set leaves the second aside.
 use Rattle.std.specs.Prelude.{◌≡◌, ◌⊎◌, ◌≤◌, ◌<◌, ◌+◌, ℕ, Bool, true, false, List, [], ◌∷◌, Option, Some, None, slice_get}
 use Rattle.core_meaning.specs.Operators.{Tuples, combined_tuples, product_tuples, closure_tuples, IsInside, HasSome, IsLone}
 use Rattle.gate_operators.specs.Sets.{FitTogether, columns_of, turned, pairs_with_itself}

@@ -1,4 +1,4 @@
-// Sets that depend on the value of a node.
+//! Sets that depend on the value of a node: one where it is true, else another.
 
 ghost use Rattle.std.specs.Prelude.{◌≡◌, ◌&&◌, ℕ, Bool, List, IfOk, OnOk};
 ghost use Rattle.gate_trait.specs.Built.{Keeps};

@@ -1,4 +1,4 @@
-// The tuples of several matrices.
+//! The tuples of several matrices, each once.
 
 ghost use Rattle.std.specs.Prelude.{◌≡◌, ◌↔◌, ◌++◌, ℕ, List, Contains, OnOk, IfOk};
 ghost use Rattle.gate_matrix.specs.Matrices.{tuples_of};

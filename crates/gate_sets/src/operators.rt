@@ -1,4 +1,4 @@
-// Operators on sets.
+//! Operators on one or two sets, with the error of memory where the columns don't fit.
 
 ghost use Rattle.std.specs.Prelude.{◌≡◌, ◌≤◌, ◌+◌, ℕ, Bool, IfOk, OnOk, IsTrue};
 ghost use Rattle.gate_trait.specs.Built.{Keeps};
@@ -81,6 +81,7 @@ fn multiply<G: Gates>(
     ensures means { IfOk result (λ m. (x : ℕ → Bool) → MeansSet (G.node_value gates.new x) m
         (product_tuples (set_of (G.node_value gates.old x) a.now) (set_of (G.node_value gates.old x) b.now))) }
 {
+    // ArityLimit, S47: a relation has at most nine columns.
     if a.arity() + b.arity() > 9 {
         return Err(AllocError);
     }

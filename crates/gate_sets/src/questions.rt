@@ -1,4 +1,4 @@
-// Tests of sets.
+//! Tests of one or two sets, with the error of memory where the columns don't fit.
 
 ghost use Rattle.std.specs.Prelude.{◌≡◌, ◌↔◌, ℕ, Bool, true, IfOk};
 ghost use Rattle.gate_trait.specs.Built.{Keeps};

@@ -1,4 +1,4 @@
-// The matrices of what depends on no other expression, and parts of matrices.
+//! The matrices of relations over their variables, of atoms and of intervals of numbers.
 
 ghost use Rattle.std.specs.Prelude.{◌≡◌, ◌<◌, ◌||◌, ◌∷◌, [], ℕ, Bool, List, IfOk, OnOk, IsTrue, All, length};
 ghost use Rattle.core_tuples.specs.Index.{IsNumber};
@@ -18,6 +18,7 @@ fn is_row(tuple: &Tuple, arity: u32) -> bool
     ensures columns { IsTrue result → length tuple.now ≡ arity }
     ensures numbers { IsTrue result → All IsNumber tuple.now }
 {
+    // Atoms, S66: there are at most 16,384 atoms and integers.
     tuple.numbers().len() == arity as usize && tuple.numbers().iter().all(|x| *x < 16384)
 }
 
@@ -34,6 +35,7 @@ pub fn put<G: Gates>(
     ensures belongs { AllBelong (G.belongs gates.now) matrix.new.entries }
     ensures ok { OnOk result (IsPut matrix.old tuple node matrix.new) }
 {
+    // for the proof: only the clauses name the gates
     let _ = gates;
     if !is_row(&tuple, matrix.arity()) {
         return Err(AllocError);

@@ -1,4 +1,4 @@
-//! Gates are simplified before they are added.
+//! The simplifications that are tried before a gate is added.
 
 ghost use Rattle.std.specs.Prelude.{◌≡◌, ◌<◌, ◌&&◌, ◌||◌, ℕ, Bool, not, length, IfOk, slice_index_or, false, if◌then◌else◌};
 ghost use Rattle.gate_trait.specs.Circuit.{BelongsTo, value_in, values};
@@ -13,6 +13,7 @@ use std::alloc::AllocError;
 fn constant_node(store: &CircuitStore, value: bool) -> Node
     ensures { Computes BelongsTo value_in store.now result (λ _. value) }
 {
+    // for the proof: this call's clauses say what a store keeps
     let _count = store.gates();
     Node {
         code: if value { 0 } else { 1 },
@@ -73,6 +74,7 @@ fn exclusive_gates(store: &mut CircuitStore, low: u64, high: u64) -> Result<Node
     ensures ok { IfOk result (λ n. Computes BelongsTo value_in store.new n (λ x.
         xor (slice_index_or (values store.old x) low false) (slice_index_or (values store.old x) high false))) }
 {
+    // for the proof: this call's clauses say what a store keeps
     let _count = store.gates();
     if low == high {
         return Ok(constant_node(store, false));

@@ -11,6 +11,7 @@ fn has_part(store: &CircuitStore, whole: Node, part: Node) -> bool
     requires { BelongsTo store.now whole }
     ensures { IsTrue result → (x : ℕ → Bool) → value_in store.now x whole ≡ true → value_in store.now x part ≡ true }
 {
+    // for the proof: this call's clauses say what a store keeps
     let _count = store.gates();
     if whole.negated() {
         return false;
@@ -28,6 +29,7 @@ pub(crate) fn implies(store: &CircuitStore, a: Node, b: Node) -> bool
     requires b_belongs { BelongsTo store.now b }
     ensures { IsTrue result → (x : ℕ → Bool) → value_in store.now x a ≡ true → value_in store.now x b ≡ true }
 {
+    // for the proof: this call's clauses say what a store keeps
     let _count = store.gates();
     if a.code == b.code {
         return true;

@@ -1,4 +1,4 @@
-//! A circuit that finds a gate again where it is asked for a second time.
+//! The store of gates: one vector, and a map that finds a gate again by its operands.
 
 ghost use Rattle.std.specs.Prelude.{◌≡◌, ◌<◌, ◌^◌, [], ◌∷◌, ◌++◌, ◌+◌, length, slice_get, Some, true, false, OnOk, OnErr, IfOk, IfSome, IfNone, ℕ, if◌then◌else◌};
 ghost use Rattle.gate_trait.specs.Circuit.{IsLayered, IsAbove, BelongsTo, value_in, gate_value, values};

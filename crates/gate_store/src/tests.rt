@@ -15,20 +15,6 @@ fn an_and_is_kept_once(rt: HostRuntime) -> Result<(), Fail> {
 }
 
 #[test]
-fn an_or_is_the_negation_of_an_and(rt: HostRuntime) -> Result<(), Fail> {
-    let mut store = CircuitStore::new(rt.alloc());
-    let a = store.input(7)?;
-    let some = store.or(a, store.constant(false))?;
-    assert_eq!(rt; some, a);
-    assert_eq!(rt; store.or(a, a.opposite())?, store.constant(true));
-    let count = store.gates();
-    assert_eq!(rt; count, 2);
-    assert!(rt; count > 1);
-    assert_eq!(rt; store.gate(1), Gate::Input(7));
-    Ok(())
-}
-
-#[test]
 fn signs_are_drawn_out(rt: HostRuntime) -> Result<(), Fail> {
     let mut store = CircuitStore::new(rt.alloc());
     let a = store.input(1)?;

@@ -1,5 +1,5 @@
--- Rows of nodes: a node for each place of a window. The last places of the window are one round of the
--- loop, which goes on for ever.
+-- Rows of nodes: a node for each place of a window.
+-- The last places of the window are one round of the loop, which goes on for ever.
 use Rattle.std.specs.Prelude.{ℕ, zero, suc, ◌+◌, ◌-◌, ◌%◌, nat_lt, if◌then◌else◌, Bool, true, false, List, [], ◌∷◌, length, IsTrue, ◌≡◌, ◌<◌}
 use Rattle.gate_trait.specs.declared.node.Node.{Node}
 

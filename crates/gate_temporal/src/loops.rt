@@ -1,4 +1,4 @@
-//! The choice of the loop.
+//! The choice of the loop: whether just one node is true, and the value at its place.
 
 ghost use Rattle.std.specs.Prelude.{◌≡◌, ◌<◌, ◌↔◌, ℕ, Bool, length, IfOk, IsTrue};
 ghost use Rattle.gate_trait.specs.Built.{Keeps, AllIn};

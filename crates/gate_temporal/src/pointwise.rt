@@ -1,4 +1,4 @@
-//! The operators that look at each place alone.
+//! The operators that look at each place alone: negation and conjunction.
 
 ghost use Rattle.std.specs.Prelude.{◌≡◌, ◌<◌, ℕ, Bool, length, IfOk, not, ◌&&◌};
 ghost use Rattle.gate_trait.specs.Built.{Keeps, AllIn};

@@ -1,4 +1,4 @@
-//! The operators that go to the next or the last position.
+//! The operators `after` and `before`, which go to the next or the last position.
 
 ghost use Rattle.std.specs.Prelude.{◌≡◌, ◌<◌, ◌+◌, ◌-◌, ◌↔◌, ℕ, Bool, length, IfOk, IsTrue, All, Contains};
 ghost use Rattle.gate_trait.specs.Built.{Keeps, AllIn};

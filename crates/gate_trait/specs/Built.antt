@@ -1,5 +1,6 @@
--- What a call that builds a circuit promises, whatever the circuit is. `belongs` says which nodes a
--- circuit has, and `value` gives a node's value under an assignment of the inputs.
+-- What a call that builds a circuit promises, whatever the circuit is.
+-- `belongs` says which nodes a circuit has, and `value` gives a node's value under an assignment
+-- of the inputs.
 use Rattle.std.specs.Prelude.{◌≡◌, ℕ, Bool, not, if◌then◌else◌, List, All}
 use Rattle.gate_trait.specs.declared.node.Node.{Node}
 

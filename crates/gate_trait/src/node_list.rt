@@ -1,4 +1,4 @@
-//! A list of nodes.
+//! A list of nodes, in order.
 
 ghost use Rattle.std.specs.Prelude.{◌≡◌, ◌==◌, ◌<◌, [], ◌∷◌, ◌++◌, length, OnOk, OnErr, slice_get, Some};
 

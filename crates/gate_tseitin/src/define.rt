@@ -1,4 +1,4 @@
-//! The clauses that define a gate.
+//! The clauses that define a gate, in both directions.
 
 ghost use Rattle.std.specs.Prelude.{◌≡◌, ◌++◌, ◌∷◌, [], map, ◌<◌, ◌≤◌, ◌^◌, ◌&&◌, ◌||◌, if◌then◌else◌, not, slice_get, Some, ℕ, Bool, All, length, OnOk, IfOk, slice_index};
 ghost use Rattle.sat_dimacs.specs.Literal.{IsLiteral, IsWithin, literal_value, clause_value};

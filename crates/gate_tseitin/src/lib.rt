@@ -1,4 +1,24 @@
-//! Circuits as clauses.
+//! Circuits as clauses, by the encoding of Tseitin.
+//!
+//! Tseitin (On the complexity of derivation in propositional calculus, 1968) gives each gate a
+//! variable of its own, and a definition: clauses that say that the variable has the value that
+//! the gate computes from the variables of its operands. So the clauses grow with the circuit,
+//! where a formula in conjunctive normal form without such variables may grow exponentially. Three
+//! clauses define an `and` or an `or`, four an `xor` or a choice. A negated node is a negated
+//! literal and needs none.
+//!
+//! [`write_clauses`] does so for the gates that `sure` or a root reaches (`reach`), and for no
+//! other. The inputs keep their numbers, which are those from 1 on; other gates have the numbers
+//! after them (`names`). The first clauses are the definitions (`define`) and the clause that
+//! `sure` is true; then comes for each root the clause of its literal alone (`write`).
+//!
+//! Each definition has both directions. Plaisted and Greenbaum (A structure-preserving clause form
+//! translation, 1986) leave out the one that a gate's polarity doesn't need; then several
+//! assignments may extend one of the inputs. Here each assignment of the inputs under which `sure`
+//! is true is extended by one and only one assignment of the first clauses. None of these has
+//! `sure` false, and in each a root's literal has the root's value. So the assignments that
+//! satisfy all clauses are those of the inputs under which `sure` and all roots are true, one for
+//! each.
 #![tactic(auto)]
 
 mod define;

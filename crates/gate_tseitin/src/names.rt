@@ -1,4 +1,4 @@
-//! The variables that stand for the gates.
+//! The variables that stand for the gates: the inputs' own numbers, then those after them.
 
 ghost use Rattle.std.specs.Prelude.{◌≡◌, ◌+◌, ◌<◌, ◌≤◌, ◌↔◌, length, All, IfOk, IfSome, IsTrue};
 ghost use Rattle.gate_trait.specs.Circuit.{BelongsTo};

@@ -1,4 +1,4 @@
-//! Which gates some nodes reach.
+//! Which gates the roots reach, marked from the last gate to the first.
 
 ghost use Rattle.std.specs.Prelude.{◌≡◌, ◌<◌, ◌≤◌, ℕ, Bool, List, All, length, slice_get, Some, true, if◌then◌else◌, IfOk};
 ghost use Rattle.gate_trait.specs.declared.gate.Gate.{Gate as CircuitGate};
@@ -101,6 +101,7 @@ fn mark_reached(marks: &mut [bool], store: &CircuitStore, sure: Node, roots: &[N
     ensures fewest { (other : List Bool) → AreReached store.now sure roots.now other → Grows marks.old other → Grows marks.new other }
     ensures layered { IsLayered store.now }
 {
+    // for the proof: this call's clauses say what a store keeps
     let _gates = store.gates();
     mark(marks, sure);
     mark_all(marks, roots);

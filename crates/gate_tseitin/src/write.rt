@@ -1,4 +1,4 @@
-//! A circuit with its roots as clauses.
+//! The clauses of a circuit: definitions, then one unit for each root.
 
 ghost use Rattle.std.specs.Prelude.{◌≡◌, ◌+◌, ◌<◌, ◌≤◌, ◌++◌, Bool, List, All, map, length, IfOk, OnOk};
 ghost use Rattle.gate_trait.specs.NodeWords.{number_of};

@@ -1,7 +1,7 @@
 -- What a text breaks by itself.
 use Rattle.std.proofs.Common.{◌≡◌, ℕ, ◌<◌, ◌≤◌, List, length, Ok, Err, IsTrue, refl, sym, ap, ap₂, subst, ◌∙◌}
 use Rattle.base_types.specs.declared.limits.TheConstants.{MODULE_BYTES}
-use Rattle.base_types.specs.declared.place.Place.{Place}
+use Rattle.base_types.specs.declared.place.Position.{Position}
 use Rattle.base_types.specs.declared.place.Refusal.{Refusal}
 use Rattle.base_types.specs.declared.place.Rule.{Rule}
 use Rattle.base_types.specs.declared.place.Rule.TheVariants as rule
@@ -26,20 +26,20 @@ uncut_refused bytes text number r (Refused refusal name) is broken = (is.1, brok
 uncut_refused bytes text number r (Read name) is broken = absurd is
 uncut_refused bytes text number r Memory is broken = tt
 
-pub token_refused : (tokens : List Token) (text : List ℕ) (rule : Rule) (place : Place) (fault : LoadFault) → IsRefusal rule place text fault → IsTrue (is_of_grammar rule) → IsTrue (has_token_at place tokens) →
+pub token_refused : (tokens : List Token) (text : List ℕ) (rule : Rule) (place : Position) (fault : LoadFault) → IsRefusal rule place text fault → IsTrue (is_of_grammar rule) → IsTrue (has_token_at place tokens) →
     IsAtToken tokens text fault
 unfolding IsRefusal IsAtToken
 token_refused tokens text rule place (Refused refusal name) is grammar here =
     let R : Rule → Type 0 = λ r. IsTrue (is_of_grammar r) in
-    let P : Place → Type 0 = λ p. IsTrue (has_token_at p tokens) in
+    let P : Position → Type 0 = λ p. IsTrue (has_token_at p tokens) in
     (is.1, subst R (sym (ap (λ (r : Refusal). r.rule) is.0)) grammar, subst P (sym (ap (λ (r : Refusal). r.place) is.0)) here)
 token_refused tokens text rule place (Read name) is grammar here = absurd is
 token_refused tokens text rule place Memory is grammar here = tt
 
-pub large_refused : (bytes text : List ℕ) (number : ℕ) (place : Place) (fault : LoadFault) → IsRefusal rule.LargeFile place text fault → place ≡ start_of number → MODULE_BYTES < length bytes →
+pub large_refused : (bytes text : List ℕ) (number : ℕ) (place : Position) (fault : LoadFault) → IsRefusal rule.LargeFile place text fault → place ≡ start_of number → MODULE_BYTES < length bytes →
     IsOfText bytes number text fault
 unfolding IsRefusal IsOfText
-large_refused bytes text number place (Refused refusal name) is at many = (is.1, large many (is.0 ∙ ap (λ (p : Place). refusal_at rule.LargeFile p) at))
+large_refused bytes text number place (Refused refusal name) is at many = (is.1, large many (is.0 ∙ ap (λ (p : Position). refusal_at rule.LargeFile p) at))
 large_refused bytes text number place (Read name) is at many = absurd is
 large_refused bytes text number place Memory is at many = tt
 

@@ -1,6 +1,6 @@
 -- The rules that the bytes of a text can break.
 use Rattle.std.proofs.Common.{◌≡◌, ℕ, zero, suc, ◌-◌, ◌∷◌, [], List, Bool, true, false, ◌&&◌, ◌||◌, ◌==◌, nat_lt, if◌then◌else◌, IsTrue, Result, Ok, Err, Option, Some, None, refl, sym, ap, subst, ◌∙◌, drop, slice_index}
-use Rattle.base_types.specs.declared.place.Place.{Place}
+use Rattle.base_types.specs.declared.place.Position.{Position}
 use Rattle.base_types.specs.declared.place.Refusal.{Refusal}
 use Rattle.syntax_tree.specs.declared.token.Token.{Token}
 use Rattle.syntax_tree.specs.declared.token.Symbol.{Symbol}
@@ -55,12 +55,12 @@ breaks_front : (front : List Token) (later : Tokens) → Breaks later → Breaks
 breaks_front front (Ok tokens) breaks = tt
 breaks_front front (Err r) breaks = breaks
 
-breaks_taken : (at : Place) (found : Piece) (later : ℕ → Tokens) → Loads found → ((n : ℕ) → Breaks (later n)) → Breaks (taken at found later)
+breaks_taken : (at : Position) (found : Piece) (later : ℕ → Tokens) → Loads found → ((n : ℕ) → Breaks (later n)) → Breaks (taken at found later)
 breaks_taken at (p.Gap n) later loads breaks = breaks n
 breaks_taken at (p.Token kind n) later loads breaks = breaks_front (record { kind = kind; place = at } ∷ []) (later n) (breaks n)
 breaks_taken at (p.Wrong wrong) later loads breaks = loads
 
-breaks_after : (n : ℕ) (at : Place) (z : Text) → Breaks (tokens_after n at z)
+breaks_after : (n : ℕ) (at : Position) (z : Text) → Breaks (tokens_after n at z)
 breaks_after n at [] = tt
 breaks_after (suc n) at (b ∷ z) = breaks_after n (after at b) z
 breaks_after zero at (b ∷ z) = breaks_taken at (piece (b ∷ z)) (λ n. tokens_after (n - 1) (after at b) z) (loads_piece (b ∷ z)) (λ n. breaks_after (n - 1) (after at b) z)

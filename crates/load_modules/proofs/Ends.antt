@@ -4,7 +4,7 @@ use Rattle.std.specs.Prelude.{option_map}
 use Rattle.std.specs.declared.alloc.Global.{Global}
 use Rattle.base_types.specs.Texts.{Texts, text_of}
 use Rattle.base_types.specs.declared.limits.TheConstants.{MODULE_BYTES}
-use Rattle.base_types.specs.declared.place.Place.{Place}
+use Rattle.base_types.specs.declared.place.Position.{Position}
 use Rattle.base_types.specs.declared.place.Refusal.{Refusal}
 use Rattle.base_types.specs.declared.place.Rule.TheVariants as rule
 use Rattle.syntax_tree.specs.declared.instance.Text.{Text}
@@ -97,12 +97,12 @@ refuses_told held between root given found bytes (Read name) front some refuses 
 refuses_told held between root given found bytes Memory front some refuses same is = tt
 
 -- no library has the root
-pub told_absent : (held : List (Option Texts)) (root name : List ℕ) (found : Option (Vec ℕ Global)) (place : Place) (fault : LoadFault) → IsFront held root found → found ≡ None → IsRefusal rule.NoModule place name fault →
+pub told_absent : (held : List (Option Texts)) (root name : List ℕ) (found : Option (Vec ℕ Global)) (place : Position) (fault : LoadFault) → IsFront held root found → found ≡ None → IsRefusal rule.NoModule place name fault →
     place ≡ start_of 0 → name ≡ root → RefusesTold held root fault
 unfolding IsFront IsRefusal RefusesTold
 told_absent held root name found place (Refused r text) front none is at same = λ told tells.
     let absent : None ≡ option_map (take (MODULE_BYTES + 1)) (text_of told root) =
     subst (λ (f : Option (Vec ℕ Global)). option_map (λ v. v.items) f ≡ option_map (take (MODULE_BYTES + 1)) (text_of told root)) none (front told tells) in
-    inl (is.1 ∙ same, absent_held (text_of told root) absent, is.0 ∙ ap (λ (p : Place). refusal_at rule.NoModule p) at)
+    inl (is.1 ∙ same, absent_held (text_of told root) absent, is.0 ∙ ap (λ (p : Position). refusal_at rule.NoModule p) at)
 told_absent held root name found place (Read text) front none is at same = tt
 told_absent held root name found place Memory front none is at same = tt

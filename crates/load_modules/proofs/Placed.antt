@@ -6,7 +6,7 @@ use Rattle.std.specs.Prelude.{option_map, min}
 use Rattle.std.specs.declared.alloc.Global.{Global}
 use Rattle.base_types.specs.Texts.{Texts, text_of}
 use Rattle.base_types.specs.declared.limits.TheConstants.{MODULE_BYTES}
-use Rattle.base_types.specs.declared.place.Place.{Place}
+use Rattle.base_types.specs.declared.place.Position.{Position}
 use Rattle.base_types.specs.declared.place.Refusal.{Refusal}
 use Rattle.base_types.specs.declared.place.Rule.{Rule}
 use Rattle.base_types.specs.declared.place.Rule.TheVariants as rule
@@ -121,24 +121,24 @@ refuses_open held root loading keys sources n (Read name) same at = tt
 refuses_open held root loading keys sources n Memory same at = tt
 
 -- the root is refused at its start
-pub refuses_start : (held : List (Option Texts)) (root name : List ℕ) (loading : Loading) (rule : Rule) (place : Place) (fault : LoadFault) → IsRefusal rule place name fault → place ≡ start_of 0 → name ≡ root →
+pub refuses_start : (held : List (Option Texts)) (root name : List ℕ) (loading : Loading) (rule : Rule) (place : Position) (fault : LoadFault) → IsRefusal rule place name fault → place ≡ start_of 0 → name ≡ root →
     Refuses held root loading fault
 unfolding Refuses IsRefusal
 refuses_start held root name loading rule place (Refused r text) is at same = λ told first tells knows. in_root (is.1 ∙ same) (at_start (ap (λ (x : Refusal). x.place) is.0 ∙ at))
 refuses_start held root name loading rule place (Read text) is at same = tt
 refuses_start held root name loading rule place Memory is at same = tt
 
-found_more : (texts more : List Text) (n : ℕ) (place : Place) → IsPlaceOf (slice_get texts n) place → IsPlaceOf (slice_get (texts ++ more) n) place
+found_more : (texts more : List Text) (n : ℕ) (place : Position) → IsPlaceOf (slice_get texts n) place → IsPlaceOf (slice_get (texts ++ more) n) place
 found_more [] more n place at = absurd at
 found_more (t ∷ texts) more zero place at = at
 found_more (t ∷ texts) more (suc n) place at = found_more texts more n place at
 
-text_more : (texts more : List Text) (found : Option Key) (place : Place) → IsPlaceOf (text_of_key texts found) place → IsPlaceOf (text_of_key (texts ++ more) found) place
+text_more : (texts more : List Text) (found : Option Key) (place : Position) → IsPlaceOf (text_of_key texts found) place → IsPlaceOf (text_of_key (texts ++ more) found) place
 text_more texts more None place at = absurd at
 text_more texts more (Some k) place at = found_more texts more k.text place at
 
 -- the place of an open is one of the text still, when more texts were read
-pub place_grown : (keys now : List Key) (sources read : List Source) (n : ℕ) (place : Place) → IsPlaceOf (text_at keys (texts_of sources) n) place → now ≡ keys → IsGrown (texts_of sources) (texts_of read) →
+pub place_grown : (keys now : List Key) (sources read : List Source) (n : ℕ) (place : Position) → IsPlaceOf (text_at keys (texts_of sources) n) place → now ≡ keys → IsGrown (texts_of sources) (texts_of read) →
     IsPlaceOf (text_at now (texts_of read) n) place
 place_grown keys now sources read n place at same grown =
     let P : List Key → List Text → Type 0 = λ ks ts. IsPlaceOf (text_at ks ts n) place in

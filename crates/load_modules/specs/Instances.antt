@@ -1,8 +1,9 @@
--- The instances of a root: the least set of texts with arguments that holds the root without arguments and is closed under opens,
--- those that enums imply and that of the integers among them. Nothing here says in which order they are found.
+-- The instances of a root: the least set of texts with arguments that holds the root without
+-- arguments and is closed under opens, those that enums imply and that of the integers among them.
+-- Nothing here says in which order they are found.
 use Rattle.std.specs.Prelude.{◌≡◌, ◌≢◌, ℕ, zero, suc, ◌+◌, ◌<◌, Bool, false, List, [], ◌∷◌, length, slice_get, Option, Some, None, codes}
 use Rattle.base_types.specs.Texts.{Texts}
-use Rattle.base_types.specs.declared.place.Place.{Place}
+use Rattle.base_types.specs.declared.place.Position.{Position}
 use Rattle.syntax_tree.specs.declared.expr.QualName.{QualName}
 use Rattle.syntax_tree.specs.declared.module.Module.{Module}
 use Rattle.syntax_tree.specs.declared.module.Open.{Open}
@@ -79,7 +80,7 @@ module _ (told : List Texts) (root : List ℕ) (tree : Module) where
     -- what the arguments of the open of this number stand for
     pub data AreGiven : Given → ℕ → List SigName → Arguments → Type 0 where
       none_given : (i : Given) (k : ℕ) → AreGiven i k [] nothing
-      int_given : (i : Given) (k : ℕ) (place : Place) (names : List SigName) (arguments : Arguments) → AreGiven i k names arguments →
+      int_given : (i : Given) (k : ℕ) (place : Position) (names : List SigName) (arguments : Arguments) → AreGiven i k names arguments →
           AreGiven i k (sig_name.Int place ∷ names) (int_and arguments)
       name_given : (i : Given) (k : ℕ) (name : QualName) (c : Candidate) (a : Argument) (names : List SigName) (arguments : Arguments) → Names i k name c → StandsFor i c a →
           AreGiven i k names arguments → AreGiven i k (sig_name.Name name ∷ names) (with_argument a arguments)

@@ -1,10 +1,11 @@
--- The order of the walk over opens, the labels that it gives, and its first refusal. A point of the walk is a list of numbers, and points are
--- passed in the order of such lists, as words are in a dictionary.
+-- The order of the walk over opens, the labels that it gives, and its first refusal. A point of
+-- the walk is a list of numbers, and points are passed in the order of such lists, as words are in
+-- a dictionary.
 use Rattle.std.specs.Prelude.{◌≡◌, ◌≢◌, ◌⊎◌, ℕ, suc, ◌+◌, ◌<◌, ◌≤◌, List, [], ◌∷◌, ◌++◌, map, take, length, slice_get, Option, Some, None, Ok, Err, IsTrue, codes, decimal, ⊤}
 use Rattle.std.specs.List.{AllPairs}
 use Rattle.base_types.specs.Texts.{Texts, text_of}
 use Rattle.base_types.specs.declared.limits.TheConstants.{MODULE_BYTES, MODULE_INSTANCES, TREE_DEPTH}
-use Rattle.base_types.specs.declared.place.Place.{Place}
+use Rattle.base_types.specs.declared.place.Position.{Position}
 use Rattle.base_types.specs.declared.place.Refusal.{Refusal}
 use Rattle.base_types.specs.declared.place.Rule.{Rule}
 use Rattle.base_types.specs.declared.place.Rule.TheVariants as rule

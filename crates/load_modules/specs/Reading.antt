@@ -1,4 +1,4 @@
--- Which tree a text has.
+-- Which tree a text has: that of the module that its tokens spell.
 use Rattle.std.specs.Prelude.{◌≡◌, ℕ, ◌≤◌, List, length, IsTrue, Ok}
 use Rattle.base_types.specs.declared.limits.TheConstants.{MODULE_BYTES, TREE_DEPTH}
 use Rattle.syntax_lexer.specs.Tokens.{tokens_of}

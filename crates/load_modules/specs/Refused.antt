@@ -1,4 +1,4 @@
--- Where the refusals of loading stand.
+-- Where the refusals of loading stand: in which text, and at which of its places.
 use Rattle.std.specs.Prelude.{◌≡◌, ◌⊎◌, ℕ, ◌<◌, ◌≤◌, List, map, length, Option, Some, None, Ok, Err, IsTrue}
 use Rattle.base_types.specs.Texts.{Texts, text_of}
 use Rattle.base_types.specs.declared.limits.TheConstants.{MODULE_BYTES}

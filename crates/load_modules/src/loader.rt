@@ -1,4 +1,4 @@
-//! Loading of a model.
+//! Loads a model: a file, or a text with a name, and all that it opens.
 #![tactic(auto, using(crate::proofs::Placed::refuses_memory, crate::proofs::Placed::refuses_unread, crate::proofs::Placed::refuses_later, crate::proofs::Placed::refuses_open, crate::proofs::Placed::refuses_start, crate::proofs::Placed::refuses_same, crate::proofs::Placed::refuses_path, load_state::proofs::Faults::quiet_causes, load_state::proofs::Faults::later_causes, load_state::proofs::Faults::memory_is_quiet, load_state::proofs::Faults::later_fault, load_state::proofs::Faults::quiet_fault, load_state::proofs::Faults::memory_fault, load_state::proofs::Faults::refusal_is_quiet, crate::proofs::Known::keeps_itself, crate::proofs::Known::keeps_same, crate::proofs::Known::keeps_on, crate::proofs::Known::keeps_path, crate::proofs::Known::stays_itself, crate::proofs::Known::stays_same, crate::proofs::Known::stays_on, crate::proofs::Known::stays_plain))]
 
 ghost use Rattle.std.specs.Prelude.{◌≡◌, ◌≤◌, ◌++◌, ◌∷◌, [], IfOk, IfErr, OnOk, length, map};

@@ -1,4 +1,4 @@
-//! A text is cut into tokens and parsed.
+//! Cuts a text into tokens, and parses it.
 #![tactic(auto, using(load_state::proofs::Faults::refusal_is_quiet, load_state::proofs::Faults::memory_is_quiet, crate::proofs::Broken::uncut_quiet, crate::proofs::Broken::uncut_refused, crate::proofs::Broken::uncut_memory, crate::proofs::Broken::token_refused))]
 
 ghost use Rattle.std.specs.Prelude.{◌≡◌, ◌<◌, ◌≤◌, ◌^◌, length, IfOk, IfErr, IsTrue, Ok};

@@ -1,4 +1,4 @@
-//! The walk over opens.
+//! The walk over opens asks for each text once, and puts it behind the others.
 #![tactic(auto, using(crate::proofs::Broken::text_memory, crate::proofs::Placed::refuses_memory, crate::proofs::Placed::refuses_unread, crate::proofs::Placed::refuses_later, crate::proofs::Placed::refuses_open, load_state::proofs::Opens::place_of_asked, crate::proofs::Placed::refuses_same, load_state::proofs::Faults::quiet_causes, load_state::proofs::Faults::later_causes, load_state::proofs::Faults::later_fault, load_state::proofs::Faults::quiet_fault, load_state::proofs::Faults::memory_fault, load_state::proofs::Faults::memory_is_quiet, load_state::proofs::Faults::refusal_is_quiet, crate::proofs::Known::keeps_itself, crate::proofs::Known::keeps_same, crate::proofs::Known::keeps_on, crate::proofs::Known::keeps_learnt, crate::proofs::Known::keeps_path, crate::proofs::Known::stays_itself, crate::proofs::Known::stays_same, crate::proofs::Known::stays_on, crate::proofs::Known::stays_placed))]
 
 ghost use Rattle.std.specs.Prelude.{◌≡◌, ◌<◌, ◌≤◌, true, IsTrue, IfErr, IfOk, OnOk, length, map};

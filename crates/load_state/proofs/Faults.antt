@@ -2,7 +2,7 @@
 use Rattle.std.proofs.Common.{◌≡◌, ℕ, List, [], ◌∷◌, Result, Ok, Err, IsTrue, IfErr, refl, sym, ap, subst, ◌∙◌, arith}
 use Rattle.base_types.specs.Causes.{NoneFell, ListCause}
 use Rattle.base_types.specs.declared.library.FetchFault.TheVariants as fetch
-use Rattle.base_types.specs.declared.place.Place.{Place}
+use Rattle.base_types.specs.declared.place.Position.{Position}
 use Rattle.base_types.specs.declared.place.Refusal.{Refusal}
 use Rattle.base_types.specs.declared.place.Rule.{Rule}
 use Rattle.load_state.specs.Refusals.{is_of_loading}
@@ -35,7 +35,7 @@ pub memory_fault : (root before now : List ℕ) (fault : LoadFault) → now ≡ 
 memory_fault root before now fault same memory = quiet_fault root before now fault same (memory_is_quiet fault memory)
 
 -- a refusal by a rule of loading is quiet
-pub refusal_is_quiet : (rule : Rule) (place : Place) (text : List ℕ) (fault : LoadFault) → IsRefusal rule place text fault → IsTrue (is_of_loading rule) → IsQuietFault fault
+pub refusal_is_quiet : (rule : Rule) (place : Position) (text : List ℕ) (fault : LoadFault) → IsRefusal rule place text fault → IsTrue (is_of_loading rule) → IsQuietFault fault
 unfolding IsQuietFault IsRefusal
 refusal_is_quiet rule place text (Refused refusal name) is of_loading = let P : Rule → Type 0 = λ r. IsTrue (is_of_loading r) in subst P (sym (ap (λ (r : Refusal). r.rule) is.0)) of_loading
 refusal_is_quiet rule place text (Read name) is of_loading = absurd is

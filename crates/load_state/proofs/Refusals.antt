@@ -1,6 +1,6 @@
 -- Where the refusals of opens stand.
 use Rattle.std.proofs.Common.{◌≡◌, ℕ, List, Option, Some, sym, ap, subst, ◌∙◌, slice_get}
-use Rattle.base_types.specs.declared.place.Place.{Place}
+use Rattle.base_types.specs.declared.place.Position.{Position}
 use Rattle.base_types.specs.declared.place.Refusal.{Refusal}
 use Rattle.base_types.specs.declared.place.Rule.{Rule}
 use Rattle.syntax_tree.specs.declared.expr.Named.{Named}
@@ -28,7 +28,7 @@ unfolding IsInText
 memory_in_text t fault same = let P : LoadFault → Type 0 = λ f. IsInText t f in subst P (sym same) tt
 
 -- an argument that is refused
-pub refused_argument : (text other : List ℕ) (n : QualName) (written : SigName) (rule : Rule) (place : Place) (fault : LoadFault) → IsRefusal rule place other fault → place ≡ n.place → other ≡ text →
+pub refused_argument : (text other : List ℕ) (n : QualName) (written : SigName) (rule : Rule) (place : Position) (fault : LoadFault) → IsRefusal rule place other fault → place ≡ n.place → other ≡ text →
     written ≡ sig_name.Name n → IsAtArgument text written fault
 unfolding IsAtArgument IsRefusal
 refused_argument text other n written rule place (Refused refusal name) is at same named =
@@ -52,7 +52,7 @@ refused_given text o (Read name) at = absurd at
 refused_given text o Memory at = tt
 
 -- the alias of an open is refused
-pub refused_alias : (text other : List ℕ) (o : Open) (alias : Named) (rule : Rule) (place : Place) (fault : LoadFault) → IsRefusal rule place other fault → o.alias ≡ Some alias → place ≡ alias.place → other ≡ text →
+pub refused_alias : (text other : List ℕ) (o : Open) (alias : Named) (rule : Rule) (place : Position) (fault : LoadFault) → IsRefusal rule place other fault → o.alias ≡ Some alias → place ≡ alias.place → other ≡ text →
     IsAtOpen text o fault
 unfolding IsAtOpen IsRefusal
 refused_alias text other o alias rule place (Refused refusal name) is named at same = (is.1 ∙ same, of_alias alias named (ap (λ (r : Refusal). r.place) is.0 ∙ at))
@@ -67,7 +67,7 @@ refused_written text t found n o (Read name) at here is same = absurd at
 refused_written text t found n o Memory at here is same = tt
 
 -- a text is refused at a place of its opens
-pub refused_at : (t : Text) (found : Option Text) (rule : Rule) (place : Place) (text : List ℕ) (fault : LoadFault) → IsRefusal rule place text fault → found ≡ Some t → text ≡ t.name → IsPlaceOf found place → IsInText found fault
+pub refused_at : (t : Text) (found : Option Text) (rule : Rule) (place : Position) (text : List ℕ) (fault : LoadFault) → IsRefusal rule place text fault → found ≡ Some t → text ≡ t.name → IsPlaceOf found place → IsInText found fault
 unfolding IsRefusal IsInText
 refused_at t found rule place text (Refused refusal name) is here same at =
     let open_place : IsPlaceOf (Some t) refusal.place =

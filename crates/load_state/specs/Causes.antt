@@ -1,7 +1,7 @@
 -- What stands behind the answers of loading, by the libraries' counts of faults before and after.
 use Rattle.std.specs.Prelude.{◌≡◌, ℕ, IsTrue, List, [], Result, Ok, Err}
 use Rattle.base_types.specs.Causes.{NoneFell, SomeRose}
-use Rattle.base_types.specs.declared.place.Place.{Place}
+use Rattle.base_types.specs.declared.place.Position.{Position}
 use Rattle.base_types.specs.declared.place.Rule.{Rule}
 use Rattle.load_state.specs.Names.{folder_of, file_name}
 use Rattle.load_state.specs.Refusals.{is_of_loading, refusal_at}
@@ -33,7 +33,7 @@ IsQuietFault (Read name) = ⊥
 IsQuietFault Memory = Unit {0}
 
 -- the refusal by this rule at this place of this text, or want of memory
-unfoldable pub IsRefusal : Rule → Place → List ℕ → LoadFault → Type 0
+unfoldable pub IsRefusal : Rule → Position → List ℕ → LoadFault → Type 0
 IsRefusal rule place text (Refused refusal name) = (refusal ≡ refusal_at rule place) × (name ≡ text)
 IsRefusal rule place text (Read name) = ⊥
 IsRefusal rule place text Memory = Unit {0}

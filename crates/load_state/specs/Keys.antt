@@ -1,4 +1,4 @@
--- Instances as texts with arguments.
+-- Instances as texts with arguments: no two of them have one text with equal arguments.
 use Rattle.std.specs.Prelude.{◌≡◌, ◌≢◌, ℕ, ◌+◌, ◌<◌, ◌==◌, Bool, false, not, ◌&&◌, ◌||◌, cond, List, [], ◌∷◌, map, length, slice_index_or, slice_get, bytes_eq, Option, Some, None}
 use Rattle.std.specs.List.{AllPairs, list_any}
 use Rattle.syntax_tree.specs.declared.instance.Instance.{Instance}

@@ -1,4 +1,5 @@
--- Where the opens of a model lead, by what was answered for the names that are tried, and what their arguments are.
+-- Where the opens of a model lead, by what was answered for the names that are tried, and what
+-- their arguments are.
 use Rattle.std.specs.Prelude.{◌≡◌, ℕ, ◌+◌, true, List, [], ◌∷◌, length, slice_get, Option, Some, None, codes, ⊤}
 use Rattle.syntax_tree.specs.declared.expr.QualName.{QualName}
 use Rattle.syntax_tree.specs.declared.instance.Instance.{Instance}

@@ -1,6 +1,6 @@
 -- What the opens of a module ask for: those that are written, and those that its enums imply.
 use Rattle.std.specs.Prelude.{◌≡◌, ℕ, ◌+◌, Bool, false, List, [], ◌∷◌, ◌++◌, map, length, slice_get, string_bytes, Option, Some, None, codes, ⊤}
-use Rattle.base_types.specs.declared.place.Place.{Place}
+use Rattle.base_types.specs.declared.place.Position.{Position}
 use Rattle.syntax_tree.specs.Instances.{sigs_in}
 use Rattle.syntax_tree.specs.declared.expr.Named.{Named}
 use Rattle.syntax_tree.specs.declared.expr.QualName.{QualName}
@@ -55,7 +55,7 @@ is_hidden (written o) = o.is_private
 is_hidden (implied e) = false
 
 -- the place of what is wrong with an open: that of its path, or of the enum
-abbrev pub place_of : Opening → Place
+abbrev pub place_of : Opening → Position
 place_of (written o) = o.path.place
 place_of (implied e) = e.place
 
@@ -90,16 +90,16 @@ IsAsked None instance number request = ⊥
 IsAsked (Some t) instance number request = (o : Opening) × (slice_get (openings_of t.tree) number ≡ Some o) × AsksFor instance o request
 
 -- the places of the alias and the arguments of a written open
-pub data IsInOpen (o : Open) (p : Place) : Type 0 where
+pub data IsInOpen (o : Open) (p : Position) : Type 0 where
   of_alias : (alias : Named) → o.alias ≡ Some alias → p ≡ alias.place → IsInOpen o p
   of_argument : (k : ℕ) (name : QualName) → slice_get o.arguments k ≡ Some (sig_name.Name name) → p ≡ name.place → IsInOpen o p
 
 -- the places at which loading can refuse the opens of a module
-pub data IsOpenPlace (m : Module) (p : Place) : Type 0 where
+pub data IsOpenPlace (m : Module) (p : Position) : Type 0 where
   of_opening : (n : ℕ) (o : Opening) → slice_get (openings_of m) n ≡ Some o → p ≡ place_of o → IsOpenPlace m p
   within : (n : ℕ) (o : Open) → slice_get m.opens n ≡ Some o → IsInOpen o p → IsOpenPlace m p
 
-abbrev pub IsPlaceOf : Option Text → Place → Type 0
+abbrev pub IsPlaceOf : Option Text → Position → Type 0
 IsPlaceOf None p = ⊥
 IsPlaceOf (Some t) p = IsOpenPlace t.tree p
 

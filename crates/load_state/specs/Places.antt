@@ -1,6 +1,6 @@
 -- Where a refusal of an open stands, or else memory was wanting.
 use Rattle.std.specs.Prelude.{◌≡◌, ℕ, List, slice_get, Option, Some, None}
-use Rattle.base_types.specs.declared.place.Place.{Place}
+use Rattle.base_types.specs.declared.place.Position.{Position}
 use Rattle.syntax_tree.specs.declared.expr.QualName.{QualName}
 use Rattle.syntax_tree.specs.declared.instance.Text.{Text}
 use Rattle.syntax_tree.specs.declared.module.Open.{Open}
@@ -29,7 +29,7 @@ IsAtSome text names (Refused refusal name) = (name ≡ text) × (k : ℕ) × (wr
 IsAtSome text names (Read name) = ⊥
 IsAtSome text names Memory = Unit {0}
 
-abbrev pub IsPlacedIn : Option Text → List ℕ → Place → Type 0
+abbrev pub IsPlacedIn : Option Text → List ℕ → Position → Type 0
 IsPlacedIn None name place = ⊥
 IsPlacedIn (Some t) name place = (name ≡ t.name) × IsOpenPlace t.tree place
 

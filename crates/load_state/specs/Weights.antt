@@ -1,4 +1,4 @@
--- How much the texts of a model hold.
+-- How much the texts of a model hold: paragraphs, declared names and literals.
 use Rattle.std.specs.Prelude.{ℕ, ◌+◌, ◌≤◌, List, [], ◌∷◌, length, slice_get, unwrap_or, sum_by, ⊤}
 use Rattle.syntax_tree.specs.Instances.{names_of, literals_of}
 use Rattle.syntax_tree.specs.declared.instance.Instance.{Instance}

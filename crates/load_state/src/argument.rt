@@ -1,4 +1,4 @@
-//! What an argument of an open stands for.
+//! An argument of an open stands for a sig, or for `Int`.
 #![tactic(auto, using(crate::proofs::Faults::refusal_is_quiet, crate::proofs::Refusals::refused_argument))]
 
 ghost use Rattle.std.specs.Prelude.{IfErr, IfOk};

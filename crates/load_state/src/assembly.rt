@@ -1,4 +1,5 @@
-//! A model is put together.
+//! A model is put together from its texts, its instances and their opens.
+
 ghost use Rattle.std.specs.Prelude.{◌≡◌, IfOk, map};
 ghost use Rattle.syntax_tree.specs.Instances.{sig_count};
 ghost use Rattle.load_state.specs.Keys.{pair_of, pairs_of, texts_of};

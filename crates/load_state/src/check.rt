@@ -1,4 +1,5 @@
-//! Which numbers of a model are in range.
+//! Tests that all numbers of a loaded model are in range.
+
 ghost use Rattle.std.specs.Prelude.{◌≡◌, nat_lt, false, List, map};
 ghost use Rattle.std.specs.List.{list_all};
 ghost use Rattle.std.specs.Option.{option_map_or};

@@ -1,4 +1,5 @@
-//! How many things a text declares.
+//! Counts what a text declares.
+
 ghost use Rattle.std.specs.Prelude.{◌≡◌, ◌+◌, IfOk, MatchOption, length, sum_by};
 ghost use Rattle.syntax_tree.specs.Instances.{sigs_in, sig_count, parameter_count, names_in, names_of};
 ghost use Rattle.load_state.specs.Weights.{weight_at, total_weight};

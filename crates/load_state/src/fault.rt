@@ -1,4 +1,5 @@
-//! Why a model could not be loaded.
+//! A model could not be loaded: a rule is broken, a library failed, or memory was wanting.
+
 use base_types::{Name, Refusal};
 use std::alloc::{AllocError, AllocFailed};
 

@@ -1,4 +1,5 @@
-//! The labels of instances.
+//! Each instance has a label of its own, made from a path.
+
 use crate::loading::Key;
 use base_types::Name;
 use std::alloc::{AllocError, Global};

@@ -1,5 +1,6 @@
-//! What has been loaded of a model so far: its texts, its instances and their opens, what an open asks for and where it
-//! leads, and how the model is put together at the end.
+//! What has been loaded of a model so far, and how the model is put together at the end.
+//!
+//! Loaded are texts, instances and their opens: what an open asks for, and where it leads.
 #![tactic(auto)]
 
 mod argument;

@@ -1,4 +1,5 @@
-//! What has been loaded so far.
+//! What has been loaded so far: answers for names, texts, instances and their opens.
+
 ghost use Rattle.std.specs.Prelude.{◌≡◌, ◌++◌, [], ◌∷◌, OnOk, IfOk, MatchOption, slice_get, Some};
 ghost use Rattle.std.specs.Bool.{Decides};
 ghost use Rattle.load_state.specs.Keys.{pair_of, Lacks, IsAt, answer_in, is_followed, is_open_from, texts_of, text_at};

@@ -1,4 +1,5 @@
-//! The names under which the text of a path is sought.
+//! The text of a path is sought under names that are made from it.
+
 ghost use Rattle.std.specs.Prelude.{◌≡◌, ◌++◌, IfOk, OnOk, string_bytes};
 ghost use Rattle.load_state.specs.Names.{folder_of, slashed, path_bytes, file_name, last_part};
 

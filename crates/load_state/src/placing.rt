@@ -1,4 +1,4 @@
-//! Opens, and the instances to which they lead.
+//! An open leads to an instance: one that was loaded before, or a new one.
 #![tactic(auto, using(crate::proofs::Faults::memory_is_quiet, crate::proofs::Faults::refusal_is_quiet, crate::proofs::Refusals::memory_in_text, crate::proofs::Refusals::refused_at, crate::proofs::Refusals::refused_written, crate::proofs::Opens::asked_written, crate::proofs::Opens::asked_implied, crate::proofs::Opens::opens_counted))]
 
 ghost use Rattle.std.specs.Prelude.{◌≡◌, ◌+◌, ◌<◌, ◌≤◌, true, false, IsTrue, IfErr, IfOk, OnOk, OnErr, length, map, [], ◌∷◌, ◌++◌};

@@ -1,4 +1,5 @@
-//! Sets of instances.
+//! A set of instances is a number, with a bit for each of them.
+
 /// A set of instances other than the root. There are at most 64 of these, numbered from 1 in the order of loading.
 #[derive(Clone, Copy, Debug, PartialEq, Eq)]
 pub struct InstanceSet {

@@ -1,15 +1,16 @@
-//! Refusals, each with the name of the text that has its place.
+//! A refusal goes with the name of the text that has its place.
+
 ghost use Rattle.std.specs.Prelude.{◌≡◌, IfOk};
 ghost use Rattle.load_state.specs.Causes.{IsRefusal, IsUnread};
 ghost use Rattle.load_state.specs.Refusals.{start_of};
 
 use crate::LoadFault;
-use base_types::{Name, Place, Refusal, Rule};
+use base_types::{Name, Position, Refusal, Rule};
 use std::alloc::{AllocError, Global};
 
 #[tactic(auto, unfolding(crate::specs::Causes::IsRefusal))]
 /// The refusal of a text by a rule that it breaks at a place.
-pub fn refused(alloc: Global, rule: Rule, place: Place, name: &str) -> LoadFault
+pub fn refused(alloc: Global, rule: Rule, place: Position, name: &str) -> LoadFault
     ensures { IsRefusal rule place name.now result }
 {
     match Name::copy(alloc, name) {
@@ -30,10 +31,10 @@ pub fn unread(alloc: Global, name: &str) -> LoadFault
 }
 
 /// The first place of a text.
-pub fn start_of(text: u32) -> Place
+pub fn start_of(text: u32) -> Position
     ensures { result ≡ start_of text }
 {
-    Place {
+    Position {
         module: text,
         line: 1,
         column: 1,

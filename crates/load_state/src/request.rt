@@ -1,4 +1,4 @@
-//! What an open asks for.
+//! An open asks for a text with arguments, under an alias.
 #![tactic(auto, using(crate::proofs::Faults::refusal_is_quiet, crate::proofs::Faults::memory_is_quiet, crate::proofs::Refusals::memory_at_some, crate::proofs::Refusals::memory_at_open, crate::proofs::Refusals::refused_some, crate::proofs::Refusals::refused_given, crate::proofs::Refusals::refused_alias))]
 
 ghost use Rattle.std.specs.Prelude.{◌≡◌, ◌<◌, IfErr, IfOk, Some, length, slice_get};
@@ -14,7 +14,7 @@ use crate::names::{last_part, path_text};
 use crate::refuse::refused;
 use crate::table::Enumerated;
 use base_lists::Items;
-use base_types::{Name, Place, Rule};
+use base_types::{Name, Position, Rule};
 use std::alloc::Global;
 use std::collections::HashSet;
 use syntax_tree::{ArgumentList, Open, SigName, SigRef};
@@ -23,7 +23,7 @@ use syntax_tree::{ArgumentList, Open, SigName, SigRef};
 #[derive(Drop)]
 pub struct Request {
     /// The place of a refusal of this open: that of its path, or of the enum that implies it.
-    pub place: Place,
+    pub place: Position,
     pub path: String,
     pub alias: Name,
     pub is_private: bool,

@@ -1,4 +1,5 @@
-//! The texts that were read.
+//! A text that was read is kept with its tree.
+
 ghost use Rattle.std.specs.Prelude.{◌≡◌, ◌≤◌, length};
 ghost use Rattle.syntax_tree.specs.Instances.{literals_of};
 ghost use Rattle.load_state.specs.Opens.{enums_of};

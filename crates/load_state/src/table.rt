@@ -1,4 +1,4 @@
-//! What a text says of the names of its sigs and parameters.
+//! A table says what names stand for in a text: its sigs, enums and parameters.
 #![tactic(auto, using(crate::proofs::Opens::enums_next))]
 
 ghost use Rattle.std.specs.Prelude.{◌≡◌, ◌+◌, ◌++◌, ◌∷◌, [], IfOk, IfSome, OnOk, Some, length, map, slice_get};
@@ -7,7 +7,7 @@ ghost use Rattle.syntax_tree.specs.Instances.{sigs_in};
 ghost use Rattle.load_state.specs.Opens.{enum_in, enums_of};
 ghost use Rattle.load_state.specs.Sigs as declares;
 
-use base_types::{Name, Place};
+use base_types::{Name, Position};
 use std::alloc::{AllocError, Global};
 use std::collections::HashMap;
 use syntax_tree::{Module, Named, Paragraph, Parameter, Qualifier};
@@ -56,7 +56,7 @@ impl Known {
 #[derive(Clone, Copy, Debug)]
 pub struct Enumerated {
     /// The place of its name.
-    pub place: Place,
+    pub place: Position,
     /// Its number among the sigs of the text.
     pub sig: u32,
 }

@@ -1,4 +1,4 @@
-// The predicates and functions of a model.
+//! Makes the predicates and functions of a model, and gathers the calls in them.
 
 use crate::Edge;
 use crate::head::{Head, head_of};

@@ -1,4 +1,4 @@
-// Calls on a cycle of calls.
+//! Finds the calls that lie on a cycle of calls, and the one of them that counts first.
 
 ghost use Rattle.std.specs.Prelude.{◌<◌, length, IfOk, IfSome};
 

@@ -1,6 +1,6 @@
-// A call in a body.
+//! A call leads from the body in which it stands to the body that is called.
 
-use base_types::Place;
+use base_types::Position;
 use std::alloc::{AllocError, Global};
 
 /// A call in a body.
@@ -13,7 +13,7 @@ pub struct Edge {
     /// The instance in whose text the call stands.
     pub instance: u32,
     /// The place of the called name.
-    pub place: Place,
+    pub place: Position,
 }
 
 /// For each body the place of its first call among the calls, which are in the order of their

@@ -1,4 +1,4 @@
-// The parameters of a body and its result bound.
+//! The head of a body: its parameters, which become its first locals, and its result bound.
 
 use base_lists::Items;
 use base_types::Name;

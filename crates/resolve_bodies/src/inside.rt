@@ -1,4 +1,4 @@
-// What stands in the braces of a body.
+//! The inside of a body: what stands in its braces, with the names of its head as locals.
 
 use crate::head::Head;
 use core_tree::{Expr, Formula};
@@ -6,7 +6,7 @@ use resolve_expr::expression::prepare;
 use resolve_expr::places::{first_place, inner_place};
 use resolve_expr::roots::{Resolved, draft_of, formula_of, settle_term};
 use resolve_expr::state::{Setting, State, new_root};
-use resolve_readings::Place as RootPlace;
+use resolve_readings::RootPlace;
 use std::alloc::{AllocError, Global};
 use syntax_tree::{Fun, Paragraph, Pred};
 

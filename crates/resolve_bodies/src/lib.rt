@@ -1,8 +1,7 @@
-//! Which bodies call which: a rank for each body that is above those of the bodies that it calls, or
-//! a call on a cycle of calls.
+//! The predicates and functions of a model: their types, their bodies, and what they call.
 //!
-//! Predicates and functions: the types of their parameters and results, and their bodies by their
-//! readings.
+//! Each body gets a rank above those of the bodies that it calls; or else there is a call on a
+//! cycle of calls, and the one that counts first is given.
 #![tactic(auto)]
 
 mod cycle;
@@ -13,8 +12,6 @@ pub use edge::Edge;
 pub use order::{Ranks, call_ranks};
 
 mod bodies;
-#[cfg(test)]
-mod call_order_tests;
 mod head;
 mod inside;
 mod types;

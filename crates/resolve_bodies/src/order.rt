@@ -1,4 +1,4 @@
-// In what order no body calls a later one.
+//! Gives each body a rank above those of the bodies that it calls, or a call on a cycle.
 
 ghost use Rattle.std.specs.Prelude.{◌≡◌, ◌<◌, length, All, IsTrue, IfOk, IfSome};
 ghost use Rattle.resolve_bodies.specs.Falls.{DoesFall, AreFalling, IsOrder};

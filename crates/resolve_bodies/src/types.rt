@@ -1,4 +1,4 @@
-// The types of bodies.
+//! The types of bodies come from their bounds alone, without the formulas in them.
 
 use crate::head::{Head, head_of};
 use resolve_expr::known::{Known, Signature};

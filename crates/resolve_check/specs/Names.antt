@@ -1,5 +1,5 @@
--- Names with their columns, in the order in which they came into scope: a later one hides an earlier
--- one of its number.
+-- Names with their columns, in the order in which they came into scope: a later one hides an
+-- earlier one of its number.
 use Rattle.std.specs.Prelude.{ℕ, List, [], ◌∷◌}
 use Rattle.core_tree.specs.Columns.{Columns, no_columns, with_columns}
 use Rattle.resolve_check.specs.declared.names.Named.{Named}

@@ -1,4 +1,4 @@
-//! The bodies of a model.
+//! Tests the predicates and functions of a model: their parameters, results and bodies.
 
 ghost use Rattle.std.specs.Prelude.{◌≡◌, ◌<◌, ℕ, IfOk, IfSome, IsTrue, All};
 ghost use Rattle.core_tree.specs.Columns.{no_columns};

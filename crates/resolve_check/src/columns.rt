@@ -1,4 +1,4 @@
-//! Numbers of columns, where the parts of an expression fit.
+//! Counts the columns of an expression whose parts fit.
 
 ghost use Rattle.std.specs.Prelude.{◌≡◌, ◌&&◌, map};
 ghost use Rattle.core_tree.specs.Columns.{combined, or_zero};
@@ -11,6 +11,7 @@ use core_tree::{Multiplicity, RelationOp, Variable};
 pub fn few(columns: u64) -> Option<u32>
     ensures { result ≡ fits.few columns }
 {
+    // ArityLimit, S47: a relation has at most nine columns.
     if 1 <= columns && columns <= 9 {
         Some(columns as u32)
     } else {

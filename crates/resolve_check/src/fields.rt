@@ -1,4 +1,4 @@
-//! The fields of a model.
+//! Tests the fields of a model: owners, bounds and the columns of their rows.
 
 ghost use Rattle.std.specs.Prelude.{◌≡◌, ◌↔◌, ◌<◌, ◌+◌, ℕ, IfOk, IfSome, IsSome, IsTrue, All, length, slice_get, slice_index, Some};
 ghost use Rattle.core_tree.specs.declared.model.Field.{Field};

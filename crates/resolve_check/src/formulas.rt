@@ -1,4 +1,4 @@
-//! Formulas and bounds of a model.
+//! Tests the formulas and bounds of a model that may call every body.
 
 ghost use Rattle.std.specs.Prelude.{◌≡◌, ℕ, ◌<◌, IfOk, IfSome, IsTrue, slice_index};
 ghost use Rattle.core_tree.specs.Trees.{term_of, claim_of};

@@ -1,4 +1,4 @@
-//! Whether a model keeps what resolved models keep.
+//! Tests whether a model keeps what resolved models keep.
 
 ghost use Rattle.std.specs.Prelude.{◌≡◌, true, ◌<◌, ◌^◌, ℕ, IfOk, IfSome, IsTrue, All, length, slice_get, slice_index, Some};
 ghost use Rattle.core_tree.specs.declared.model.Field.{Field};

@@ -15,6 +15,3 @@ mod sigs;
 mod walk;
 
 pub use keeps::{keeps_model, keeps_value};
-
-#[cfg(test)]
-mod tests;

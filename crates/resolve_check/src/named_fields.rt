@@ -1,4 +1,4 @@
-//! The fields that stand in an expression.
+//! Gathers the fields that stand in an expression.
 
 use core_tree::{Expr, Formula, ItemList, Variable};
 use std::alloc::{AllocError, Global};

@@ -1,4 +1,4 @@
-//! Names with their columns.
+//! Names in scope, each with its number of columns, the innermost last.
 
 ghost use Rattle.std.specs.Prelude.{◌≡◌, IfOk, Some, eqb, if◌then◌else◌, map};
 ghost use Rattle.core_tree.specs.Columns.{with_columns};

@@ -1,4 +1,4 @@
-//! Numbers that fall from each place to those below it, where there is no way round.
+//! Finds numbers that fall from each place to those below it, where there is no way round.
 
 use crate::named_fields::fields_in;
 use core_tree::{Column, Field, ItemList, Sig, SigKind};

@@ -1,4 +1,4 @@
-//! What trees of a model may name.
+//! What trees of a model may name, and which bodies they may call.
 
 ghost use Rattle.std.specs.Prelude.{◌≡◌, slice_get, slice_index};
 ghost use Rattle.resolve_check.specs.Fits as fits;

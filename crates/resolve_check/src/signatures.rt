@@ -1,4 +1,4 @@
-//! What calls see of the bodies of a model.
+//! What calls see of a body: the columns of its parameters and of its result.
 
 ghost use Rattle.std.specs.Prelude.{◌≡◌, IfOk, IfSome, [], map};
 ghost use Rattle.core_tree.specs.declared.model.Field.{Field};

@@ -1,4 +1,4 @@
-//! The sigs of a model.
+//! Tests the sigs of a model: their parents and their appended facts.
 
 ghost use Rattle.std.specs.Prelude.{◌≡◌, ◌<◌, ℕ, IfOk, IfSome, IsTrue, All, length, slice_get, slice_index, Some};
 ghost use Rattle.core_tree.specs.declared.model.Sig.{Sig};

@@ -1,4 +1,4 @@
-//! Whether every part of a tree fits its place.
+//! Tests whether every part of a tree fits its place.
 
 ghost use Rattle.std.specs.Prelude.{◌≡◌, IfOk, map};
 ghost use Rattle.core_tree.specs.Trees.{term_of, claim_of, variable_of, term_list, claim_list, variable_list};

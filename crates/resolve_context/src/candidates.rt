@@ -1,4 +1,4 @@
-// The candidates of a name.
+//! Gathers the candidates of a name, by where its root stands.
 
 use crate::faults::Broken;
 use crate::known::{Known, is_integer, literal_number, sig_type};
@@ -6,7 +6,7 @@ use crate::locals::{find_local, number_of};
 use crate::meanings::{column_of, formula_meaning, int_type, no_rows, set_meaning};
 use crate::state::{Ground, Root, Setting, State, note_at, see};
 use base_lists::Items;
-use base_types::{Name, Place};
+use base_types::{Name, Position};
 use core_tree::Expr;
 use resolve_drafts::{Candidate, Draft, Target};
 use resolve_names::Decl;
@@ -434,7 +434,7 @@ fn drafted(
     setting: &Setting<'_>,
     state: &mut State,
     root: &mut Root,
-    place: Place,
+    place: Position,
     all: Items<Candidate>,
 ) -> Draft {
     if all.is_empty() {
@@ -480,7 +480,7 @@ fn this_draft(
     setting: &Setting<'_>,
     state: &mut State,
     root: &mut Root,
-    place: Place,
+    place: Position,
 ) -> Result<Draft, AllocError> {
     match find_local(state.locals.as_slice(), "this") {
         Some(local) => {
@@ -501,7 +501,7 @@ pub fn constant_draft(
     setting: &Setting<'_>,
     state: &mut State,
     root: &mut Root,
-    place: Place,
+    place: Position,
     constant: Constant,
 ) -> Result<Draft, AllocError> {
     see(root, place);
@@ -530,7 +530,7 @@ fn string_type(alloc: Global, known: &Known) -> Result<Columns, AllocError> {
 pub fn number_draft(
     alloc: Global,
     root: &mut Root,
-    place: Place,
+    place: Position,
     value: i64,
 ) -> Result<Draft, AllocError> {
     see(root, place);
@@ -546,7 +546,7 @@ pub fn literal_draft(
     setting: &Setting<'_>,
     state: &mut State,
     root: &mut Root,
-    place: Place,
+    place: Position,
     text: &Name,
 ) -> Result<Draft, AllocError> {
     see(root, place);

@@ -1,16 +1,23 @@
-// Broken rules, of which the first one counts.
+//! Broken rules have an order, and the first one counts.
 
-use base_types::Place;
+use base_types::Position;
 
 /// A rule that names and expressions may break.
 #[derive(Clone, Copy, Debug, Drop)]
 pub enum Broken {
+    /// S40: a name names nothing there.
     UnknownName,
+    /// S41: an expression has several readings.
     Ambiguous,
+    /// S42: an expression has no reading.
     NoReading,
+    /// S43: a root has more readings than 4,096.
     TooManyReadings,
+    /// S44: a predicate or function calls itself, directly or not.
     RecursiveCall,
+    /// S45: a variable of a quantifier or comprehension would range over relations.
     HigherOrder,
+    /// S47: an expression or a field has more than 9 columns.
     ArityLimit,
 }
 
@@ -18,7 +25,7 @@ pub enum Broken {
 #[derive(Clone, Copy, Debug, Drop)]
 pub struct Noted {
     pub instance: u32,
-    pub place: Place,
+    pub place: Position,
     pub broken: Broken,
 }
 
@@ -35,11 +42,11 @@ fn number_of(broken: Broken) -> u32 {
 }
 
 /// Whether a place stands before another in a text.
-pub fn is_place_before(a: Place, b: Place) -> bool {
+pub fn is_place_before(a: Position, b: Position) -> bool {
     a.line < b.line || a.line == b.line && a.column < b.column
 }
 
-fn is_same_place(a: Place, b: Place) -> bool {
+fn is_same_place(a: Position, b: Position) -> bool {
     a.line == b.line && a.column == b.column
 }
 

@@ -1,4 +1,4 @@
-// The words and operators of the text in the terms of the model.
+//! Puts the words and operators of the text into the terms of the model.
 
 use core_tree::{
     Comparison, Connective, IntOp, Multiplicity, Quantity, TemporalBinary, TemporalUnary,
@@ -10,26 +10,6 @@ use syntax_tree::{Comparator, FieldWord, Infix, Multiplicity as Word, Prefix, Qu
 pub fn has_private(words: &[FieldWord]) -> bool {
     for word in words {
         if matches!(*word, FieldWord::Private) {
-            return true;
-        }
-    }
-    false
-}
-
-/// Whether `var` stands among them.
-pub fn has_var(words: &[FieldWord]) -> bool {
-    for word in words {
-        if matches!(*word, FieldWord::Var) {
-            return true;
-        }
-    }
-    false
-}
-
-/// Whether `disj` stands among them.
-pub fn has_disj(words: &[FieldWord]) -> bool {
-    for word in words {
-        if matches!(*word, FieldWord::Disj) {
             return true;
         }
     }

@@ -1,4 +1,4 @@
-// Formulas from their parts; none where a part was refused.
+//! Makes formulas from their parts; none where a part was refused.
 
 use crate::forms::{InfixForm, PrefixForm, infix_form, is_logical};
 use core_tree::{Connective, Formula, TemporalBinary};

@@ -1,4 +1,4 @@
-// What is known of the declarations.
+//! What is known of the declarations so far: the types of sigs, fields and bodies.
 
 use crate::forms::has_private;
 use crate::locals::number_of;

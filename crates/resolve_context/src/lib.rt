@@ -1,7 +1,7 @@
-//! What the walk over expressions is made of: operators in the terms of the model, formulas from
-//! their parts, types of one column, variables in scope, and broken rules.
+//! What the walk over expressions stands on: declarations, scopes, candidates, and broken rules.
 //!
-//! What is known of the declarations, where a root stands, and the candidates of its names.
+//! Operators of the text become those of the model, formulas are made from their parts, and a name
+//! gets its candidates where it stands.
 #![tactic(auto)]
 
 pub mod candidates;

@@ -1,4 +1,4 @@
-// Variables, parameters and `let` names.
+//! Locals are variables, parameters and `let` names, each with a number.
 
 use base_types::Name;
 use resolve_types::Columns;

@@ -1,4 +1,4 @@
-// Types of one column, and what names and constants mean.
+//! What names and constants mean by themselves, and types of one column.
 
 use base_lists::Items;
 use resolve_readings::{Meaning, What};

@@ -1,10 +1,10 @@
-// The place of the first token of an expression.
+//! Finds the place of the first token of an expression.
 
-use base_types::Place;
+use base_types::Position;
 use syntax_tree::Expr;
 
 /// The place of the first token.
-pub fn first_place(tree: &Expr) -> Place {
+pub fn first_place(tree: &Expr) -> Position {
     match tree {
         Expr::Name(name) => name.place,
         Expr::At(place, _)
@@ -28,7 +28,7 @@ pub fn first_place(tree: &Expr) -> Place {
 }
 
 /// The place of the first token inside all parentheses round it.
-pub fn inner_place(tree: &Expr) -> Place {
+pub fn inner_place(tree: &Expr) -> Position {
     match tree {
         Expr::Parenthesis(_, inner) => inner_place(inner.get()),
         _ => first_place(tree),

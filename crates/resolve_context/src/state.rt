@@ -1,12 +1,12 @@
-// Where a root stands, and what is gathered on the way.
+//! Where a root stands, and what is gathered on the way over the roots.
 
 ghost use Rattle.std.specs.Prelude.{◌≡◌, Some, None};
-ghost use Rattle.base_types.specs.declared.place.Place.{Place};
+ghost use Rattle.base_types.specs.declared.place.Position.{Position};
 
 use crate::faults::{Broken, Noted, note};
 use crate::known::Known;
 use crate::locals::Local;
-use base_types::Place;
+use base_types::Position;
 use resolve_drafts::CallSite;
 use resolve_hierarchy::Hierarchy;
 use resolve_names::Names;
@@ -53,7 +53,7 @@ pub struct State {
 #[derive(Clone, Copy, Debug, Drop)]
 pub struct Root {
     /// The place of its first name, constant, number, literal or `this`.
-    pub first: Option<Place>,
+    pub first: Option<Position>,
     /// Whether a name of it names nothing.
     pub is_unknown: bool,
     /// Whether something in it was refused.
@@ -70,8 +70,8 @@ pub fn new_root() -> Root {
 }
 
 /// A name, constant, number, literal or `this` of the root.
-pub fn see(root: &mut Root, place: Place)
-    ensures kept { (first : Place) → root.old.first ≡ Some first → root.new ≡ root.old }
+pub fn see(root: &mut Root, place: Position)
+    ensures kept { (first : Position) → root.old.first ≡ Some first → root.new ≡ root.old }
     ensures first { root.old.first ≡ None → root.new ≡ record { first = Some place; is_unknown = root.old.is_unknown; is_spoilt = root.old.is_spoilt } }
 {
     if root.first.is_none() {
@@ -80,7 +80,7 @@ pub fn see(root: &mut Root, place: Place)
 }
 
 /// Notes a broken rule, where that is wanted.
-pub fn note_at(setting: &Setting<'_>, state: &mut State, place: Place, broken: Broken) {
+pub fn note_at(setting: &Setting<'_>, state: &mut State, place: Position, broken: Broken) {
     if setting.is_quiet {
         return;
     }

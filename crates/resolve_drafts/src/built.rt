@@ -1,9 +1,9 @@
-// What becomes of a part under a choice.
+//! What a part becomes under a choice: a tree, or a call that waits for arguments.
 
 ghost use Rattle.std.specs.Prelude.{◌≡◌, ◌++◌, ◌∷◌, [], IfOk};
 ghost use Rattle.resolve_drafts.specs.Calls.{call_of, IsGiven};
 
-use base_types::Place;
+use base_types::Position;
 use core_tree::{Expr, Formula};
 use std::alloc::{AllocError, Global};
 
@@ -11,7 +11,7 @@ use std::alloc::{AllocError, Global};
 #[derive(Clone, Copy, Debug, Drop)]
 pub struct CallSite {
     pub body: u32,
-    pub place: Place,
+    pub place: Position,
 }
 
 /// A call that waits for arguments.

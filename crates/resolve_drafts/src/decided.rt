@@ -1,4 +1,4 @@
-// The reading of a root, and its tree.
+//! A root is settled: it has its reading and the tree of it, or a reason why it has none.
 
 ghost use Rattle.std.specs.Prelude.{◌≡◌, IfOk};
 ghost use Rattle.resolve_readings.specs.Readings.{Decides, IsWithin, count_choices};
@@ -29,11 +29,11 @@ pub struct Reading {
 #[derive(Drop)]
 pub enum Settled {
     Read(Reading),
-    /// No reading is right.
+    /// S42: no reading is right.
     NoReading,
-    /// Several are right, and none is the root's reading.
+    /// S41: several are right, and none is the root's reading.
     Ambiguous,
-    /// There are more than 4,096 readings.
+    /// S43: there are more than 4,096 readings.
     TooMany,
 }
 

@@ -1,5 +1,7 @@
+//! A draft is a root on its way to the model: its names have candidates, the rest is resolved.
+
 use base_lists::Items;
-use base_types::Place;
+use base_types::Position;
 use core_tree::{Comparison, Expr, Formula, IntOp, Multiplicity};
 use resolve_readings::{Binary, Meaning, Unary};
 
@@ -32,7 +34,7 @@ pub struct Candidate {
 #[derive(Drop)]
 pub enum Draft {
     /// A name at its place.
-    Name(Place, Items<Candidate>),
+    Name(Position, Items<Candidate>),
     /// What has one meaning, with its tree.
     Known(Meaning, Expr),
     Single(Unary, Box<Draft>),

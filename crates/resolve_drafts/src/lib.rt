@@ -1,5 +1,4 @@
-//! Roots between their text and the model: a tree with the candidates of each name, its reading,
-//! and the resolved tree of that reading.
+//! Roots on their way to the model: candidates of each name, the reading, the resolved tree.
 #![tactic(auto)]
 
 mod built;

@@ -1,4 +1,4 @@
-// The part by which a draft's readings are judged.
+//! A draft is judged by its part, which has what each candidate of each name means.
 
 use crate::draft::{Candidate, Draft};
 use base_lists::Items;

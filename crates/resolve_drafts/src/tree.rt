@@ -1,8 +1,8 @@
-// The resolved tree of a draft under a choice.
+//! Builds the resolved tree of a draft under a choice.
 
 use crate::built::{Built, CallSite, begun, give};
 use crate::draft::{Candidate, Draft, Target};
-use base_types::Place;
+use base_types::Position;
 use core_tree::{Comparison, Expr, Formula, IntOp, Multiplicity, RelationOp, UnaryRelation};
 use resolve_readings::{Binary, Meaning, Multiplicity as Word, Unary, What};
 use std::alloc::{AllocError, Global};
@@ -10,7 +10,7 @@ use std::alloc::{AllocError, Global};
 /// The tree of a call's name.
 fn body_name(
     alloc: Global,
-    place: Place,
+    place: Position,
     body: u32,
     meaning: &Meaning,
     calls: &mut Vec<CallSite>,
@@ -38,7 +38,7 @@ fn combined(alloc: Global, op: RelationOp, left: Expr, right: Expr) -> Result<Ex
 /// The tree of a name that stands for a candidate.
 fn candidate_tree(
     alloc: Global,
-    place: Place,
+    place: Position,
     candidate: &Candidate,
     calls: &mut Vec<CallSite>,
 ) -> Result<Built, AllocError> {
@@ -58,7 +58,7 @@ fn candidate_tree(
 /// The tree of a name under a choice.
 fn name_tree(
     alloc: Global,
-    place: Place,
+    place: Position,
     candidates: &[Candidate],
     choice: &[usize],
     at: &mut usize,

@@ -1,4 +1,4 @@
-// The walk over an expression or a formula, which settles the roots in it.
+//! The walk over an expression or a formula, which settles the roots in it.
 
 use crate::pieces::{
     Bound, Value, add_value, add_variables, chosen_draft, comprehended, keep_locals, let_draft,
@@ -6,7 +6,7 @@ use crate::pieces::{
     settle_comparison, settle_sum, settle_value, summed, tested,
 };
 use crate::roots::{Piece, Resolved, draft_of, formula_of, single};
-use base_types::Place;
+use base_types::Position;
 use core_tree::{Expr, Formula, TemporalBinary};
 use resolve_context::candidates::{
     constant_draft, field_draft, literal_draft, name_draft, number_draft,
@@ -355,7 +355,7 @@ fn value_in(
     alloc: Global,
     setting: &Setting<'_>,
     state: &mut State,
-    start: Place,
+    start: Position,
     tree: &Tree,
 ) -> Result<Option<Resolved>, AllocError> {
     let mut root = new_root();

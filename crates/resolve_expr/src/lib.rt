@@ -1,5 +1,4 @@
-//! The walk over expressions and formulas: it prepares each root, settles its reading, and makes the
-//! resolved tree.
+//! The walk over expressions and formulas: it settles each root, and makes the resolved tree.
 #![tactic(auto)]
 
 pub mod expression;

@@ -1,7 +1,7 @@
-// What the forms of the text become, once their parts are prepared.
+//! What the forms of the text become, once their parts are prepared.
 
 use crate::roots::{Piece, Resolved, draft_of, settle_term, settle_test};
-use base_types::Place;
+use base_types::Position;
 use core_tree::{Expr, Formula, Quantity, Variable};
 use resolve_context::faults::Broken;
 use resolve_context::forms::{
@@ -12,7 +12,7 @@ use resolve_context::locals::{add_local, number_of};
 use resolve_context::meanings::{int_type, set_meaning};
 use resolve_context::state::{Root, Setting, State, note_at};
 use resolve_drafts::Draft;
-use resolve_readings::{Binary, Place as RootPlace};
+use resolve_readings::{Binary, RootPlace};
 use resolve_types::Columns;
 use std::alloc::{AllocError, Global};
 use syntax_tree::{Comparison as Compared, Multiplicity as Word, Named, Quantifier};
@@ -338,7 +338,7 @@ pub fn settle_sum(
     setting: &Setting<'_>,
     state: &mut State,
     root: Root,
-    start: Place,
+    start: Position,
     draft: Draft,
 ) -> Result<Option<Resolved>, AllocError> {
     let place = RootPlace::Columns(1);
@@ -351,7 +351,7 @@ pub fn settle_value(
     setting: &Setting<'_>,
     state: &mut State,
     root: Root,
-    start: Place,
+    start: Position,
     draft: Draft,
 ) -> Result<Option<Resolved>, AllocError> {
     let place = RootPlace::Value;
@@ -364,7 +364,7 @@ pub fn settle_bound(
     setting: &Setting<'_>,
     state: &mut State,
     root: Root,
-    start: Place,
+    start: Position,
     word: Option<Word>,
     piece: Piece,
     more: u32,
@@ -388,7 +388,7 @@ pub fn settle_comparison(
     setting: &Setting<'_>,
     state: &mut State,
     root: Root,
-    start: Place,
+    start: Position,
     comparison: Compared,
     left: Draft,
     right: Draft,

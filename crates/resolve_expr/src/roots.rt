@@ -1,12 +1,12 @@
-// A root with its reading.
+//! Settles a root, and gives its resolved tree with its type.
 
-use base_types::Place;
+use base_types::Position;
 use core_tree::{Expr, Formula};
 use resolve_context::faults::Broken;
 use resolve_context::meanings::formula_meaning;
 use resolve_context::state::{Root, Setting, State, note_at};
 use resolve_drafts::{Built, CallSite, Draft, Reading, Settled, part_of, settle};
-use resolve_readings::{Meaning, Place as RootPlace, Unary, What};
+use resolve_readings::{Meaning, RootPlace, Unary, What};
 use resolve_types::Columns;
 use std::alloc::{AllocError, Global};
 
@@ -63,7 +63,7 @@ fn width(meaning: &Meaning, more: u32) -> u32 {
 fn taken(
     setting: &Setting<'_>,
     state: &mut State,
-    at: Place,
+    at: Position,
     reading: Reading,
     more: u32,
 ) -> Option<(Built, Meaning)> {
@@ -76,6 +76,7 @@ fn taken(
     let Some(meaning) = meaning else {
         return None;
     };
+    // ArityLimit, S47: a relation has at most nine columns.
     if meaning.widest > 9 || width(&meaning, more) > 9 {
         note_at(setting, state, at, Broken::ArityLimit);
     }
@@ -90,7 +91,7 @@ fn settled(
     setting: &Setting<'_>,
     state: &mut State,
     root: Root,
-    start: Place,
+    start: Position,
     draft: Draft,
     place: RootPlace,
     more: u32,
@@ -171,7 +172,7 @@ pub fn settle_term(
     setting: &Setting<'_>,
     state: &mut State,
     root: Root,
-    start: Place,
+    start: Position,
     draft: Draft,
     place: RootPlace,
     more: u32,
@@ -189,7 +190,7 @@ pub fn settle_test(
     setting: &Setting<'_>,
     state: &mut State,
     root: Root,
-    start: Place,
+    start: Position,
     draft: Draft,
 ) -> Result<Option<Formula>, AllocError> {
     let place = RootPlace::Formula;
@@ -206,7 +207,7 @@ pub fn formula_of(
     setting: &Setting<'_>,
     state: &mut State,
     root: Root,
-    start: Place,
+    start: Position,
     piece: Piece,
 ) -> Result<Option<Formula>, AllocError> {
     match piece {

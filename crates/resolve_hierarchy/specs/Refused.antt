@@ -1,4 +1,4 @@
--- The refusals of a hierarchy.
+-- The refusals of a hierarchy: by which rules, and that each has a place of a text.
 use Rattle.std.specs.Prelude.{◌≡◌, ℕ, ◌<◌, Bool, true, false}
 use Rattle.base_types.specs.declared.place.Refusal.{Refusal}
 use Rattle.base_types.specs.declared.place.Rule.{Rule}

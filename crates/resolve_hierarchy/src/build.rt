@@ -1,4 +1,4 @@
-// The hierarchy of all sigs.
+//! Builds the lines and members of all sigs.
 
 ghost use Rattle.std.specs.Prelude.{length, IfErr};
 ghost use Rattle.resolve_hierarchy.specs.Refused.{IsFault};

@@ -1,5 +1,6 @@
-// The lines and members of sigs that are their own ancestors, or have such an ancestor: the first
-// refusal may be that of fields in such sigs.
+//! Sigs that are their own ancestors, or have such an ancestor: their lines and members.
+//!
+//! The first refusal of a model may be that of fields in such sigs.
 
 use crate::parents::{Above, Parent};
 use crate::search::{Search, add_parents, search_from};

@@ -1,20 +1,24 @@
-// Broken rules, of which the first one counts.
+//! Broken rules of declarations have an order, and the first one counts.
 
 ghost use Rattle.std.specs.Prelude.{length};
 ghost use Rattle.resolve_hierarchy.specs.Refused.{is_of_hierarchy, IsFault};
 ghost use Rattle.std.specs.Prelude.{◌≡◌, true};
 
 use crate::sigs::HierarchyFault;
-use base_types::{Place, Refusal, Rule};
+use base_types::{Position, Refusal, Rule};
 use resolve_names::place_in;
 use syntax_tree::Loaded;
 
 /// A rule that the declarations of sigs and fields may break.
 #[derive(Clone, Copy, Debug, Drop)]
 pub enum Broken {
+    /// S31: a parent's name doesn't mean exactly one sig.
     NoParent,
+    /// S32: a sig is its own ancestor.
     ParentCycle,
+    /// S33: `Int` or a subset sig is extended.
     ExtendsSubset,
+    /// S34: two fields of one sig, or of sigs that overlap, have one name.
     FieldTwice,
 }
 
@@ -22,7 +26,7 @@ pub enum Broken {
 #[derive(Clone, Copy, Debug, Drop)]
 pub struct Noted {
     pub instance: u32,
-    pub place: Place,
+    pub place: Position,
     pub broken: Broken,
 }
 
@@ -47,11 +51,11 @@ fn rule_of(broken: Broken) -> Rule
 }
 
 /// Whether a place stands before another in a text.
-fn is_place_before(a: Place, b: Place) -> bool {
+fn is_place_before(a: Position, b: Position) -> bool {
     a.line < b.line || a.line == b.line && a.column < b.column
 }
 
-fn is_same_place(a: Place, b: Place) -> bool {
+fn is_same_place(a: Position, b: Position) -> bool {
     a.line == b.line && a.column == b.column
 }
 

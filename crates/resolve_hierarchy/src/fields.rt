@@ -1,4 +1,4 @@
-// Fields of one name in sigs that overlap.
+//! Finds fields of one name in sigs that overlap.
 
 use crate::faults::{Broken, Noted, note};
 use crate::sigs::{members_of, some_meet};

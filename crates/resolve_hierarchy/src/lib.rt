@@ -12,6 +12,3 @@ mod sigs;
 
 pub use build::hierarchy;
 pub use sigs::{Hierarchy, HierarchyFault, Kind};
-
-#[cfg(test)]
-mod tests;

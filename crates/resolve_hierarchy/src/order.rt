@@ -1,5 +1,4 @@
-// An order of the sigs in which each stands behind its parents, and sigs that are their own
-// ancestors.
+//! An order of the sigs in which each stands behind its parents, and sigs on cycles of parents.
 
 use crate::faults::{Broken, Noted, note};
 use crate::parents::{Above, Parent};

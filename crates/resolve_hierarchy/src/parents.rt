@@ -1,8 +1,8 @@
-// The parents of sigs, as they are declared.
+//! Finds the parents of sigs, as they are declared.
 
 use crate::faults::{Broken, Noted, note};
 use base_lists::Items;
-use base_types::Place;
+use base_types::Position;
 use resolve_names::{Decl, Names, SigEntry, paragraph_at};
 use resolve_types::Member;
 use std::alloc::{AllocError, Global};
@@ -12,7 +12,7 @@ use syntax_tree::{Enumeration, Loaded, Paragraph, Parents, QualName, Sig, SigNam
 #[derive(Clone, Copy, Debug, Drop)]
 pub struct Parent {
     pub member: Member,
-    pub place: Place,
+    pub place: Position,
 }
 
 /// What stands after the name of a sig, with the parents that were found.

@@ -1,4 +1,4 @@
-// Searches that go from sigs to their parents.
+//! Searches go from sigs to their parents, and mark what they find.
 
 use crate::parents::Parent;
 use resolve_types::Member;

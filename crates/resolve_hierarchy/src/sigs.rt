@@ -1,4 +1,4 @@
-// The hierarchy, and what overlaps in it.
+//! The hierarchy of the sigs of all instances, and what overlaps in it.
 
 ghost use Rattle.std.specs.Prelude.{◌≡◌};
 ghost use Rattle.std.specs.List.{list_any};
@@ -6,9 +6,7 @@ ghost use Rattle.resolve_hierarchy.specs.Overlap.{meets_one, overlap_of, members
 
 use base_lists::Items;
 use base_types::Refusal;
-use resolve_names::Names;
 use resolve_types::{Member, meet};
-use syntax_tree::SigRef;
 
 /// Where a sig stands.
 #[derive(Drop)]
@@ -96,13 +94,5 @@ impl Hierarchy {
         let first = members_of(&self.members, a as usize);
         let second = members_of(&self.members, b as usize);
         some_meet(&self.lines, first, second)
-    }
-
-    /// Whether two sigs of the instances overlap: members of their types meet.
-    pub fn overlap(&self, names: &Names, a: SigRef, b: SigRef) -> bool {
-        match (names.sig_number(a), names.sig_number(b)) {
-            (Some(a), Some(b)) => self.numbers_overlap(a, b),
-            _ => false,
-        }
     }
 }

@@ -8,7 +8,6 @@ use Rattle.resolve_hierarchy.specs.Refused.{is_of_hierarchy, IsOfHierarchy}
 use Rattle.resolve_model.specs.Refused.{is_of_readings, IsOfReadings}
 
 implied : (r : Rule) → is_of_hierarchy r ≡ true → is_of_readings r ≡ true
-implied rule.NotBuilt e = absurd cc
 implied rule.BadByte e = absurd cc
 implied rule.OpenComment e = absurd cc
 implied rule.LongNumber e = absurd cc

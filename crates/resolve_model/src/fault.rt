@@ -1,3 +1,5 @@
+//! Why a model is not resolved: a broken rule with its place, or want of memory.
+
 use base_types::Refusal;
 
 /// Why there is no model.

@@ -1,4 +1,4 @@
-// The refusals of a model.
+//! A broken rule becomes a refusal at its place.
 
 ghost use Rattle.std.specs.Prelude.{◌≡◌, true, length};
 ghost use Rattle.resolve_model.specs.Refused.{is_of_readings, IsFault, IsValueFault};

@@ -1,4 +1,4 @@
-// The model of all loaded texts.
+//! Makes the model of all loaded texts, or gives the broken rule that counts first.
 
 ghost use Rattle.std.specs.Prelude.{length, IfOk, IfErr};
 ghost use Rattle.resolve_check.specs.Kept.{IsModelButTypes};

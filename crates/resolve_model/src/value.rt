@@ -1,4 +1,4 @@
-// An expression that is read as a value in the root.
+//! Reads an expression as a value in the root, or gives the broken rule that counts first.
 
 ghost use Rattle.std.specs.Prelude.{IfOk, IfErr};
 ghost use Rattle.core_tree.specs.Trees.{term_of};

@@ -8,7 +8,7 @@ use Rattle.std.proofs.lemmas.Slice.Eq.{bytes_eq-Decides}
 use Rattle.std.proofs.lemmas.Bool.{eqb-true, eq-eqb}
 use Rattle.resolve_names.specs.declared.table.Decl.{Decl}
 use Rattle.resolve_names.specs.declared.table.Declared.{Declared}
-use Rattle.resolve_names.specs.declared.table.Scope.{Scope}
+use Rattle.resolve_names.specs.declared.table.Namespace.{Namespace}
 use Rattle.syntax_tree.specs.declared.expr.QualName.{QualName}
 use Rattle.resolve_names.specs.Visible.{path_of, last_of, AreCandidates, Leads, Declaration, numbered, declarations_from, what_of, Kept, done, keep, skip}
 use Rattle.resolve_names.specs.Marks.{IsMarked, AreLed}
@@ -91,7 +91,7 @@ module _ (Led : ℕ → Type 0) (from : ℕ) (name : List ℕ) where
     kept_of (Some false) i ds e = ([], kept_none i ds (λ r. let marked = (just i).1 r in cc), refl)
     kept_of None i ds e = ([], kept_none i ds (λ r. let marked = (just i).1 r in cc), refl)
 
-    pub kept_from : (i : ℕ) (rest : List Scope) → (out : List Declaration) × Kept (IsSeen Led from name) (declarations_from i rest) out × (seen_from marks from name i rest ≡ map what_of out)
+    pub kept_from : (i : ℕ) (rest : List Namespace) → (out : List Declaration) × Kept (IsSeen Led from name) (declarations_from i rest) out × (seen_from marks from name i rest ≡ map what_of out)
     kept_from i [] = ([], done, refl)
     kept_from i (one ∷ rest) =
         let first = kept_of (slice_get marks i) i one.declared refl in
@@ -107,7 +107,7 @@ none_seen (Some false) is_own name ds all no_mark = sym (append-nil all)
 none_seen (Some true) is_own name ds all no_mark = absurd (no_mark refl)
 
 -- what is collected from the instances to which the part before a name leads are its candidates
-pub candidates_of : (scopes : List Scope) (from : ℕ) (name : QualName) (marks : List Bool) (all : List Decl) → AreLed scopes from name.is_own (path_of name.parts) marks →
+pub candidates_of : (scopes : List Namespace) (from : ℕ) (name : QualName) (marks : List Bool) (all : List Decl) → AreLed scopes from name.is_own (path_of name.parts) marks →
     all ≡ seen_from marks from (last_of name.parts) 0 scopes → AreCandidates scopes from name all
 candidates_of scopes from name marks all led is =
     let out = kept_from (Leads scopes from name.is_own (path_of name.parts)) from (last_of name.parts) marks led.just 0 scopes in

@@ -6,7 +6,7 @@ use Rattle.std.specs.Str.{bytes_eq}
 use Rattle.std.proofs.lemmas.Slice.Eq.{bytes_eq-Decides}
 use Rattle.std.proofs.lemmas.Bool.{eqb-true, eq-eqb}
 use Rattle.resolve_names.specs.declared.table.Link.{Link}
-use Rattle.resolve_names.specs.declared.table.Scope.{Scope}
+use Rattle.resolve_names.specs.declared.table.Namespace.{Namespace}
 use Rattle.resolve_names.specs.Visible.{HasOpen, IsStep, Follows}
 use Rattle.resolve_names.specs.Lookup.{may_follow}
 use Rattle.resolve_names.specs.Marks.{IsMarked, MayFollow, LeadsTo, AreOpened, IsAfter, AreFollowed, AreBehind, AreLed}
@@ -111,7 +111,7 @@ inside [] k x e = absurd cc
 inside (y ∷ xs) zero x e = omega arith
 inside (y ∷ xs) (suc k) x e = let less = inside xs k x e in omega arith
 
-module _ (scopes : List Scope) (from : ℕ) (alias : List ℕ) where
+module _ (scopes : List Namespace) (from : ℕ) (alias : List ℕ) where
   pub followed_none : (before : List Bool) (n : ℕ) → n ≡ length scopes → AreFollowed scopes from alias before 0 (replicate n false)
   followed_none before n e = record {
     every = length-replicate n false ∙ e;
@@ -191,17 +191,17 @@ module _ (scopes : List Scope) (from : ℕ) (alias : List ℕ) where
       back j (k, o, f, s, e) = (followed.just j).1 (k, o, inside scopes k s.0.0 s.0.1, (behind.just k).1 f, s, e)
 
 -- one alias more
-pub behind_more : (scopes : List Scope) (from : ℕ) (path : List (List ℕ)) (i : ℕ) (alias : List ℕ) (before marks : List Bool) → i < length path → alias ≡ get_or path i alias →
+pub behind_more : (scopes : List Namespace) (from : ℕ) (path : List (List ℕ)) (i : ℕ) (alias : List ℕ) (before marks : List Bool) → i < length path → alias ≡ get_or path i alias →
     AreBehind scopes from (take i path) before → AreFollowed scopes from alias before (length scopes) marks → AreBehind scopes from (take (i + 1) path) marks
 behind_more scopes from path i alias before marks lt at behind followed =
     subst (λ (p : List (List ℕ)). AreBehind scopes from p marks) (ap (λ (x : List ℕ). take i path ++ x ∷ []) at ∙ sym (take_more path i alias lt))
     (behind_on scopes from alias (take i path) before marks behind followed)
 
-pub behind_none : (scopes : List Scope) (from : ℕ) (marks : List Bool) → AreLed scopes from true [] marks → AreBehind scopes from [] marks
+pub behind_none : (scopes : List Namespace) (from : ℕ) (marks : List Bool) → AreLed scopes from true [] marks → AreBehind scopes from [] marks
 behind_none scopes from marks led = record { just = led.just }
 
 -- behind a path that isn't empty, whether `this` stands before it makes no difference
-pub led_behind : (scopes : List Scope) (from : ℕ) (is_own : Bool) (path : List (List ℕ)) (marks : List Bool) → (path ≡ [] → ⊥) → AreBehind scopes from path marks → AreLed scopes from is_own path marks
+pub led_behind : (scopes : List Namespace) (from : ℕ) (is_own : Bool) (path : List (List ℕ)) (marks : List Bool) → (path ≡ [] → ⊥) → AreBehind scopes from path marks → AreLed scopes from is_own path marks
 led_behind scopes from is_own [] marks never behind = absurd (never refl)
 led_behind scopes from true (first ∷ rest) marks never behind = record { just = behind.just }
 led_behind scopes from false (first ∷ rest) marks never behind = record { just = behind.just }

@@ -4,7 +4,7 @@ use Rattle.std.proofs.lemmas.List.{take_more}
 use Rattle.std.proofs.lemmas.List.Elements.{Contains-append_cases}
 use Rattle.std.proofs.lemmas.List.{length-replicate}
 use Rattle.resolve_names.specs.declared.table.Link.{Link}
-use Rattle.resolve_names.specs.declared.table.Scope.{Scope}
+use Rattle.resolve_names.specs.declared.table.Namespace.{Namespace}
 use Rattle.resolve_names.specs.Visible.{HasOpen, Passes, here, further, Reaches, own, through}
 use Rattle.resolve_names.specs.Marks.{IsMarked, IsLinked, IsNext, IsClosed, IsBegun, AreReached, AreLed}
 
@@ -36,7 +36,7 @@ set_length [] t = refl
 set_length (m ∷ marks) zero = refl
 set_length (m ∷ marks) (suc t) = ap suc (set_length marks t)
 
-module _ (scopes : List Scope) where
+module _ (scopes : List Namespace) where
   -- what is reached reaches on by an open that isn't private
   reaches_on : (i j : ℕ) (o : Link) → Reaches scopes i j → HasOpen scopes j o → o.is_private ≡ false → Reaches scopes i o.instance
   reaches_on i j o own h e = through h here
@@ -99,7 +99,7 @@ no_mark (suc n) zero e = cc
 no_mark (suc n) (suc j) e = no_mark n j e
 
 -- the first mark
-pub begun_first : (scopes : List Scope) (n from : ℕ) → n ≡ length scopes → from < length scopes → IsBegun scopes from [] (slice_set (replicate n false) from true)
+pub begun_first : (scopes : List Namespace) (n from : ℕ) → n ≡ length scopes → from < length scopes → IsBegun scopes from [] (slice_set (replicate n false) from true)
 begun_first scopes n from e lt = record {
   every = set_length (replicate n false) from ∙ length-replicate n false ∙ e;
   sound = λ j m. sound j (set_cases (replicate n false) from j m);
@@ -112,7 +112,7 @@ begun_first scopes n from e lt = record {
     sound j (inr m) = absurd (no_mark n j m)
 
 -- one open more
-pub begun_more : (scopes : List Scope) (from : ℕ) (opens : List Link) (marks : List Bool) (i : ℕ) (o : Link) → IsLinked scopes → HasOpen scopes from o → i < length opens → o ≡ get_or opens i o →
+pub begun_more : (scopes : List Namespace) (from : ℕ) (opens : List Link) (marks : List Bool) (i : ℕ) (o : Link) → IsLinked scopes → HasOpen scopes from o → i < length opens → o ≡ get_or opens i o →
     IsBegun scopes from (take i opens) marks → IsBegun scopes from (take (i + 1) opens) (slice_set marks o.instance true)
 begun_more scopes from opens marks i o linked h lt at begun = record {
   every = set_length marks o.instance ∙ begun.every;
@@ -137,7 +137,7 @@ begun_more scopes from opens marks i o linked h lt at begun = record {
     seed s (inr c) = subst (λ (t : Link). IsMarked (slice_set marks o.instance true) t.instance) (alone s c) (set_here marks o.instance inside)
 
 -- a mark of one instance alone
-pub own_led : (scopes : List Scope) (n from : ℕ) → n ≡ length scopes → from < length scopes → AreLed scopes from true [] (slice_set (replicate n false) from true)
+pub own_led : (scopes : List Namespace) (n from : ℕ) → n ≡ length scopes → from < length scopes → AreLed scopes from true [] (slice_set (replicate n false) from true)
 own_led scopes n from e lt = record { just = λ j. (λ m. only j (set_cases (replicate n false) from j m), λ is. subst (λ (k : ℕ). IsMarked (slice_set (replicate n false) from true) k) is (set_here (replicate n false) from (subst (λ (k : ℕ). from < k) (sym (length-replicate n false ∙ e)) lt))) }
   where
     only : (j : ℕ) → (j ≡ from) ⊎ IsMarked (replicate n false) j → from ≡ j

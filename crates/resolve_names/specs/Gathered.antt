@@ -23,7 +23,7 @@ use Rattle.resolve_names.specs.declared.table.Decl.{Decl}
 use Rattle.resolve_names.specs.declared.table.Decl.TheVariants as decl
 use Rattle.resolve_names.specs.declared.table.Declared.{Declared}
 use Rattle.resolve_names.specs.declared.table.Link.{Link}
-use Rattle.resolve_names.specs.declared.table.Scope.{Scope}
+use Rattle.resolve_names.specs.declared.table.Namespace.{Namespace}
 
 abbrev pub declared_as : Bool → Decl → Named → Declared
 declared_as is_private what name = record { name = name.name; is_private = is_private; what = what }
@@ -105,7 +105,7 @@ module_in None = no_module
 module_in (Some text) = text.tree
 
 -- The names of the instances from number i on; before them stand s sigs, f fields and b bodies.
-abbrev pub scopes_from : List Text → ℕ → ℕ → ℕ → ℕ → List Instance → List Scope
+abbrev pub scopes_from : List Text → ℕ → ℕ → ℕ → ℕ → List Instance → List Namespace
 scopes_from texts i s f b [] = []
 scopes_from texts i s f b (x ∷ xs) =
     let m = module_in (slice_get texts x.text) in
@@ -117,5 +117,5 @@ scopes_from texts i s f b (x ∷ xs) =
     } ∷ scopes_from texts (i + 1) (s + sig_count m) (f + sum_by fields_in m.paragraphs) (b + sum_by bodies_in m.paragraphs) xs
 
 -- the names of all instances, in load order
-abbrev pub scopes_of : List Text → List Instance → List Scope
+abbrev pub scopes_of : List Text → List Instance → List Namespace
 scopes_of texts instances = scopes_from texts 0 0 0 0 instances

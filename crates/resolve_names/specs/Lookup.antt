@@ -1,11 +1,12 @@
--- The opens that a look-up follows, and the declarations that it collects from the marked instances.
+-- The opens that a look-up follows, and the declarations that it collects from the marked
+-- instances.
 use Rattle.std.specs.Prelude.{ℕ, ◌+◌, ◌==◌, Bool, true, not, cond, ◌&&◌, ◌||◌, List, [], ◌∷◌, ◌++◌, Option, Some, None, slice_get}
 use Rattle.std.specs.List.{filter_map}
 use Rattle.std.specs.Str.{bytes_eq}
 use Rattle.resolve_names.specs.declared.table.Decl.{Decl}
 use Rattle.resolve_names.specs.declared.table.Declared.{Declared}
 use Rattle.resolve_names.specs.declared.table.Link.{Link}
-use Rattle.resolve_names.specs.declared.table.Scope.{Scope}
+use Rattle.resolve_names.specs.declared.table.Namespace.{Namespace}
 
 -- an open with the alias that may be followed
 abbrev pub may_follow : Bool → List ℕ → Link → Bool
@@ -24,6 +25,6 @@ seen_of (Some true) is_own name ds = filter_map (seen_in is_own name) ds
 seen_of _ is_own name ds = []
 
 -- those of the instances from a number on
-abbrev pub seen_from : List Bool → ℕ → List ℕ → ℕ → List Scope → List Decl
+abbrev pub seen_from : List Bool → ℕ → List ℕ → ℕ → List Namespace → List Decl
 seen_from marks from name i [] = []
 seen_from marks from name i (scope ∷ rest) = seen_of (slice_get marks i) (i == from) name scope.declared ++ seen_from marks from name (i + 1) rest

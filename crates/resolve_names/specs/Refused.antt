@@ -1,4 +1,4 @@
--- The refusal of names.
+-- The refusal of names: two are equal, at a place of a text.
 use Rattle.std.specs.Prelude.{◌≡◌, ℕ, ◌<◌}
 use Rattle.base_types.specs.declared.place.Refusal.{Refusal}
 use Rattle.base_types.specs.declared.place.Rule.TheVariants as rule

@@ -1,7 +1,7 @@
 -- Names that a module declares twice.
 use Rattle.std.specs.Prelude.{◌≡◌, ◌⊎◌, ℕ, ◌<◌, List, [], ◌∷◌, ◌++◌, map, Option, Some, None, slice_get}
 use Rattle.std.specs.List.{flat_map}
-use Rattle.base_types.specs.declared.place.Place.{Place}
+use Rattle.base_types.specs.declared.place.Position.{Position}
 use Rattle.base_types.specs.declared.place.Refusal.{Refusal}
 use Rattle.base_types.specs.declared.place.Rule.TheVariants as rule
 use Rattle.syntax_tree.specs.declared.expr.Named.{Named}
@@ -39,11 +39,11 @@ abbrev pub IsSecond : List Named → Named → Type 0
 IsSecond names b = (i j : ℕ) × (a : Named) × (i < j) × (slice_get names i ≡ Some a) × (slice_get names j ≡ Some b) × (a.name ≡ b.name)
 
 -- a module has a name of its sigs and parameters, or of its assertions, twice; the second one stands at the place
-abbrev pub IsTwiceAt : Module → Place → Type 0
+abbrev pub IsTwiceAt : Module → Position → Type 0
 IsTwiceAt m place = (b : Named) × (b.place ≡ place) × (IsSecond (sig_names m) b ⊎ IsSecond (assertion_names m) b)
 
 -- a stands before b in a text
-abbrev pub IsBefore : Place → Place → Type 0
+abbrev pub IsBefore : Position → Position → Type 0
 IsBefore a b = (a.line < b.line) ⊎ ((a.line ≡ b.line) × (a.column < b.column))
 
 -- the instance of number k has this text
@@ -52,16 +52,16 @@ HasModule texts instances k i m = (slice_get instances k ≡ Some i) × ((text :
 
 -- no instance has a name twice
 abbrev pub HasNoneTwice : List Text → List Instance → Type 0
-HasNoneTwice texts instances = (k : ℕ) (i : Instance) (m : Module) (p : Place) → HasModule texts instances k i m → IsTwiceAt m p → ⊥
+HasNoneTwice texts instances = (k : ℕ) (i : Instance) (m : Module) (p : Position) → HasModule texts instances k i m → IsTwiceAt m p → ⊥
 
 -- the refusal of the earliest instance that has a name twice, at the least place of a second one
 pub record IsFirstTwice (texts : List Text) (instances : List Instance) (r : Refusal) : Type 0 where
   pub number : ℕ
   pub instance : Instance
   pub tree : Module
-  pub place : Place
+  pub place : Position
   pub there : HasModule texts instances number instance tree
   pub twice : IsTwiceAt tree place
-  pub earliest : (k : ℕ) (i : Instance) (m : Module) (p : Place) → k < number → HasModule texts instances k i m → IsTwiceAt m p → ⊥
-  pub least : (p : Place) → IsTwiceAt tree p → IsBefore p place → ⊥
+  pub earliest : (k : ℕ) (i : Instance) (m : Module) (p : Position) → k < number → HasModule texts instances k i m → IsTwiceAt m p → ⊥
+  pub least : (p : Position) → IsTwiceAt tree p → IsBefore p place → ⊥
   pub refusal : r ≡ record { rule = rule.NameTwice; place = record { «module» = instance.text; line = place.line; column = place.column } }

@@ -1,4 +1,4 @@
-// What a text declares, with a number for each sig, field and body.
+//! Each sig, field and body that a text declares gets a number.
 
 use crate::table::{BodyEntry, Decl, Declared, FieldEntry, SigEntry};
 use base_lists::Items;

@@ -1,4 +1,4 @@
-// The instances to which the part before a name leads.
+//! The part of a name before its last slash leads to instances.
 
 ghost use Rattle.std.specs.Prelude.{◌≡◌, ◌+◌, ◌<◌, true, false, IfOk, [], ◌∷◌, Contains, length};
 ghost use Rattle.std.specs.Str.{bytes_eq};
@@ -8,7 +8,7 @@ ghost use Rattle.resolve_names.specs.Marks.{AreLed, IsLinked, AreOpened, AreFoll
 ghost use Rattle.resolve_names.specs.Visible.{path_of, last_of};
 
 use crate::reach::{is_marked, mark, no_marks, opens_of, reached};
-use crate::table::{Link, Names, Scope};
+use crate::table::{Link, Names, Namespace};
 use base_types::Name;
 use std::alloc::{AllocError, Global};
 
@@ -69,7 +69,7 @@ fn mark_opens(opens: &[Link], alias: &Name, is_own: bool, marks: &mut Vec<bool>)
 
 /// Marks the instances to which opens with the alias lead from one instance, where that was marked.
 fn follow_from(
-    scopes: &[Scope],
+    scopes: &[Namespace],
     from: usize,
     alias: &Name,
     before: &[bool],
@@ -91,7 +91,7 @@ fn follow_from(
 /// Marks of the instances to which opens with the alias lead from marked ones.
 fn follow_one(
     alloc: Global,
-    scopes: &[Scope],
+    scopes: &[Namespace],
     from: usize,
     alias: &Name,
     before: &[bool],
@@ -109,7 +109,7 @@ fn follow_one(
 /// Marks of the instances to which opens with the aliases in turn lead from one.
 fn follow(
     alloc: Global,
-    scopes: &[Scope],
+    scopes: &[Namespace],
     from: usize,
     path: &[Name],
 ) -> Result<Vec<bool>, AllocError>
@@ -125,7 +125,7 @@ fn follow(
 }
 
 /// Marks of one instance.
-fn own_mark(alloc: Global, scopes: &[Scope], from: usize) -> Result<Vec<bool>, AllocError>
+fn own_mark(alloc: Global, scopes: &[Namespace], from: usize) -> Result<Vec<bool>, AllocError>
     requires { from < length scopes.now }
     ensures { IfOk result (λ m. AreLed scopes.now from true [] m.items) }
 {

@@ -1,4 +1,4 @@
-// The names of all instances, gathered.
+//! The names of all instances are gathered into one table.
 
 ghost use Rattle.std.specs.Prelude.{◌≡◌, ℕ, ◌<◌, IfOk, IfErr, length};
 ghost use Rattle.resolve_names.specs.Marks.{AreScoped, IsScoped};
@@ -6,17 +6,17 @@ ghost use Rattle.resolve_names.specs.Refused.{IsFault};
 
 use crate::entries::{Tables, declared_in, number_after};
 use crate::links::links_of;
-use crate::table::{NameFault, Names, Scope};
+use crate::table::{NameFault, Names, Namespace};
 use crate::twice::twice;
 use base_lists::Items;
 use std::alloc::{AllocError, Global};
 use syntax_tree::{Instance, Loaded, Text};
 
 /// The names of an instance without a text.
-fn no_names(alloc: Global) -> Scope
+fn no_names(alloc: Global) -> Namespace
     ensures { (count : ℕ) → IsScoped count result }
 {
-    Scope {
+    Namespace {
         first_sig: 0,
         sigs: 0,
         declared: Items::new(alloc),
@@ -31,7 +31,7 @@ fn scope_of(
     instances: &[Instance],
     number: usize,
     tables: &mut Tables,
-) -> Result<Scope, AllocError>
+) -> Result<Namespace, AllocError>
     requires { number < length instances.now }
     ensures { IfOk result (IsScoped (length instances.now)) }
 {
@@ -44,7 +44,7 @@ fn scope_of(
     let declared = declared_in(alloc, number_after(number), instance, &text.tree, tables)?;
     let written = text.tree.opens.as_slice();
     let opens = links_of(alloc, instance.opens.as_slice(), written, instances.len())?;
-    Ok(Scope {
+    Ok(Namespace {
         first_sig: number_after(before),
         sigs: number_after(tables.sigs.len().saturating_sub(before)),
         declared,
@@ -58,7 +58,7 @@ fn scopes_of(
     texts: &[Text],
     instances: &[Instance],
     tables: &mut Tables,
-) -> Result<Items<Scope>, AllocError>
+) -> Result<Items<Namespace>, AllocError>
     ensures every { IfOk result (λ s. length s ≡ length instances.now) }
     ensures scoped { IfOk result (AreScoped (length instances.now)) }
 {

@@ -13,7 +13,6 @@ mod twice;
 
 pub use gather::names;
 pub use source::{paragraph_at, place_in, text_of};
-pub use table::{BodyEntry, Decl, Declared, FieldEntry, Link, NameFault, Names, Scope, SigEntry};
-
-#[cfg(test)]
-mod tests;
+pub use table::{
+    BodyEntry, Decl, Declared, FieldEntry, Link, NameFault, Names, Namespace, SigEntry,
+};

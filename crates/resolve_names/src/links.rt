@@ -1,4 +1,4 @@
-// The opens of an instance.
+//! An instance has its opens as links to other instances.
 
 ghost use Rattle.std.specs.Prelude.{◌<◌, All, IfOk, OnOk};
 

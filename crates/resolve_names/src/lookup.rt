@@ -1,4 +1,4 @@
-// The declarations that a name stands for.
+//! A name stands for declarations of the instances that its own instance reaches.
 
 ghost use Rattle.std.specs.Prelude.{◌≡◌, [], ◌++◌, ◌<◌, ◌==◌, length, slice_get, IfOk, OnOk};
 ghost use Rattle.std.specs.List.{filter_map, cons_option};
@@ -8,7 +8,7 @@ ghost use Rattle.resolve_names.specs.Visible.{AreCandidates, path_of};
 
 use crate::follow::{last_part, led, path_before, same_text};
 use crate::reach::is_marked;
-use crate::table::{Decl, Declared, Names, Scope};
+use crate::table::{Decl, Declared, Names, Namespace};
 use std::alloc::{AllocError, Global};
 use syntax_tree::{QualName, SigRef};
 
@@ -64,7 +64,7 @@ fn add_scope(
     from: usize,
     name: &str,
     number: usize,
-    scope: &Scope,
+    scope: &Namespace,
     all: &mut Vec<Decl>,
 ) -> Result<(), AllocError>
     ensures { OnOk result (all.new.items ≡ all.old.items ++ seen_of (slice_get marks.now number) (number == from) name.now scope.now.declared) }
@@ -78,7 +78,7 @@ fn add_scope(
 /// The declarations of all marked instances that are seen.
 fn all_seen(
     alloc: Global,
-    scopes: &[Scope],
+    scopes: &[Namespace],
     marks: &[bool],
     from: usize,
     name: &str,

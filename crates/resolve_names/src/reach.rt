@@ -1,4 +1,4 @@
-// Which instances an instance reaches by opens.
+//! An instance reaches others by opens, over any number of them.
 
 ghost use Rattle.std.specs.Prelude.{◌≡◌, ◌⊎◌, ℕ, ◌<◌, false, Contains, All, IfOk, IfSome, IfNone, Some, true, [], length, slice_get, slice_set, replicate};
 ghost use Rattle.std.specs.Bool.{Decides};
@@ -6,7 +6,7 @@ ghost use Rattle.resolve_names.specs.declared.table.Link.{Link};
 ghost use Rattle.resolve_names.specs.Marks.{IsMarked, IsLinked, IsNext, IsClosed, IsBegun, AreReached};
 ghost use Rattle.resolve_names.specs.Visible.{HasOpen};
 
-use crate::table::{Link, Scope};
+use crate::table::{Link, Namespace};
 use std::alloc::{AllocError, Global};
 
 /// Whether the instance has no mark yet.
@@ -43,7 +43,7 @@ fn free_open(opens: &[Link], marks: &[bool]) -> Option<usize>
 }
 
 /// An instance without a mark to which an open of a marked one leads that isn't private.
-fn next(scopes: &[Scope], marks: &[bool]) -> Option<usize>
+fn next(scopes: &[Namespace], marks: &[bool]) -> Option<usize>
     ensures some { IfSome result (λ t. IsNext scopes.now marks.now t) }
     ensures none { IfNone result (IsClosed scopes.now marks.now) }
 {
@@ -58,11 +58,12 @@ fn next(scopes: &[Scope], marks: &[bool]) -> Option<usize>
 }
 
 /// Marks each instance to which opens that aren't private lead from marked ones.
-fn spread(scopes: &[Scope], from: usize, opens: &[Link], marks: &mut Vec<bool>)
+fn spread(scopes: &[Namespace], from: usize, opens: &[Link], marks: &mut Vec<bool>)
     requires begun { IsBegun scopes.now from opens.now marks.old.items }
     ensures begun { IsBegun scopes.now from opens.now marks.new.items }
     ensures closed { IsClosed scopes.now marks.new.items }
 {
+    // for the proof: only the clauses name the instance and its opens
     let _ = from;
     let _ = opens;
     while let Some(target) = next(scopes, marks.as_slice()) {
@@ -91,12 +92,13 @@ pub fn mark(instance: usize, marks: &mut Vec<bool>)
 }
 
 /// Marks the instances to which the opens lead.
-fn mark_all(scopes: &[Scope], from: usize, opens: &[Link], marks: &mut Vec<bool>)
+fn mark_all(scopes: &[Namespace], from: usize, opens: &[Link], marks: &mut Vec<bool>)
     requires linked { IsLinked scopes.now }
     requires begun { IsBegun scopes.now from [] marks.old.items }
     requires own { (o : Link) → Contains opens.now o → HasOpen scopes.now from o }
     ensures { IsBegun scopes.now from opens.now marks.new.items }
 {
+    // for the proof: only the clauses name the instance and the scopes
     let _ = from;
     let _ = scopes;
     for open in opens {
@@ -105,7 +107,7 @@ fn mark_all(scopes: &[Scope], from: usize, opens: &[Link], marks: &mut Vec<bool>
 }
 
 /// Marks of one instance.
-fn first_mark(alloc: Global, scopes: &[Scope], from: usize) -> Result<Vec<bool>, AllocError>
+fn first_mark(alloc: Global, scopes: &[Namespace], from: usize) -> Result<Vec<bool>, AllocError>
     requires from { from < length scopes.now }
     ensures { IfOk result (λ m. IsBegun scopes.now from [] m.items) }
 {
@@ -115,7 +117,7 @@ fn first_mark(alloc: Global, scopes: &[Scope], from: usize) -> Result<Vec<bool>,
 }
 
 /// The instance's opens.
-pub fn opens_of(scopes: &[Scope], from: usize) -> &[Link]
+pub fn opens_of(scopes: &[Namespace], from: usize) -> &[Link]
     requires from { from < length scopes.now }
     ensures own { (o : Link) → Contains result.now o → HasOpen scopes.now from o }
     ensures all { (o : Link) → HasOpen scopes.now from o → Contains result.now o }
@@ -124,7 +126,7 @@ pub fn opens_of(scopes: &[Scope], from: usize) -> &[Link]
 }
 
 /// The instances that an instance reaches, by their marks.
-pub fn reached(alloc: Global, scopes: &[Scope], from: usize) -> Result<Vec<bool>, AllocError>
+pub fn reached(alloc: Global, scopes: &[Namespace], from: usize) -> Result<Vec<bool>, AllocError>
     requires from { from < length scopes.now }
     requires linked { IsLinked scopes.now }
     ensures { IfOk result (λ m. AreReached scopes.now from m.items) }

@@ -1,8 +1,8 @@
-// The source of what is declared.
+//! What is declared has its source: the text of an instance, and a paragraph in it.
 
 ghost use Rattle.std.specs.Prelude.{◌<◌, length, IfSome};
 
-use base_types::Place;
+use base_types::Position;
 use syntax_tree::{Loaded, Paragraph, Text};
 
 /// The text of an instance; None where there is no such instance.
@@ -22,14 +22,14 @@ pub fn paragraph_at<'a>(
 }
 
 /// The place in the text of an instance; None where there is no such instance.
-pub fn place_in(loaded: &Loaded, instance: u32, place: Place) -> Option<Place>
+pub fn place_in(loaded: &Loaded, instance: u32, place: Position) -> Option<Position>
     ensures { IfSome result (λ p. p.module < length loaded.now.texts) }
 {
     let instance = loaded.instances.as_slice().get(instance as usize)?;
     if instance.text as usize >= loaded.texts.len() {
         return None;
     }
-    Some(Place {
+    Some(Position {
         module: instance.text,
         line: place.line,
         column: place.column,

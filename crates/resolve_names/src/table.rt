@@ -1,4 +1,4 @@
-// The names of all instances.
+//! The table of names has, for each instance, what it declares and what it opens.
 
 ghost use Rattle.resolve_names.specs.Marks.{IsLinked};
 
@@ -42,7 +42,7 @@ pub struct Link {
 
 /// The names of an instance.
 #[derive(Drop)]
-pub struct Scope {
+pub struct Namespace {
     /// The number of its first sig over all instances.
     pub first_sig: u32,
     /// How many sigs it has.
@@ -91,7 +91,7 @@ pub struct BodyEntry {
 #[derive(Drop)]
 pub struct Names {
     /// The names of each instance, in load order.
-    pub scopes: Items<Scope>,
+    pub scopes: Items<Namespace>,
     /// The sigs of all instances, in load order and then text order.
     pub sigs: Items<SigEntry>,
     /// The fields of all instances, in load order and then text order.

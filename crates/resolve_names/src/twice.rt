@@ -1,9 +1,9 @@
-// Names that a module declares twice.
+//! Finds a name that a module declares twice, for sigs and parameters, or for assertions.
 
 ghost use Rattle.std.specs.Prelude.{◌≡◌, ◌<◌, IfOk, IfSome, length};
 ghost use Rattle.resolve_names.specs.Refused.{IsTwice};
 
-use base_types::{Place, Refusal, Rule};
+use base_types::{Position, Refusal, Rule};
 use std::alloc::{AllocError, Global};
 use std::collections::HashSet;
 use syntax_tree::{Header, Instance, Loaded, Module, Named, Paragraph, Text};
@@ -12,7 +12,7 @@ use syntax_tree::{Header, Instance, Loaded, Module, Named, Paragraph, Text};
 fn first_known<'a>(
     names: &'a [Named],
     known: &mut HashSet<&'a str>,
-) -> Result<Option<Place>, AllocError> {
+) -> Result<Option<Position>, AllocError> {
     for name in names {
         if !known.insert(name.name.text())? {
             return Ok(Some(name.place));
@@ -25,7 +25,7 @@ fn first_known<'a>(
 fn known_name<'a>(
     name: &'a Named,
     known: &mut HashSet<&'a str>,
-) -> Result<Option<Place>, AllocError> {
+) -> Result<Option<Position>, AllocError> {
     if known.insert(name.name.text())? {
         Ok(None)
     } else {
@@ -36,7 +36,7 @@ fn known_name<'a>(
 fn known_parameter<'a>(
     header: &'a Option<Header>,
     known: &mut HashSet<&'a str>,
-) -> Result<Option<Place>, AllocError> {
+) -> Result<Option<Position>, AllocError> {
     if let Some(header) = header {
         for parameter in header.parameters.as_slice() {
             if let Some(place) = known_name(&parameter.name, known)? {
@@ -50,7 +50,7 @@ fn known_parameter<'a>(
 fn known_sig<'a>(
     paragraph: &'a Paragraph,
     known: &mut HashSet<&'a str>,
-) -> Result<Option<Place>, AllocError> {
+) -> Result<Option<Position>, AllocError> {
     match paragraph {
         Paragraph::Sig(sig) => first_known(sig.names.as_slice(), known),
         Paragraph::Enum(e) => match known_name(&e.name, known)? {
@@ -62,7 +62,7 @@ fn known_sig<'a>(
 }
 
 /// The first parameter or sig with the name of one before it.
-fn second_sig(alloc: Global, module: &Module) -> Result<Option<Place>, AllocError> {
+fn second_sig(alloc: Global, module: &Module) -> Result<Option<Position>, AllocError> {
     let mut known = HashSet::new(alloc);
     if let Some(place) = known_parameter(&module.header, &mut known)? {
         return Ok(Some(place));
@@ -76,7 +76,7 @@ fn second_sig(alloc: Global, module: &Module) -> Result<Option<Place>, AllocErro
 }
 
 /// The first assertion with the name of one before it.
-fn second_assertion(alloc: Global, module: &Module) -> Result<Option<Place>, AllocError> {
+fn second_assertion(alloc: Global, module: &Module) -> Result<Option<Position>, AllocError> {
     let mut known = HashSet::new(alloc);
     for paragraph in module.paragraphs.as_slice() {
         if let Paragraph::Assert(claim) = paragraph {
@@ -91,11 +91,11 @@ fn second_assertion(alloc: Global, module: &Module) -> Result<Option<Place>, All
 }
 
 /// Whether the first place stands before the second in a text.
-fn is_before(a: Place, b: Place) -> bool {
+fn is_before(a: Position, b: Position) -> bool {
     a.line < b.line || a.line == b.line && a.column < b.column
 }
 
-fn lesser(a: Option<Place>, b: Option<Place>) -> Option<Place> {
+fn lesser(a: Option<Position>, b: Option<Position>) -> Option<Position> {
     match (a, b) {
         (Some(a), Some(b)) => Some(if is_before(b, a) { b } else { a }),
         (Some(a), None) => Some(a),
@@ -104,7 +104,7 @@ fn lesser(a: Option<Place>, b: Option<Place>) -> Option<Place> {
 }
 
 /// The place of the first name of a module that is the second of its kind.
-fn second_name(alloc: Global, module: &Module) -> Result<Option<Place>, AllocError> {
+fn second_name(alloc: Global, module: &Module) -> Result<Option<Position>, AllocError> {
     let sig = second_sig(alloc, module)?;
     let assertion = second_assertion(alloc, module)?;
     Ok(lesser(sig, assertion))
@@ -126,7 +126,7 @@ fn twice_in(
         None => Ok(None),
         Some(place) => Ok(Some(Refusal {
             rule: Rule::NameTwice,
-            place: Place {
+            place: Position {
                 module: instance.text,
                 line: place.line,
                 column: place.column,

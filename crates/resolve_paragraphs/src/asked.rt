@@ -1,4 +1,4 @@
-// The formulas that commands ask.
+//! What a command asks is a formula of the model.
 
 use core_tree::{Assert, Body, Expr, Formula, Parameter, Quantity, Variable};
 use std::alloc::{AllocError, Global};

@@ -1,4 +1,4 @@
-// The facts, the assertions and the appended facts of a model.
+//! Makes the facts, the assertions and the appended facts of a model.
 
 use crate::sources::{Sources, block_formula, closed_formula, setting_in};
 use base_types::Name;

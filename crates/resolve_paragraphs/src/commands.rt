@@ -1,11 +1,11 @@
-// The commands of the root.
+//! Makes the commands of the root.
 
 use crate::sources::{Sources, closed_formula, setting_in};
 use crate::{
     asserts_named, check_formula, denied, label_of, name_place, predicates_named, run_formula,
     scope_of,
 };
-use base_types::Place;
+use base_types::Position;
 use core_tree::{Assert, Body, Command, CommandKind, CommandList, Formula};
 use resolve_expr::faults::Broken;
 use resolve_expr::state::{Setting, State, note_at};
@@ -14,7 +14,7 @@ use std::alloc::{AllocError, Global};
 use syntax_tree::{Command as Declared, Expr as Tree, Module, Paragraph, QualName, Subject};
 
 /// The only one of a list; where it has none or several, that is noted at the name.
-fn only(setting: &Setting<'_>, state: &mut State, found: &[u32], place: Place) -> Option<u32> {
+fn only(setting: &Setting<'_>, state: &mut State, found: &[u32], place: Position) -> Option<u32> {
     match found {
         [] => {
             note_at(setting, state, place, Broken::UnknownName);

@@ -1,4 +1,4 @@
-// The fields of a model.
+//! Makes the fields of a model.
 
 use crate::sources::Sources;
 use core_tree::{Bound, Field, FieldBound, FieldList};

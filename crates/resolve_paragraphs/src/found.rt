@@ -1,4 +1,4 @@
-// What the name of a command stands for.
+//! The name of a command stands for predicates or assertions.
 
 use crate::words::last_text;
 use core_tree::Assert;

@@ -1,4 +1,4 @@
-// The literals of a text, in the order in which they stand there.
+//! Gathers the string literals of a text, in the order in which they stand there.
 
 use base_lists::Boxed;
 use base_types::Name;

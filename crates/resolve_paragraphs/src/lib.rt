@@ -1,9 +1,6 @@
-//! The string literals of all texts.
+//! The parts of a model, each from its paragraphs: fields, facts, assertions, commands, literals.
 //!
-//! What commands say: the names that they run and check, their scopes, and the formulas that they ask.
-//!
-//! The parts of a model, each from its paragraphs: fields, appended facts, facts, assertions and
-//! commands.
+//! Commands have the names that they run and check, their scopes, and the formulas that they ask.
 #![tactic(auto)]
 
 mod gather;
@@ -13,8 +10,6 @@ pub use sorted::literals;
 
 mod asked;
 mod found;
-#[cfg(test)]
-mod literal_table_tests;
 mod scope;
 mod words;
 

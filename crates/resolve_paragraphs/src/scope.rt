@@ -1,7 +1,7 @@
-// The scopes of commands.
+//! Makes the scopes of commands.
 
 use crate::words::last_text;
-use base_types::Place;
+use base_types::Position;
 use core_tree::{ScopeEntry, ScopeEntryList, ScopeSubject};
 use resolve_names::{Decl, Names};
 use std::alloc::{AllocError, Global};
@@ -70,7 +70,7 @@ fn entry_subject(
     }
 }
 
-fn target_place(target: &ScopeTarget) -> Place {
+fn target_place(target: &ScopeTarget) -> Position {
     match target {
         ScopeTarget::Bits(place) => *place,
         ScopeTarget::Sig(SigName::Int(place)) => *place,
@@ -98,7 +98,7 @@ fn add_entries(
     Ok(())
 }
 
-fn add_overall(all: &mut ScopeEntryList, place: Place, number: u32) -> Result<(), AllocError> {
+fn add_overall(all: &mut ScopeEntryList, place: Position, number: u32) -> Result<(), AllocError> {
     all.push(ScopeEntry {
         number_place: place,
         name_place: place,

@@ -1,4 +1,4 @@
-// The different literals, in order.
+//! Puts the different literals in order.
 
 ghost use Rattle.std.specs.Prelude.{◌≡◌, IfOk, map};
 ghost use Rattle.std.specs.Cmp.Lexicographic.{slice_cmp};

@@ -1,4 +1,4 @@
-// What the parts of a model are made from.
+//! The sources of a model: all that its parts are made from.
 
 use crate::always_true;
 use core_tree::Formula;

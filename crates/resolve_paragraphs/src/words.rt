@@ -1,6 +1,6 @@
-// The names of commands.
+//! The names of commands, and the names that they run or check.
 
-use base_types::{Name, Place};
+use base_types::{Name, Position};
 use std::alloc::{AllocError, Global};
 use syntax_tree::{Command, QualName, Subject};
 
@@ -53,7 +53,7 @@ pub fn label_of(alloc: Global, command: &Command) -> Result<Option<Name>, AllocE
 }
 
 /// The place of the name after the keyword.
-pub fn name_place(command: &Command) -> Option<Place> {
+pub fn name_place(command: &Command) -> Option<Position> {
     match subject_name(command) {
         None => None,
         Some(name) => Some(name.place),

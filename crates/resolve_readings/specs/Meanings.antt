@@ -7,8 +7,8 @@ use Rattle.resolve_types.specs.declared.member.Member.TheVariants as member
 use Rattle.resolve_readings.specs.declared.part.Typing.{Typing}
 use Rattle.resolve_readings.specs.declared.part.Multiplicity.{Multiplicity}
 use Rattle.resolve_readings.specs.declared.part.Multiplicity.TheVariants as multiplicity
-use Rattle.resolve_readings.specs.declared.part.Place.{Place}
-use Rattle.resolve_readings.specs.declared.part.Place.TheVariants as place
+use Rattle.resolve_readings.specs.declared.part.RootPlace.{RootPlace}
+use Rattle.resolve_readings.specs.declared.part.RootPlace.TheVariants as place
 use Rattle.resolve_readings.specs.declared.part.Unary.{Unary}
 use Rattle.resolve_readings.specs.declared.part.Unary.TheVariants as unary
 use Rattle.resolve_readings.specs.declared.part.Binary.{Binary}
@@ -57,14 +57,14 @@ word_fits (Some multiplicity.Lone) n = n == 1
 word_fits (Some multiplicity.Some) n = n == 1
 
 -- Whether a set may stand in the place. A marked one, an arrow with a multiplicity, stands only in a bound.
-abbrev pub set_fits : Place → Columns → Bool → Bool
+abbrev pub set_fits : RootPlace → Columns → Bool → Bool
 set_fits place.Formula c marked = false
 set_fits (place.Bound word) c marked = word_fits word c.count
 set_fits place.Value c marked = not marked
 set_fits (place.Columns n) c marked = not marked && (c.count == n)
 
 -- whether a formula may stand in the place
-abbrev pub formula_fits : Place → Bool
+abbrev pub formula_fits : RootPlace → Bool
 formula_fits place.Formula = true
 formula_fits (place.Bound word) = false
 formula_fits place.Value = false

@@ -1,4 +1,5 @@
--- Readings: what a root is under a choice, which choices are right, and which one is the root's reading.
+-- Readings: what a root is under a choice, which choices are right, and which one is the root's
+-- reading.
 use Rattle.std.specs.Prelude.{◌≡◌, ◌⊎◌, ℕ, ◌*◌, Bool, true, not, ◌&&◌, ◌<◌, ◌≤◌, List, [], ◌∷◌, Option, Some, None, length, slice_get}
 use Rattle.std.specs.Option.{option_map}
 use Rattle.resolve_readings.specs.declared.part.Typing.{Typing}

@@ -1,4 +1,4 @@
-// The right choices of a part, from those of its parts.
+//! The right choices of a part, from those of its parts.
 
 ghost use Rattle.std.specs.Prelude.{◌≡◌, [], ◌∷◌, ◌++◌, IfOk, OnOk};
 ghost use Rattle.std.specs.List.{filter_map};

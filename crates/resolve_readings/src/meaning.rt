@@ -1,4 +1,4 @@
-// What a part of a root is under a choice.
+//! What a part of a root is under a choice.
 
 ghost use Rattle.std.specs.Prelude.{◌≡◌, IfOk};
 

@@ -1,4 +1,4 @@
-// What is asked of operands, and the meanings that are made of theirs.
+//! What is asked of operands, and the meanings that are made of theirs.
 
 ghost use Rattle.std.specs.Prelude.{◌≡◌, ◌==◌, ◌+◌, ◌&&◌, ◌||◌, not, false, max, nat_le, IfOk};
 ghost use Rattle.resolve_types.specs.Rows.{distinct};
@@ -6,7 +6,7 @@ ghost use Rattle.resolve_readings.specs.declared.meaning.What.TheVariants as wha
 ghost use Rattle.resolve_readings.specs.Meanings.{agrees, integers as integers_of, of_one, of_both, word_fits, set_fits, formula_fits, waiting, columns_of_result};
 
 use crate::meaning::{Meaning, What, copy_all, copy_some};
-use crate::part::{Multiplicity, Place};
+use crate::part::{Multiplicity, RootPlace};
 use base_lists::Items;
 use resolve_types::{Columns, Member};
 use std::alloc::{AllocError, Global};
@@ -131,26 +131,26 @@ pub fn does_word_fit(word: Option<Multiplicity>, count: u32) -> bool
 }
 
 /// Whether a set may stand in the place.
-pub fn does_set_fit(place: Place, columns: &Columns, marked: bool) -> bool
+pub fn does_set_fit(place: RootPlace, columns: &Columns, marked: bool) -> bool
     ensures { result ≡ set_fits place columns.now marked }
 {
     match place {
-        Place::Formula => false,
-        Place::Bound(word) => does_word_fit(word, columns.count),
-        Place::Value => !marked,
-        Place::Columns(count) => !marked && columns.count == count,
+        RootPlace::Formula => false,
+        RootPlace::Bound(word) => does_word_fit(word, columns.count),
+        RootPlace::Value => !marked,
+        RootPlace::Columns(count) => !marked && columns.count == count,
     }
 }
 
 /// Whether a formula may stand in the place.
-pub fn does_formula_fit(place: Place) -> bool
+pub fn does_formula_fit(place: RootPlace) -> bool
     ensures { result ≡ formula_fits place }
 {
     match place {
-        Place::Formula => true,
-        Place::Bound(_) => false,
-        Place::Value => false,
-        Place::Columns(_) => false,
+        RootPlace::Formula => true,
+        RootPlace::Bound(_) => false,
+        RootPlace::Value => false,
+        RootPlace::Columns(_) => false,
     }
 }
 

@@ -1,4 +1,4 @@
-// What an operator makes of what its operands are.
+//! What an operator makes of what its operands are.
 
 ghost use Rattle.std.specs.Prelude.{◌≡◌, ◌==◌, ◌&&◌, not, true, IfOk};
 ghost use Rattle.resolve_types.specs.Types.{union_of, meets_of};

@@ -1,3 +1,5 @@
+//! A root as it is judged: parts with the candidates of each name, the operators, and the outcome.
+
 use crate::meaning::Meaning;
 use base_lists::Items;
 use resolve_types::Columns;
@@ -20,7 +22,7 @@ pub enum Multiplicity {
 
 /// Where a root stands.
 #[derive(Clone, Copy, Debug, Drop)]
-pub enum Place {
+pub enum RootPlace {
     /// Where a formula is wanted: a comparison, or a call of a predicate.
     Formula,
     /// A bound, with its word.
@@ -49,7 +51,7 @@ pub enum Unary {
     /// The body of a `let`, whose values are roots of their own.
     Body,
     /// The whole root, in its place.
-    Fits(Place),
+    Fits(RootPlace),
 }
 
 /// An operator between two operands.
@@ -104,10 +106,10 @@ pub struct Found {
 pub enum Outcome {
     /// Its reading.
     Read(Items<usize>),
-    /// No choice is right.
+    /// S42: no choice is right.
     NoReading,
-    /// Several are right, and none is the root's reading.
+    /// S41: several are right, and none is the root's reading.
     Ambiguous,
-    /// There are more than 4,096 choices.
+    /// S43: there are more than 4,096 choices.
     TooMany,
 }

@@ -1,4 +1,4 @@
-// Which choice is the root's reading.
+//! Which choice is the root's reading.
 
 ghost use Rattle.std.specs.Prelude.{◌≡◌, [], ◌∷◌, min, ◌*◌, ◌<◌, ◌≤◌, IfOk, MatchOption};
 ghost use Rattle.resolve_readings.specs.Readings.{Decides, IsDecided, IsWithin, count_choices};
@@ -102,6 +102,8 @@ pub fn decide(alloc: Global, typing: &Typing, root: &Part) -> Result<Outcome, Al
     ensures decided { IfOk result (λ o. Decides typing.now root.now o) }
     ensures limit { IfOk result (λ o. IsWithin (count_choices root.now) o) }
 {
+    // TooManyReadings, S43: a root has at most 4,096 readings. The count stops at 4,097, one past
+    // the limit.
     if choices(root) > 4096 {
         return Ok(Outcome::TooMany);
     }

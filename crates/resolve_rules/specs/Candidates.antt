@@ -10,7 +10,7 @@ use Rattle.resolve_names.specs.declared.table.Decl.{Decl}
 use Rattle.resolve_names.specs.declared.table.Decl.TheVariants as decl
 use Rattle.resolve_names.specs.declared.table.FieldEntry.{FieldEntry}
 use Rattle.resolve_names.specs.declared.table.BodyEntry.{BodyEntry}
-use Rattle.resolve_names.specs.declared.table.Scope.{Scope}
+use Rattle.resolve_names.specs.declared.table.Namespace.{Namespace}
 use Rattle.resolve_names.specs.Visible.{Declaration, Sees, Kept, declarations}
 use Rattle.resolve_hierarchy.specs.Above.{Sigs, IsAncestor}
 use Rattle.resolve_hierarchy.specs.Rules.{number_in}
@@ -72,7 +72,7 @@ is_of (Some j) k = j == k
 -- instance has the implicitly opened integers, which bodies are functions, and the types of fields and bodies
 -- whose bounds have readings.
 pub record Tables : Type 0 where
-  pub scopes : List Scope
+  pub scopes : List Namespace
   pub sigs : Sigs
   pub lines : Lines
   pub string : ℕ

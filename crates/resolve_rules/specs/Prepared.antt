@@ -1,6 +1,7 @@
--- Roots as they are prepared: the tree of a root's parts, and in it what each candidate of each name means.
+-- Roots as they are prepared: the tree of a root's parts, and in it what each candidate of each
+-- name means.
 use Rattle.std.specs.Prelude.{◌≡◌, ℕ, Bool, true, false, List, [], ◌∷◌, ◌++◌, map, Option, Some, None, codes}
-use Rattle.base_types.specs.declared.place.Place.{Place}
+use Rattle.base_types.specs.declared.place.Position.{Position}
 use Rattle.syntax_tree.specs.declared.operator.Infix.{Infix}
 use Rattle.syntax_tree.specs.declared.operator.Prefix.{Prefix}
 use Rattle.syntax_tree.specs.declared.operator.Quantifier.{Quantifier}
@@ -25,7 +26,7 @@ use Rattle.resolve_readings.specs.declared.part.Unary.{Unary}
 use Rattle.resolve_readings.specs.declared.part.Unary.TheVariants as unary
 use Rattle.resolve_readings.specs.declared.part.Binary.{Binary}
 use Rattle.resolve_readings.specs.declared.part.Binary.TheVariants as binary
-use Rattle.resolve_readings.specs.declared.part.Place.TheVariants as place
+use Rattle.resolve_readings.specs.declared.part.RootPlace.TheVariants as place
 use Rattle.resolve_readings.specs.declared.part.Part.{Part, Name, Known, Single', Pair'}
 use Rattle.resolve_rules.specs.Types.{IsTypeOf, IsIntType, IsLiteralType}
 use Rattle.resolve_rules.specs.Candidates.{Ground, Local, Locals, Tables, IsInnermost, AreCandidates, AreFields, set_of}
@@ -73,35 +74,35 @@ under (b ∷ bindings) t = single unary.Body (under bindings t)
 
 -- a form that is a formula wherever it stands
 pub data IsClaim : Expr → Type 0 where
-  a_block : (e : Expr) (p : Place) (items : List Expr) → e ≡ expr.Block p items → IsClaim e
+  a_block : (e : Expr) (p : Position) (items : List Expr) → e ≡ expr.Block p items → IsClaim e
   a_sequence : (e : Expr) (a b : Expr) → e ≡ expr.Sequence a b → IsClaim e
   an_implication : (e : Expr) (a b : Expr) (is_word : Bool) → e ≡ expr.Implication is_word a b None → IsClaim e
   a_comparison : (e : Expr) (a b : Expr) (op : Comparison) → e ≡ expr.Compare op a b → IsClaim e
-  a_test : (e : Expr) (a : Expr) (p : Place) (op : Prefix) → e ≡ expr.Prefix p op a → IsTest op → IsClaim e
-  a_prefix : (e : Expr) (a : Expr) (p : Place) (op : Prefix) → e ≡ expr.Prefix p op a → IsLogical op → IsClaim e
+  a_test : (e : Expr) (a : Expr) (p : Position) (op : Prefix) → e ≡ expr.Prefix p op a → IsTest op → IsClaim e
+  a_prefix : (e : Expr) (a : Expr) (p : Position) (op : Prefix) → e ≡ expr.Prefix p op a → IsLogical op → IsClaim e
   a_row : (e : Expr) (first a : Expr) (op : Infix) (links : List (Infix × Expr)) → e ≡ expr.Infix first ((op, a) ∷ links) → between op ≡ None → IsClaim e
-  a_quantified : (e : Expr) (body : Expr) (p : Place) (w : Quantifier) (decls : List (Decl Expr)) (has_bar : Bool) → e ≡ expr.Quantified p w decls has_bar body → (IsSum w → ⊥) → IsClaim e
+  a_quantified : (e : Expr) (body : Expr) (p : Position) (w : Quantifier) (decls : List (Decl Expr)) (has_bar : Bool) → e ≡ expr.Quantified p w decls has_bar body → (IsSum w → ⊥) → IsClaim e
 
 module _ (typing : Typing) (tables : Tables) (ground : Ground) (k : ℕ) where
   mutual
     -- an expression in the text of instance k, as a part of the root in which it stands, where these names are in scope
     pub data IsPart : Locals → Expr → Tree → Type 0 where
       a_name : (locals : Locals) (e : Expr) (ms : List Meaning) (q : QualName) → e ≡ expr.Name q → AreCandidates tables ground k locals q ms → IsPart locals e (name ms)
-      a_field : (locals : Locals) (e : Expr) (ms : List Meaning) (p : Place) (q : QualName) → e ≡ expr.At p q → AreFields tables ground k q ms → IsPart locals e (name ms)
-      this : (locals : Locals) (e : Expr) (c : Columns) (p : Place) (l : Local) → e ≡ expr.Constant p constant.This → IsInnermost locals (codes "this") l → l.columns ≡ Some c → IsPart locals e (name (set_of c false ∷ []))
-      a_constant : (locals : Locals) (e : Expr) (c : Columns) (p : Place) (w : Constant) → e ≡ expr.Constant p w → IsTypeOf tables.sigs tables.string w c → IsPart locals e (known (set_of c false))
-      a_number : (locals : Locals) (e : Expr) (c : Columns) (p : Place) (n : ℕ) → e ≡ expr.Number p n → IsIntType c → IsPart locals e (known (set_of c false))
-      a_negative : (locals : Locals) (e : Expr) (c : Columns) (p : Place) (n : ℕ) → e ≡ expr.Negative p n → IsIntType c → IsPart locals e (known (set_of c false))
-      a_literal : (locals : Locals) (e : Expr) (c : Columns) (p : Place) (text : List ℕ) → e ≡ expr.Literal p text → IsLiteralType tables.string c → IsPart locals e (known (set_of c false))
-      in_parentheses : (locals : Locals) (e : Expr) (t : Tree) (inner : Expr) (p : Place) → e ≡ expr.Parenthesis p inner → IsPart locals inner t → IsPart locals e (single unary.Whole t)
+      a_field : (locals : Locals) (e : Expr) (ms : List Meaning) (p : Position) (q : QualName) → e ≡ expr.At p q → AreFields tables ground k q ms → IsPart locals e (name ms)
+      this : (locals : Locals) (e : Expr) (c : Columns) (p : Position) (l : Local) → e ≡ expr.Constant p constant.This → IsInnermost locals (codes "this") l → l.columns ≡ Some c → IsPart locals e (name (set_of c false ∷ []))
+      a_constant : (locals : Locals) (e : Expr) (c : Columns) (p : Position) (w : Constant) → e ≡ expr.Constant p w → IsTypeOf tables.sigs tables.string w c → IsPart locals e (known (set_of c false))
+      a_number : (locals : Locals) (e : Expr) (c : Columns) (p : Position) (n : ℕ) → e ≡ expr.Number p n → IsIntType c → IsPart locals e (known (set_of c false))
+      a_negative : (locals : Locals) (e : Expr) (c : Columns) (p : Position) (n : ℕ) → e ≡ expr.Negative p n → IsIntType c → IsPart locals e (known (set_of c false))
+      a_literal : (locals : Locals) (e : Expr) (c : Columns) (p : Position) (text : List ℕ) → e ≡ expr.Literal p text → IsLiteralType tables.string c → IsPart locals e (known (set_of c false))
+      in_parentheses : (locals : Locals) (e : Expr) (t : Tree) (inner : Expr) (p : Position) → e ≡ expr.Parenthesis p inner → IsPart locals inner t → IsPart locals e (single unary.Whole t)
       primed : (locals : Locals) (e : Expr) (t : Tree) (inner : Expr) → e ≡ expr.Prime inner → IsPart locals inner t → IsPart locals e (single unary.Prime t)
-      prefixed : (locals : Locals) (e : Expr) (u : Unary) (t : Tree) (inner : Expr) (p : Place) (op : Prefix) → e ≡ expr.Prefix p op inner → before_set op ≡ Some u → IsPart locals inner t → IsPart locals e (single u t)
+      prefixed : (locals : Locals) (e : Expr) (u : Unary) (t : Tree) (inner : Expr) (p : Position) (op : Prefix) → e ≡ expr.Prefix p op inner → before_set op ≡ Some u → IsPart locals inner t → IsPart locals e (single u t)
       in_a_row : (locals : Locals) (e : Expr) (u : Tree) (first : Expr) (links : List (Infix × Expr)) (t : Tree) → e ≡ expr.Infix first links → IsPart locals first t → AreLinked locals t links u → IsPart locals e u
       joined : (locals : Locals) (e : Expr) (u : Tree) (first : Expr) (steps : List (Access Expr)) (t : Tree) → e ≡ expr.Join first steps → IsPart locals first t → AreSteps locals t steps u → IsPart locals e u
       chosen : (locals : Locals) (e : Expr) (t u : Tree) (condition a b : Expr) (is_word : Bool) → e ≡ expr.Implication is_word condition a (Some b) → IsPart locals a t → IsPart locals b u → IsPart locals e (pair binary.Choose t u)
-      in_let : (locals : Locals) (e : Expr) (bindings : List (Binding Expr)) (t : Tree) (inner : Locals) (body : Expr) (p : Place) (has_bar : Bool) → e ≡ expr.Let p bindings has_bar body → AreValues locals bindings inner → IsPart inner body t → IsPart locals e (under bindings t)
-      comprehended : (locals : Locals) (e : Expr) (c : Columns) (inner : Locals) (body : Expr) (p : Place) (decls : List (Decl Expr)) (has_bar : Bool) → e ≡ expr.Comprehension p decls has_bar body → AreVariables locals no_columns decls inner c → IsPart locals e (known (set_of c false))
-      summed : (locals : Locals) (e : Expr) (c : Columns) (body : Expr) (p : Place) (w : Quantifier) (decls : List (Decl Expr)) (has_bar : Bool) → e ≡ expr.Quantified p w decls has_bar body → IsSum w → IsIntType c → IsPart locals e (known (set_of c false))
+      in_let : (locals : Locals) (e : Expr) (bindings : List (Binding Expr)) (t : Tree) (inner : Locals) (body : Expr) (p : Position) (has_bar : Bool) → e ≡ expr.Let p bindings has_bar body → AreValues locals bindings inner → IsPart inner body t → IsPart locals e (under bindings t)
+      comprehended : (locals : Locals) (e : Expr) (c : Columns) (inner : Locals) (body : Expr) (p : Position) (decls : List (Decl Expr)) (has_bar : Bool) → e ≡ expr.Comprehension p decls has_bar body → AreVariables locals no_columns decls inner c → IsPart locals e (known (set_of c false))
+      summed : (locals : Locals) (e : Expr) (c : Columns) (body : Expr) (p : Position) (w : Quantifier) (decls : List (Decl Expr)) (has_bar : Bool) → e ≡ expr.Quantified p w decls has_bar body → IsSum w → IsIntType c → IsPart locals e (known (set_of c false))
       a_claim : (locals : Locals) (e : Expr) → IsClaim e → IsPart locals e (known a_formula)
 
     -- a part with those behind it, from the left

@@ -23,7 +23,7 @@ use Rattle.resolve_readings.specs.declared.meaning.Meaning.{Meaning}
 use Rattle.resolve_readings.specs.declared.meaning.What.TheVariants as what
 use Rattle.resolve_readings.specs.declared.part.Typing.{Typing}
 use Rattle.resolve_readings.specs.declared.part.Unary.TheVariants as unary
-use Rattle.resolve_readings.specs.declared.part.Place.TheVariants as place
+use Rattle.resolve_readings.specs.declared.part.RootPlace.TheVariants as place
 use Rattle.resolve_rules.specs.Types.{HasType, IsIdenRow, IsIntType, IsSigType, IsFieldType}
 use Rattle.resolve_rules.specs.Candidates.{field_bound, body_bound, Local, Locals, Signature, Tables, AreCandidates}
 use Rattle.resolve_rules.specs.Prepared.{name, single, Settles, IsBound, named}

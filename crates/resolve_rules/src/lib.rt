@@ -1,5 +1,7 @@
-//! The rules on readings and on calls, as definitions (specs/), and which of them what was decided of
-//! a root breaks.
+//! The rules on readings and on calls, as definitions, and which of them a root breaks.
+//!
+//! The definitions are in specs/. The function says which rule is broken by what was decided of a
+//! root.
 #![tactic(auto)]
 
 ghost use Rattle.std.specs.Prelude.{◌≡◌, IfSome};
@@ -10,9 +12,6 @@ ghost use Rattle.resolve_rules.specs.Roots.{IsBroken};
 
 use base_types::Rule;
 use resolve_readings::Outcome;
-
-#[cfg(test)]
-mod tests;
 
 /// The rule that a root breaks of which this was decided; None where it has a reading.
 pub fn rule_of(outcome: &Outcome) -> Option<Rule>

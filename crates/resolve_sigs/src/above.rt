@@ -1,4 +1,4 @@
-// The ancestors of a sig.
+//! Gathers a sig and all its ancestors.
 
 use resolve_hierarchy::{Hierarchy, Kind};
 use resolve_types::Member;

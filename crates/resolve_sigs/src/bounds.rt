@@ -1,4 +1,4 @@
-// The bound of a field by its reading.
+//! Reads the bound of a field, with `this` as its only local.
 
 use crate::above_of;
 use resolve_expr::expression::prepare;

@@ -1,6 +1,6 @@
-// The sigs that opens give to `exactly` parameters.
+//! Finds the sigs that opens give to `exactly` parameters.
 
-use base_types::Place;
+use base_types::Position;
 use core_tree::Origin;
 use resolve_names::{Names, text_of};
 use std::alloc::{AllocError, Global};
@@ -18,7 +18,7 @@ fn is_exact(header: &Option<Header>, place: usize) -> bool {
 }
 
 /// The place of the name of the enum before which so many stand.
-fn enum_place(paragraphs: &[Paragraph], before: usize) -> Option<Place> {
+fn enum_place(paragraphs: &[Paragraph], before: usize) -> Option<Position> {
     let mut left = before;
     for paragraph in paragraphs {
         if let Paragraph::Enum(e) = paragraph {
@@ -33,7 +33,7 @@ fn enum_place(paragraphs: &[Paragraph], before: usize) -> Option<Place> {
 
 /// The place of the path of an instance's open: of a written one its own, of one that an enum
 /// implies the enum's name.
-fn open_place(module: &Module, open: usize) -> Option<Place> {
+fn open_place(module: &Module, open: usize) -> Option<Position> {
     match module.opens.as_slice().get(open) {
         Some(open) => Some(open.path.place),
         None => {

@@ -1,4 +1,4 @@
-// What the paragraphs say of fields.
+//! What the paragraphs say of fields: their words, their labels, and where they stand.
 
 use crate::labels::{joined, sig_label};
 use base_types::Name;

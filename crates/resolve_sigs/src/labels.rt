@@ -1,4 +1,4 @@
-// The labels of sigs.
+//! The label of a sig is its name, behind the label of its instance.
 
 use base_types::Name;
 use resolve_names::{SigEntry, paragraph_at};

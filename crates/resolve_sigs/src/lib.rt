@@ -1,7 +1,6 @@
-//! What the paragraphs say of sigs and fields, and the sigs of a model.
+//! What paragraphs say of sigs and fields, the sigs of a model, and the bounds of fields.
 //!
-//! The bounds of fields by their readings, in an order in which each stands behind those that it may
-//! name.
+//! The bounds are read in an order in which each stands behind those that it may name.
 #![tactic(auto)]
 
 mod above;

@@ -1,6 +1,6 @@
-// What a sig's paragraph says of it.
+//! What the paragraph of a sig says of it, in the terms of the model.
 
-use base_types::Place;
+use base_types::Position;
 use core_tree::{Multiplicity, Origin};
 use resolve_names::{Names, SigEntry, paragraph_at};
 use std::alloc::{AllocError, Global};
@@ -75,7 +75,7 @@ pub fn all_vars(alloc: Global, loaded: &Loaded, names: &Names) -> Result<Vec<boo
     Ok(all)
 }
 
-fn paragraph_place(paragraph: &Paragraph) -> Option<Place> {
+fn paragraph_place(paragraph: &Paragraph) -> Option<Position> {
     match paragraph {
         Paragraph::Sig(sig) => Some(sig.place),
         Paragraph::Enum(e) => Some(e.place),

@@ -1,4 +1,4 @@
-// The bounds of all fields.
+//! Settles the bounds of all fields, those of ancestors first.
 
 use crate::bounds::{field_bound, field_type};
 use crate::field_group;

@@ -1,4 +1,4 @@
-// The sigs of the model.
+//! Makes the sigs of the model: those that are declared, `String`, and those of the literals.
 
 use crate::exact::all_exact;
 use crate::labels::{joined, sig_label};

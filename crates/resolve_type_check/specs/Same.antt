@@ -1,4 +1,4 @@
--- Rows as sets.
+-- Rows as sets: lists that have the same rows, in whatever order and however often.
 use Rattle.std.specs.Prelude.{ℕ, ◌==◌, Bool, true, false, cond, ◌&&◌, List, [], ◌∷◌, ◌++◌, Contains}
 use Rattle.std.specs.List.{list_any, IsDistinct}
 use Rattle.core_tree.specs.declared.model.Column.{Column}

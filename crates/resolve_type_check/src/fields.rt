@@ -1,4 +1,4 @@
-//! The fields of a model, and the rows of their declarations.
+//! Tests whether the rows of the fields of a model are those of their declarations.
 
 ghost use Rattle.std.specs.Prelude.{◌≡◌, ◌<◌, ◌^◌, length, IfOk, IfSome, IsTrue, All};
 ghost use Rattle.core_tree.specs.Trees.{term_of};

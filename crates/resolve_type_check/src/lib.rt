@@ -11,6 +11,3 @@ mod sigs;
 mod walk;
 
 pub use fields::keeps_types;
-
-#[cfg(test)]
-mod tests;

@@ -1,4 +1,4 @@
-//! Names with their types.
+//! Names in scope, each with the rows of its type, the innermost first.
 
 ghost use Rattle.std.specs.Prelude.{◌≡◌, ◌∷◌, IfOk};
 ghost use Rattle.resolve_type_check.specs.Names.{names_of};

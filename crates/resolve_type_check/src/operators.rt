@@ -1,4 +1,4 @@
-//! What operators make of types.
+//! What operators make of the types of their operands.
 
 ghost use Rattle.std.specs.Prelude.{◌≡◌, ◌++◌, ◌<◌, ◌^◌, length, IfOk, IfSome, IsTrue};
 ghost use Rattle.core_tree.specs.Types.{combined_rows, row_pairs, top_rows, each_pair, row_join};

@@ -1,4 +1,4 @@
-//! What two rows make together.
+//! What two rows make together, such as the row of a join.
 
 ghost use Rattle.std.specs.Prelude.{◌≡◌, ◌∷◌, ◌++◌, [], reverse, map, IfOk, OnOk};
 ghost use Rattle.std.specs.List.{flat_map};

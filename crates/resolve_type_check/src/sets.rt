@@ -1,4 +1,4 @@
-//! Rows as sets.
+//! Lists of rows are sets: no row is added that is there.
 
 ghost use Rattle.std.specs.Prelude.{◌≡◌, ◌==◌, IfOk, OnOk, IsTrue};
 ghost use Rattle.resolve_type_check.specs.Same.{SameRows, Within, same_column, same_row, has_row, with_row, added, IsEachOnce};

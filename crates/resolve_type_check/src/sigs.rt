@@ -1,4 +1,4 @@
-//! The sigs of a type, and where two of them meet.
+//! As which sig a sig stands in a type, and where two of them meet.
 
 ghost use Rattle.std.specs.Prelude.{◌≡◌, ◌++◌, ◌∷◌, [], ◌<◌, ◌^◌, length, IfOk, OnOk};
 ghost use Rattle.std.specs.List.{flat_map};

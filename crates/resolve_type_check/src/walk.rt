@@ -1,4 +1,4 @@
-//! The type of an expression that calls no function.
+//! Finds the type of an expression that calls no function.
 
 ghost use Rattle.std.specs.Prelude.{◌≡◌, ◌<◌, ◌^◌, length, map, IfOk, IfSome, slice_get};
 ghost use Rattle.core_tree.specs.Types.{rows_or_none};

@@ -1,4 +1,4 @@
-// The types of bounds.
+//! The type of a bound, and the product of the types of several.
 
 use crate::Columns;
 use crate::ground::{Ground, int_type, no_columns, nothing, static_sig};

@@ -1,4 +1,4 @@
-// Sets of rows with a number of columns.
+//! A type is a number of columns and a set of rows, and operators make types of types.
 
 ghost use Rattle.std.specs.Prelude.{◌≡◌, ◌+◌, ◌≤◌, IfOk};
 ghost use Rattle.resolve_types.specs.Types.{union_of, product_of, join_of, meets_of, left_restricted_of, right_restricted_of};

@@ -1,4 +1,4 @@
-// Sets of rows: lists without repeats, and what closes one under joins.
+//! Sets of rows: lists without repeats, and what closes one under joins.
 
 ghost use Rattle.std.specs.Prelude.{◌≡◌, IfOk, OnOk, ◌-◌, length};
 ghost use Rattle.resolve_types.specs.Types.{row_of, pairs};

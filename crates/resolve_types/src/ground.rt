@@ -1,4 +1,4 @@
-// What types are made of.
+//! Types stand on ground: as which sig each sig stands, so that types hold at every position.
 
 use crate::{Columns, Member};
 use base_lists::Items;

@@ -1,7 +1,7 @@
-//! Types of expressions: sets of rows of sigs, and how operators make them.
+//! Types of expressions: sets of rows of sigs, how operators make them, and the types of bounds.
 //!
-//! The rows of a bound, in which a `var` sig stands as its nearest ancestor that isn't `var`: so they
-//! hold at every position.
+//! In the rows of a bound a `var` sig stands as its nearest ancestor that isn't `var`, so that
+//! they hold at every position.
 #![tactic(auto)]
 
 mod columns;
@@ -15,13 +15,8 @@ pub use rows::{Row, Way};
 
 mod bound;
 mod ground;
-#[cfg(test)]
-mod sig_types_tests;
 mod static_rows;
 
 pub use bound::static_type;
 pub use ground::{Ground, static_sig};
 pub use static_rows::model_rows;
-
-#[cfg(test)]
-mod field_rows_tests;

@@ -1,4 +1,4 @@
-// The members of a type, and where two of them meet.
+//! The members of a type, and where two of them meet.
 
 ghost use Rattle.std.specs.Prelude.{◌≡◌, ◌==◌};
 ghost use Rattle.std.specs.List.{list_any};

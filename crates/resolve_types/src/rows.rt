@@ -1,4 +1,4 @@
-// Rows of members, and lists of them.
+//! Rows of members, and lists of them.
 
 ghost use Rattle.std.specs.Prelude.{◌≡◌, ◌∷◌, ◌++◌, ◌-◌, ◌<◌, length, map, reverse, take, drop, IfOk, OnOk};
 ghost use Rattle.std.specs.List.{filter_map, cons_option};

@@ -1,4 +1,4 @@
-// Types as the model has them.
+//! The rows of a type as the model has them.
 
 ghost use Rattle.std.specs.Prelude.{◌≡◌, IfOk, map};
 ghost use Rattle.resolve_types.specs.StaticRows.{column_of, row_of};

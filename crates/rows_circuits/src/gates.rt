@@ -1,4 +1,4 @@
-// Each call of a store of gates, on constants, three inputs and their negations.
+//! Rows on each call of a store of gates, on constants, three inputs and their negations.
 
 ghost use Rattle.std.specs.Prelude.{IfOk};
 ghost use Rattle.gate_trait.specs.Built.{Keeps};

@@ -1,4 +1,4 @@
-// Operators and comparisons on integers of one to four bits, for all pairs of them.
+//! Rows on operators and comparisons of integers of one to four bits, for all pairs of them.
 
 ghost use Rattle.std.specs.Prelude.{IfOk};
 ghost use Rattle.gate_trait.specs.Built.{Keeps, AllIn};

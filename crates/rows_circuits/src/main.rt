@@ -1,9 +1,15 @@
-//! Compares circuits of small operands with plain values, integers and sets, under all assignments, over both stores of gates.
+//! Compares circuits of small operands with plain values, under all assignments.
 //!
-//! Each line is a store, an operation, how many results are right, and how many aren't: of gates for all constants, inputs and negations
-//! of three inputs, and whether a gate that is asked for again is kept once; of integers for all pairs at each width from 1 to 4; of sets
-//! for all sets of pairs over two atoms, and in the closure, the transpose and the rests over three; and between sets and integers for
-//! all of them at each width from 1 to 3. The status is 1 where a result is wrong.
+//! The operands are gates, integers and sets, over both stores of gates. Each line is a store, an
+//! operation, how many results are right, and how many aren't:
+//! - of gates, for all constants, inputs and negations of three inputs, and whether a gate that is
+//!   asked for again is kept once;
+//! - of integers, for all pairs at each width from 1 to 4;
+//! - of sets, for all sets of pairs over two atoms, and in the closure, the transpose and the
+//!   rests over three;
+//! - between sets and integers, for all of them at each width from 1 to 3.
+//!
+//! The status is 1 where a result is wrong.
 #![tactic(auto)]
 
 mod gates;

@@ -1,4 +1,4 @@
-// Sets as integers and integers as sets, of integers of one to three bits.
+//! Rows on sets as integers and integers as sets, of integers of one to three bits.
 
 use crate::integers::{are_bits, inputs, integer_with, size_of};
 use crate::reading::{Readable, gate_values};

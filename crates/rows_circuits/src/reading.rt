@@ -1,4 +1,4 @@
-// Circuits that can be read, and the values of their gates.
+//! Circuits that can be read, and the values of their gates.
 
 use gate_store::CircuitStore;
 use gate_trait::{Gate, Gates, Node, PlainGates};

@@ -1,4 +1,4 @@
-// Operators and tests on sets over two or three atoms, for all sets.
+//! Rows on operators and tests of sets over two or three atoms, for all sets.
 
 use crate::reading::{Readable, among, gate_values, has_bit};
 use crate::tally::{Line, Tally, add_line};

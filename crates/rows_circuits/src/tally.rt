@@ -1,4 +1,4 @@
-// How many results are right.
+//! A tally tells how many results are right, and how many aren't.
 
 use std::alloc::AllocError;
 

@@ -1,4 +1,4 @@
-// A circuit's roots and the judgements of the evaluator.
+//! Compares the roots of a circuit with the judgements of the evaluator.
 
 use crate::values::{among, gate_values, low_bits};
 use base_types::Assignment;

@@ -1,26 +1,23 @@
-//! Compares the circuit of a small model and command with the meaning of the model, under all assignments of the table.
+//! Compares circuits of small models with the meaning of the models, under all assignments.
 //!
-//! An assignment under which the circuit is sure is a lasso; each such lasso is judged by the evaluator, which shares nothing with
-//! the circuit: whether it keeps the scopes, whether the declarations hold at every position, and whether each fact and the command
-//! hold at position 0. And how large a circuit is over either store of gates.
+//! Each word is a model, whose commands are taken in turn. An assignment of a command's table
+//! under which the circuit is sure is a lasso. Each such lasso is judged by the evaluator, which
+//! shares nothing with the circuit: whether it keeps the scopes, whether the declarations hold at
+//! every position, and whether each fact and the command hold at position 0. A line tells how many
+//! assignments there are, how many are lassos, how many of these satisfy all, and how many
+//! judgements differ from the circuit.
 //!
-//! Compares the circuits of small models with the meaning of the models, under all assignments of their tables.
+//! Of a table with more than 16 variables a line tells only that the store that has each gate once
+//! has fewer than a list of all.
 //!
-//! Each word is a model, whose commands are taken in turn. An assignment under which the circuit is sure is a lasso; each such
-//! lasso is judged by the evaluator, which shares nothing with the circuit: whether it keeps the scopes, whether the
-//! declarations hold at every position, and whether each fact and the command hold at position 0. A line tells how many
-//! assignments there are, how many are lassos, how many of these satisfy all, and how many judgements differ from the circuit.
-//!
-//! Of a table with more than 16 variables a line tells only that the store that has each gate once has fewer than a list of all.
-//!
-//! The status is 1 where one differs, the store hasn't fewer gates, or memory is wanting, and 3 where a model is refused.
+//! The status is 1 where one differs, the store hasn't fewer gates, or memory is wanting, and 3
+//! where a model is refused.
 #![tactic(auto)]
 
 pub mod comparing;
 pub mod sizes;
 pub mod values;
 
-use crate::{Question, Tally, compare, sizes_of};
 use answer_analysis::{Prepared, prepare_loaded};
 use answer_search::clauses_of;
 use anyhow::Result;

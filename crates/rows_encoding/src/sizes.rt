@@ -1,4 +1,4 @@
-// How large a circuit is over either store of gates.
+//! Tells how large a circuit is over either store of gates.
 
 use bmc_encoder::encode;
 use bound_uppers::Bounds;

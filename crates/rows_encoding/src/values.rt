@@ -1,4 +1,4 @@
-// The values of a circuit's nodes under an assignment.
+//! Computes the values of a circuit's nodes under an assignment.
 
 use gate_store::CircuitStore;
 use gate_trait::{Gate, Node};

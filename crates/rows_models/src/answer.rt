@@ -1,4 +1,5 @@
-// One call of the answer_analysis.
+//! Runs the analyser once, as a row says.
+
 use crate::row::{Held, Origin, Row};
 use anyhow::Result;
 use base_library::EmbeddedLibrary;

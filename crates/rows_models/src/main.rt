@@ -1,9 +1,10 @@
-//! Runs tables of rows, and prints what the answer_analysis answers to each: `model_rows TABLE ..`.
+//! Runs tables of rows, and prints what the analyser answers to each: `rows_models TABLE ..`.
 //!
-//! A row is one line: its name, a colon, the words of a command line, and settings, each after a semicolon. The libraries are
-//! one that holds the files of the settings and then the library that the answer_analysis brings along; the choosers are those of
-//! the answer_analysis's program, and the sink has ample room, as far as no setting says otherwise. Blank lines, and lines that begin
-//! with `#`, are no rows.
+//! A row is one line: its name, a colon, the words of a command line, and settings, each after a
+//! semicolon. The libraries are one that holds the files of the settings and then the library that
+//! the analyser brings along; the choosers are those of the analyser's program, and the sink has
+//! ample room, as far as no setting says otherwise. Blank lines, and lines that begin with `#`,
+//! are no rows.
 //!
 //! | Setting | Says |
 //! |---|---|
@@ -13,7 +14,7 @@
 //! | `write-fails N` | the sink's call N fails |
 //! | `room N` | the sink has room for N bytes |
 //! | `lying N` | there is one chooser, which always picks N |
-//! | `libraries memory` | the library that the answer_analysis brings along is left away |
+//! | `libraries memory` | the library that the analyser brings along is left away |
 //! | `show PART` | this part of the answer is printed, in place of the whole (see [`row::Show`]) |
 #![tactic(auto)]
 

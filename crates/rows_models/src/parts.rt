@@ -1,4 +1,5 @@
-// The parts of an answer that has clauses and a proof.
+//! Cuts an answer into its clauses and its proof.
+
 use std::alloc::{AllocError, Global};
 
 /// The clauses and the proof of an answer.

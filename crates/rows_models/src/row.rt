@@ -1,4 +1,5 @@
-// A row of a table.
+//! A row of a table: a name, the words of a command line, and settings.
+
 use anyhow::{Context, Result, bail};
 use std::alloc::Global;
 
@@ -38,7 +39,7 @@ pub enum Origin<'a> {
     Blanks(usize),
 }
 
-/// A run of the answer_analysis, and what is printed of its answer: the whole where `shows` is empty.
+/// A run of the analyser, and what is printed of its answer: the whole where `shows` is empty.
 #[derive(Drop)]
 pub struct Row<'a> {
     pub name: &'a str,

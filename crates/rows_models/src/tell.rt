@@ -1,4 +1,5 @@
-// Printing what the answer_analysis answers to a row.
+//! Prints what the analyser answers to a row.
+
 use crate::answer::{answer_to, shelf_of};
 use crate::parts::cut;
 use crate::row::{Row, Show};

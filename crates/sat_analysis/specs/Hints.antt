@@ -1,4 +1,4 @@
--- The hints of a learnt clause.
+-- The hints of a learnt clause: under its negation each reason is unit, and the last is false.
 use Rattle.std.specs.Prelude.{ℕ, ◌+◌, ◌<◌, ◌≤◌, ◌≡◌, ◌⊎◌, ℤ, neg_ℤ, List, [], ◌∷◌, Option, Some, None, length, nat_le, if◌then◌else◌}
 use Rattle.std.specs.List.{Contains}
 use Rattle.sat_lrat.specs.Step.{walk, among}

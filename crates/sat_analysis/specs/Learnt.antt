@@ -1,4 +1,4 @@
--- What a learnt clause is.
+-- What a learnt clause is: false on the trail, shown by its hints, asserting, and new.
 use Rattle.std.specs.Prelude.{ℕ, ◌<◌, ◌≤◌, ◌≡◌, ◌≢◌, ◌⊎◌, ℤ, List, [], length, take, slice_index}
 use Rattle.std.specs.List.{Contains}
 use Rattle.sat_trail.specs.Assignment.{value_at}

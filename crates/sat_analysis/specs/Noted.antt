@@ -1,4 +1,4 @@
--- Literals that were noted, at most one of each variable.
+-- Literals that a conflict analysis has noted, at most one of each variable.
 use Rattle.std.specs.Prelude.{ℕ, ◌<◌, ◌≡◌, ℤ, Bool, true, false, List, ◌↔◌, length, slice_index_or}
 use Rattle.sat_trail.specs.Literal.{index, IsLiteral}
 use Rattle.sat_trail.specs.Assignment.{value_at}

@@ -1,4 +1,4 @@
--- What stands while a false clause is resolved with the reasons of its literals.
+-- What stands while a false clause is resolved with reasons, back to the first UIP and further.
 use Rattle.std.specs.Prelude.{ℕ, ◌-◌, ◌<◌, ◌≤◌, ◌≡◌, ◌⊎◌, ℤ, neg_ℤ, List, [], ◌∷◌, ◌++◌, Option, Some, None, IsSome, IfSome, length, take, slice_index}
 use Rattle.std.specs.List.{All, Contains}
 use Rattle.sat_trail.specs.Literal.{index, IsLiteral}

@@ -1,3 +1,29 @@
+//! Learning from a conflict: the clause of the first UIP, its hints, and the level to go back to.
+//!
+//! In the implication graph a forced literal has an edge from the negation of each other literal
+//! of its reason. A conflict is a clause that is false on the trail. To resolve it with the reason
+//! of one of its literals puts the others of that reason in the literal's place, and what comes
+//! out is false too.
+//!
+//! The trail is walked back from its end. Each literal of the last decision level that was met, in
+//! the conflict or in a reason since, is resolved away, until just one met literal of that level
+//! is left. This is the first UIP, the first unique implication point from the conflict on: all
+//! that the level contributed to the conflict came through it. There is one wherever the levels
+//! below were propagated to their ends, at the latest the decision itself. The graph is cut just
+//! behind it: the conflict side was resolved away, and the learnt clause has the negations of the
+//! literals of the reason side with an edge into the other: that of the UIP, and the met ones of
+//! lower levels. (Implication graphs and their UIPs: GRASP, Marques-Silva and Sakallah 1999.)
+//!
+//! The met literals below the last level are then parted into those that stay and those that
+//! others force (`minimise`). The UIP's negation is the clause's one literal of the last level. So
+//! when the search goes back to the greatest level of the others, `back_to`, all others are still
+//! false: the learnt clause is unit there, and forces it. At level 0 all is resolved away, and the
+//! clause is empty.
+//!
+//! The hints are the reasons of all literals that were resolved away, in the order of the trail,
+//! and last the conflict: under the learnt clause's negation each reason is unit in turn, and the
+//! conflict false. This is what a lemma of the LRAT format wants (Cruz-Filipe and others 2017).
+
 ghost use Rattle.std.specs.Prelude.{◌≡◌, ℕ, ℤ, neg_ℤ, ◌+◌, ◌-◌, ◌<◌, ◌≤◌, ◌++◌, ◌∷◌, [], List, length, IfOk, IfSome, OnOk, Option};
 ghost use Rattle.std.specs.List.{All, Contains};
 ghost use Rattle.sat_trail.specs.Literal.{IsLiteral};
@@ -77,6 +103,7 @@ impl Analysis {
         ensures literals { OnOk result (All (IsLiteral trail.now.variables) self.new.literals.items) }
         ensures learnt { OnOk result (IsLearnt trail.now self.new.literals.items self.new.hints.items self.new.back_to) }
     {
+        // for the proof: this call's clauses say what a trail keeps
         let _literals = trail.trail();
         self.clear();
         self.met = resolve_all(
@@ -156,6 +183,7 @@ fn negation_at(trail: &Trail, place: usize) -> i64
     requires { place < length trail.now.assignment.trail }
     ensures { result ≡ neg_ℤ (value_at trail.now.assignment.trail place) }
 {
+    // for the proof: this call's clauses say how many values there are
     let _values = trail.values();
     -trail.trail()[place]
 }

@@ -1,3 +1,5 @@
+//! Levels and reasons of literals, and how the literals of a clause are noted.
+
 ghost use Rattle.std.specs.Prelude.{◌≡◌, ℕ, ◌-◌, ◌<◌, ◌≤◌, length, slice_index, IfSome, IfNone, OnOk};
 ghost use Rattle.std.specs.List.{Contains};
 ghost use Rattle.sat_trail.specs.Literal.{IsLiteral};

@@ -1,3 +1,8 @@
+//! The hints of a learnt clause are the reasons of what was resolved away, by the trail's order.
+//!
+//! A checker takes them as they stand: each is unit under those before it, and the last one is
+//! false.
+
 ghost use Rattle.std.specs.Prelude.{◌≡◌, ℕ, ℤ, neg_ℤ, ◌+◌, ◌-◌, ◌<◌, ◌≤◌, ◌++◌, ◌∷◌, [], List, length, IfOk, OnOk, slice_index};
 ghost use Rattle.std.specs.List.{All, Contains};
 ghost use Rattle.sat_trail.specs.Literal.{IsLiteral};

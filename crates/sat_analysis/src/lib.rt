@@ -1,8 +1,7 @@
-//! What a search learns from a false clause: a clause that follows from those it has, with the hints that show it.
+//! Conflict analysis: what a search learns from a false clause, with the hints that show it.
 //!
-//! From the false clause on, literals of the last level are resolved away by their reasons, last first, until one is
-//! left: the first unique implication point. Then each literal goes that others of the clause force, and what is true
-//! at level 0.
+//! The clause comes from resolution back to the first UIP (`point`), is made shorter by
+//! minimisation (`minimise`), and has hints for a refutation in the LRAT format (`hints`).
 #![tactic(auto)]
 
 mod analysis;
@@ -11,7 +10,5 @@ mod hints;
 mod minimise;
 mod noted;
 mod point;
-#[cfg(test)]
-mod tests;
 
 pub use analysis::Analysis;

@@ -1,3 +1,27 @@
+//! Recursive minimisation: a literal leaves a learnt clause where the clause's others force it.
+//!
+//! A literal of the clause is false. Where all other literals of its negation's reason are among
+//! those of the clause, resolution with that reason removes it and adds nothing. The same holds
+//! where these others can be removed in turn, and so on: the literal is redundant (Sörensson and
+//! Biere 2009; MiniSat does so as well). Reasons have only what came earlier on the trail, so
+//! nothing shows itself.
+//!
+//! The search goes in breadth, without recursion. The noted literals are a list. A literal is
+//! tried by noting its reason's literals behind it, then those of the reasons of these, until
+//! nothing new comes. Where it fails, all that was noted for it is forgotten. Where it succeeds,
+//! that stays noted: later tries may end there, and its reasons are among the hints. A failure
+//! isn't remembered.
+//!
+//! A try fails at a literal that has no reason, since it is a decision. It also fails, before the
+//! reason of that literal is read, at one of a level from which no literal was met: to remove it
+//! one would come to that level's decision in the end. Levels are compared by their rests at 64,
+//! as bits of one number, so a few hopeless tries aren't seen at once; they fail later.
+//!
+//! Literals of level 0 are always redundant. They leave by the same way, down to the clauses that
+//! force them, since the hints have to name these.
+//!
+//! Only literals below the last level are tried: of that one just the first UIP is left.
+
 ghost use Rattle.std.specs.Prelude.{◌≡◌, ℕ, ℤ, ◌+◌, ◌-◌, ◌<◌, ◌≤◌, ◌++◌, [], List, length, IfOk, OnOk, IsTrue, IsFalse};
 ghost use Rattle.std.specs.List.{All, Contains};
 ghost use Rattle.sat_trail.specs.Literal.{IsLiteral};

@@ -1,3 +1,5 @@
+//! Literals that a conflict analysis has met: a list, and a mark for each variable that is in it.
+
 ghost use Rattle.std.specs.Prelude.{◌≡◌, ℕ, ◌+◌, ◌-◌, ◌<◌, ◌≤◌, ◌↔◌, ◌++◌, ◌∷◌, [], length, take, IfOk, OnOk, IsTrue};
 ghost use Rattle.std.specs.List.{All};
 ghost use Rattle.sat_trail.specs.Literal.{IsLiteral};

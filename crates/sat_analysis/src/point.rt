@@ -1,3 +1,5 @@
+//! Resolution from a false clause back to the first UIP, the one literal left of the last level.
+
 ghost use Rattle.std.specs.Prelude.{◌≡◌, ℕ, ℤ, ◌+◌, ◌-◌, ◌<◌, ◌≤◌, ◌↔◌, [], List, length, IfOk, OnOk, IsTrue, IsFalse};
 ghost use Rattle.sat_trail.specs.Watched.{IsFalseIn};
 ghost use Rattle.sat_trail.specs.State.{clause_at};

@@ -1,4 +1,4 @@
--- What the answers of the checker say.
+-- What the checker answers to a line: what it does where it passes, or the rule that it breaks.
 use Rattle.std.specs.Prelude.{ℕ, Option, Some, None, Result, Ok, Err}
 use Rattle.std.specs.Prelude.{ℤ, [], ◌∷◌}
 use Rattle.sat_lrat.specs.declared.line.Line.{Line}

@@ -1,3 +1,5 @@
+//! The checker: the clauses that stand, and what a line does to them where it passes.
+
 ghost use Rattle.std.specs.Prelude.{◌≡◌, ◌<◌, ◌≤◌, IfOk, IfErr, IfSome, OnOk, OnErr, IsErrOf, IsOk, IsSome, Ok, Err, List, ℤ};
 ghost use Rattle.sat_dimacs.specs.Literal.{IsLiteral};
 ghost use Rattle.sat_lrat.specs.Step.{State, start, step, walk, clause_at, among, with_clause, Follows, IsUnsatisfiable};

@@ -1,3 +1,5 @@
+//! What a line comes to: it passed, breaks a rule from L1 to L5 first, or memory was wanting.
+
 ghost use Rattle.std.specs.Prelude.{◌≡◌};
 ghost use Rattle.sat_checker.specs.declared.fault.LineFault.TheVariants.{Memory};
 

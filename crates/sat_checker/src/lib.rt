@@ -1,7 +1,7 @@
-//! A checker of refutations in the LRAT format, line by line.
+//! A checker of refutations in the LRAT format, line by line (Cruz-Filipe and others 2017).
 //!
-//! A lemma passes where its hints show it by unit propagation alone, so that a line is checked in a time that goes by
-//! the literals in its hints.
+//! A lemma passes where its hints show it by unit propagation alone, so that a line is checked in
+//! a time that goes by the literals in its hints.
 #![tactic(auto)]
 
 mod checker;

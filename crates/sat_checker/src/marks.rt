@@ -1,3 +1,5 @@
+//! Marks for false literals, which a new stamp clears all at once.
+
 ghost use Rattle.std.specs.Prelude.{◌≡◌, not, neg_ℤ, IsTrue, ◌<◌, ◌≤◌, ◌||◌, ℕ, ℤ, length, slice_index, slice_set, OnOk, OnErr, vec_len};
 ghost use Rattle.std.specs.Ordering.{int_eq};
 ghost use Rattle.sat_lrat.specs.Step.{among, rest_of, beside, with_literal};

@@ -1,3 +1,5 @@
+//! The standing clauses by their numbers: which numbers stand, and what a deletion takes out.
+
 ghost use Rattle.std.specs.Prelude.{◌≡◌, ◌≤◌, ◌*◌, ◌<◌, ℕ, length, nat_eq, is_some, OnOk, OnErr, vec_len, All};
 ghost use Rattle.std.specs.Prelude.{if◌then◌else◌, ◌==◌, nat_abs, IsSome, None, ◌^◌, IfOk, IsTrue, true, ◌+◌, slice_index};
 ghost use Rattle.std.specs.Ordering.{nat_cmp};

@@ -1,4 +1,4 @@
-use crate::{Checker, LineFault, Step};
+use crate::{Checker, Step};
 use sat_dimacs::{Clause, read_cnf};
 use sat_lrat::{Hints, Line};
 use std::alloc::{AllocError, Global};
@@ -45,25 +45,5 @@ fn refutes_four_clauses(rt: HostRuntime) -> Result<(), Fail> {
     assert_eq!(rt; checker.add(&line), Ok(Step::Deleted));
     let line = lemma(rt.alloc(), 7, true, &[5, 3, 4])?;
     assert_eq!(rt; checker.add(&line), Ok(Step::Refuted));
-    Ok(())
-}
-
-#[test]
-fn refuses_other_lines(rt: HostRuntime) -> Result<(), Fail> {
-    let mut checker = checker_of_four(rt.alloc())?.ok_or("a checker")?;
-    let line = lemma(rt.alloc(), 4, false, &[1, 2])?;
-    assert_eq!(rt; checker.add(&line), Err(LineFault::L1));
-    let line = lemma(rt.alloc(), 5, false, &[1, 9])?;
-    assert_eq!(rt; checker.add(&line), Err(LineFault::L2));
-    let line = lemma(rt.alloc(), 5, true, &[1, 2])?;
-    assert_eq!(rt; checker.add(&line), Err(LineFault::L3));
-    let line = lemma(rt.alloc(), 5, false, &[1])?;
-    assert_eq!(rt; checker.add(&line), Err(LineFault::L4));
-    for numbers in [[1, 1].as_slice(), &[2, 1, 2], &[1, 9]] {
-        let line = deletion(rt.alloc(), numbers)?;
-        assert_eq!(rt; checker.add(&line), Err(LineFault::L5));
-    }
-    let line = lemma(rt.alloc(), 5, false, &[1, 2])?;
-    assert_eq!(rt; checker.add(&line), Ok(Step::Added));
     Ok(())
 }

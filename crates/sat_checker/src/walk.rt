@@ -1,3 +1,5 @@
+//! Unit propagation by hints: under false literals of a lemma each hint is unit or false.
+
 ghost use Rattle.std.specs.Prelude.{◌≡◌, ◌<◌, length, nat_eq, IfErr, IsSome};
 ghost use Rattle.std.specs.HashMap as hash;
 ghost use Rattle.sat_lrat.specs.Step.{among, walk};

@@ -1,3 +1,28 @@
+//! EVSIDS: decide on a free variable that took part in many recent conflicts, with its last sign.
+//!
+//! VSIDS gives each variable a score, bumps the scores of the variables of a conflict, and now and
+//! then lets all scores decay, so that recent conflicts count more (Chaff: Moskewicz and others
+//! 2001). EVSIDS decays after every conflict, and touches no score for it: what later bumps add
+//! grows instead, which keeps the order the same (the exponential form is MiniSat's, Eén and
+//! Sörensson 2003; for both see Biere and Fröhlich 2015). Here scores are called weights.
+//!
+//! A bump adds `step` to a weight. It comes for every variable that was met between the conflict
+//! and the first UIP, whether or not the learnt clause has it. A decay makes `step` larger by a
+//! 19th of itself, so that what was added before counts 19/20. Weights are whole numbers: where
+//! the step or a weight passes 2^58, all are shifted down by 30 bits. That keeps the order, but
+//! may make equal what was different, such as small old weights.
+//!
+//! The variables wait in a binary heap by weight. A search undoes decisions without telling the
+//! chooser. So a variable that comes out assigned is set aside, and at a pick the chooser looks
+//! which of its picks are still true: what was set aside behind the first that isn't may be free,
+//! and waits again (`picks`).
+//!
+//! The sign is the one that the variable had when the chooser last saw it assigned, at a bump or
+//! out of the heap (phase saving); at first it is false.
+//!
+//! Not proved: that the picked variable has the greatest weight. A search is right whatever is
+//! picked.
+
 use crate::chooser::Chooser;
 use crate::heap::WeightHeap;
 use crate::picks::{Picks, literal_of, value_of};
@@ -31,10 +56,15 @@ fn note_sign(signs: &mut [bool], variable: usize, is_true: bool) {
 #[derive(Drop)]
 pub struct Activity {
     alloc: Global,
+    /// The variables that wait, by weight.
     heap: WeightHeap,
+    /// The sign of each variable when it was last seen assigned: true for a positive literal.
     signs: Vec<bool>,
+    /// The decisions that may still be true.
     picks: Picks,
+    /// What a bump adds at present.
     step: u64,
+    /// Whether there was a bump or a decay since the last pick.
     has_conflict: bool,
 }
 

@@ -1,3 +1,5 @@
+//! A boxed chooser is a chooser, so that a program may decide which one it uses when it runs.
+
 use crate::chooser::Chooser;
 use std::alloc::AllocError;
 

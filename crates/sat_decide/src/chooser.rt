@@ -1,3 +1,5 @@
+//! What a search asks of a decision heuristic: a pick, bumps after a conflict, and decay.
+
 use std::alloc::AllocError;
 
 /// Picks the literal that a search makes true.

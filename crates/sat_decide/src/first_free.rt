@@ -1,3 +1,5 @@
+//! The plainest heuristic takes the least variable that is free, as false.
+
 use crate::chooser::Chooser;
 use std::alloc::AllocError;
 

@@ -1,3 +1,7 @@
+//! A binary heap of the variables that wait to be picked, one of greatest weight first.
+//!
+//! Not proved: that the first has the greatest weight. A search depends on none of it.
+
 ghost use Rattle.std.specs.Prelude.{◌≡◌, ◌+◌, ◌-◌, ◌*◌, ◌/◌, ◌<◌, ◌≤◌, length, IfSome};
 
 use std::alloc::{AllocError, Global};

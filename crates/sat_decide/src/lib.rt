@@ -1,7 +1,7 @@
-//! What a search makes true next.
+//! The decision heuristic: which literal a search makes true where nothing is forced.
 //!
-//! A search asks its chooser for a literal whenever nothing is forced. Nothing is promised of what a chooser picks:
-//! a search has to answer rightly whatever it is told.
+//! A search asks its [`Chooser`] for a literal whenever nothing is forced. Nothing is promised of
+//! what a chooser picks: a search has to answer rightly whatever it is told.
 #![tactic(auto)]
 
 mod activity;

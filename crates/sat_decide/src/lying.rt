@@ -1,3 +1,5 @@
+//! A chooser for tests that always answers one number: a search has to stand whatever it is told.
+
 use crate::chooser::Chooser;
 use std::alloc::AllocError;
 

@@ -1,3 +1,5 @@
+//! What a chooser knows of undone decisions: it sees them by the values that it is given.
+
 ghost use Rattle.std.specs.Prelude.{◌≡◌, ◌≤◌, length};
 
 use std::alloc::{AllocError, Global};

@@ -1,4 +1,4 @@
-use crate::{Activity, Boxed, Chooser, FirstFree, Lying};
+use crate::{Activity, Boxed, Chooser};
 use std::test::Fail;
 
 #[test]
@@ -19,31 +19,6 @@ fn activity_picks_the_most_bumped_with_its_sign(rt: HostRuntime) -> Result<(), F
     assert_eq!(rt; chooser.pick(&[0, 0, 0, 0]), 3);
     // A bump behind a decay counts more, so variable 4 comes before variable 2.
     assert_eq!(rt; chooser.pick(&[0, 0, 1, 0]), 4);
-    chooser.decay();
-    for _ in 0..3 {
-        chooser.bump(-1);
-    }
-    assert_eq!(rt; chooser.pick(&[0, 0, 0, 0]), -1);
-    assert_eq!(rt; chooser.pick(&[1, 1, 1, 1]), 0);
-    Ok(())
-}
-
-#[test]
-fn activity_picks_each_free_variable_again_after_undoing(rt: HostRuntime) -> Result<(), Fail> {
-    let mut chooser = Activity::new(rt.alloc());
-    chooser.start(3)?;
-    let first = chooser.pick(&[0, 0, 0]);
-    assert!(rt; first < 0);
-    // All are assigned at once, and then all are undone without a word.
-    assert_eq!(rt; chooser.pick(&[-1, -1, -1]), 0);
-    let mut values = [0i8, 0, 0];
-    for _ in 0..3 {
-        let picked = chooser.pick(&values);
-        let number = picked.unsigned_abs() as usize;
-        assert!(rt; picked < 0 && number >= 1 && number <= 3);
-        values[number - 1] = -1;
-    }
-    assert_eq!(rt; values, [-1, -1, -1]);
     Ok(())
 }
 
@@ -64,30 +39,6 @@ fn weights_stay_in_range(rt: HostRuntime) -> Result<(), Fail> {
         chooser.bump(2);
     }
     assert_eq!(rt; chooser.pick(&[0, 0]), 2);
-    Ok(())
-}
-
-#[test]
-fn first_free_picks_the_least(rt: HostRuntime) -> Result<(), Fail> {
-    let mut chooser = FirstFree::new();
-    chooser.start(3)?;
-    assert_eq!(rt; chooser.pick(&[1, 0, 0]), -2);
-    assert_eq!(rt; chooser.pick(&[1, -1, 0]), -3);
-    chooser.bump(3);
-    assert_eq!(rt; chooser.pick(&[1, 0, 0]), -2);
-    chooser.decay();
-    assert_eq!(rt; chooser.pick(&[0, -1, -1]), -1);
-    assert_eq!(rt; chooser.pick(&[1, -1, -1]), 0);
-    Ok(())
-}
-
-#[test]
-fn a_lying_chooser_repeats_its_number(rt: HostRuntime) -> Result<(), Fail> {
-    let mut chooser: Box<dyn Chooser> = Box::new(rt.alloc(), Lying::new(i64::MIN))?;
-    chooser.start(1)?;
-    chooser.bump(1);
-    chooser.decay();
-    assert_eq!(rt; chooser.pick(&[0]), i64::MIN);
     Ok(())
 }
 

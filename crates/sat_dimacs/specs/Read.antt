@@ -1,4 +1,4 @@
--- What the answers of the reader say.
+-- What the reader of clauses answers: what the text spells, or that memory was wanting.
 use Rattle.std.specs.Prelude.{◌≡◌, ℕ, Option, Some, None, Result, Ok, Err, All}
 use Rattle.sat_dimacs.specs.Literal.{IsWithin}
 use Rattle.sat_dimacs.specs.declared.cnf.Cnf.{Cnf}

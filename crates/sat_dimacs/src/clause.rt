@@ -1,3 +1,5 @@
+//! Clauses and lists of clauses, which contracts see as lists of literals.
+
 ghost use Rattle.std.specs.Prelude.{◌≡◌, ◌==◌, ◌<◌, ◌++◌, ◌∷◌, [], length, slice_get, is_ok, if◌then◌else◌, All, IfOk, Some};
 ghost use Rattle.sat_dimacs.specs.Literal.{IsLiteral};
 

@@ -1,3 +1,5 @@
+//! A set of clauses, all to be true together, with the number of their variables.
+
 ghost use Rattle.std.specs.Prelude.{All};
 ghost use Rattle.sat_dimacs.specs.Literal.{IsWithin};
 

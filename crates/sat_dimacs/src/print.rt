@@ -1,3 +1,5 @@
+//! Writing clauses: the table's rows as comments, the header, and a line for each clause.
+
 ghost use Rattle.std.specs.Prelude.{◌≡◌, ◌++◌, length, OnOk, IfOk, flat_map};
 ghost use Rattle.sat_dimacs.specs.Text.{row_text, clause_text, header_text, cnf_text};
 

@@ -1,3 +1,5 @@
+//! Reading clauses from a text, or the first rule of C01 to C04 that the text breaks.
+
 ghost use Rattle.std.specs.Prelude.{◌≡◌, ◌++◌, ◌∷◌, [], ◌+◌, ◌≤◌, ◌<◌, ◌^◌, ℕ, max, length, option_copied, OnOk, IfOk, IfSome, IsNone};
 ghost use Rattle.base_words.specs.Words.{parts, other_parts, words};
 ghost use Rattle.sat_dimacs.specs.Text.{take_word, take_words, take_line, last_line, end_line, ended, clauses_behind, is_p, is_cnf, header_of, is_silent, nothing_taken, formula_behind, formula_of};

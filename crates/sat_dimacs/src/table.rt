@@ -1,3 +1,5 @@
+//! The table of a set of clauses: what its variables stand for, a row of text each.
+
 ghost use Rattle.std.specs.Prelude.{◌≡◌, ◌<◌, ◌++◌, ◌∷◌, [], length, slice_get, is_ok, if◌then◌else◌, Some, IsTrue, not};
 ghost use Rattle.sat_dimacs.specs.Text.{has_feed};
 

@@ -1,16 +1,5 @@
-use crate::{
-    Clause, ClauseList, Cnf, CnfFault, Row, Table, has_feed, print_cnf, read_cnf, satisfies,
-};
-use std::alloc::{AllocError, Global};
+use crate::{Row, Table, has_feed, print_cnf, read_cnf, satisfies};
 use std::test::Fail;
-
-/// The fault of a text, if it has one.
-fn fault_of(alloc: Global, text: &str) -> Option<CnfFault> {
-    if text.len() > 1000 {
-        return None;
-    }
-    read_cnf(alloc, text.as_bytes()).err()
-}
 
 #[test]
 fn reads_and_writes_clauses(rt: HostRuntime) -> Result<(), Fail> {
@@ -30,49 +19,5 @@ fn reads_and_writes_clauses(rt: HostRuntime) -> Result<(), Fail> {
         out.as_slice(),
         b"c var 1 A\np cnf 3 2\n1 -3 0\n2 0\n".as_slice()
     );
-    Ok(())
-}
-
-#[test]
-fn refuses_at_the_first_break(rt: HostRuntime) {
-    let rows = [
-        ("", 1, 1),
-        ("c\n\n", 1, 2),
-        ("p cnf 2\n", 1, 1),
-        ("p cnf 02 0\n", 1, 1),
-        ("\np cnf 100000001 0\n", 1, 2),
-        ("p cnf 2 1\n1 3 0\n", 2, 2),
-        ("p cnf 2 1\n\n01 0\n", 2, 3),
-        ("p cnf 2 2\n1 2 0\n", 3, 2),
-        ("p cnf 2 2\n1 2 0\n\n", 3, 3),
-        ("p cnf 2 1\n1 2\n", 4, 2),
-        ("p cnf 2 9\n1 2", 4, 2),
-    ];
-    for (text, rule, line) in rows {
-        assert_eq!(rt;
-            fault_of(rt.alloc(), text),
-            Some(CnfFault::Refused { rule, line }),
-            "at {text}"
-        );
-    }
-    assert_eq!(rt; fault_of(rt.alloc(), "p cnf 0 1\n0\n"), None);
-}
-
-/// A list of one clause that has one literal, made of a copy.
-fn one_clause(alloc: Global) -> Result<ClauseList, AllocError> {
-    let mut clause = Clause::new(alloc);
-    clause.push(-1)?;
-    let mut list = ClauseList::new(alloc);
-    list.push(clause.copy(alloc)?)?;
-    Ok(list)
-}
-
-#[test]
-fn makes_clauses(rt: HostRuntime) -> Result<(), Fail> {
-    let list = one_clause(rt.alloc())?;
-    assert_eq!(rt; list.len(), 1);
-    let clause = list.get(0);
-    assert_eq!(rt; clause.len(), 1);
-    assert_eq!(rt; *clause.get(0), -1);
     Ok(())
 }

@@ -1,3 +1,5 @@
+//! Whether an assignment satisfies clauses.
+
 ghost use Rattle.std.specs.Prelude.{◌≡◌, ◌<◌, ◌↔◌, IsTrue};
 ghost use Rattle.std.specs.List.{list_all};
 ghost use Rattle.sat_dimacs.specs.Literal.{literal_value, clause_value, Satisfies, value_of};

@@ -1,4 +1,5 @@
--- Which words are a right line, and what is wrong with the others: the grammar of a line, by whole lists of words.
+-- Which words are a right line, and what is wrong with the others: the grammar of a line, by whole
+-- lists of words.
 use Rattle.std.specs.Prelude.{◌≡◌, ℕ, ℤ, List, [], ◌∷◌, ◌++◌, Some, IsTrue}
 use Rattle.std.specs.List.{AllZip, list_any}
 use Rattle.base_words.specs.Words.{positive_of, literal_of, is_zero}

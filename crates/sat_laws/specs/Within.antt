@@ -1,4 +1,4 @@
--- Clauses that a text may have.
+-- Clauses that a text may have: their literals are of the variables from 1 to a number.
 use Rattle.std.specs.Prelude.{◌<◌, ◌≤◌, ℕ, ℤ, nat_abs}
 
 -- a literal of one of the variables from 1 to a number

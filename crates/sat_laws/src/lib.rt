@@ -1,13 +1,8 @@
-//! Laws of the LRAT format: what is printed is read again, and the faults of lines by the grammar of whole lines.
+//! Laws of the DIMACS and LRAT formats: what is printed is read again, and which lines are right.
 //!
-//! `sat_lrat` says of each call what it reads and writes, by definitions that follow the words. These laws
-//! say of the definitions what a reader of the formats expects of them. The functions do nothing; a caller that needs a law
-//! calls it.
-//!
-//! A law of the DIMACS format: clauses that are printed are read again.
-//!
-//! `sat_dimacs` says which text `print_cnf` writes and what `read_cnf` reads in a text. The law says of the two that the second
-//! gives back what was given to the first. The function does nothing; a caller that needs the law calls it.
+//! `sat_dimacs` and `sat_lrat` say what each call reads and writes, by definitions that follow the
+//! words. These laws say of the definitions what a reader of the formats expects of them. The
+//! functions do nothing; a caller that needs a law calls it.
 #![tactic(auto)]
 
 ghost use Rattle.std.specs.Prelude.{◌≡◌, ◌↔◌, ◌⊎◌, Bool, true, ℕ, List, Ok, Err, All};
@@ -33,17 +28,6 @@ pub fn faults_are_by_fronts()
         (rule ≡ 11) ⊎ ((rule ≡ 12) ⊎ (rule ≡ 13)) }
 {}
 
-#[cfg(test)]
-mod tests {
-    use super::*;
-
-    #[test]
-    fn calls_each_law() {
-        printed_lines_are_read_again();
-        faults_are_by_fronts();
-    }
-}
-
 ghost use Rattle.std.specs.Prelude.{◌≡◌, ◌≤◌, false, ℕ, ℤ, List, Ok, All, length};
 ghost use Rattle.sat_dimacs.specs.Text.{formula_of, cnf_text, has_feed};
 ghost use Rattle.sat_laws.specs.Within.{IsOf};
@@ -54,13 +38,3 @@ use sat_dimacs::{MOST_CLAUSES, MOST_VARIABLES};
 pub fn printed_clauses_are_read_again()
     ensures { (table : List (List ℕ)) (variables : ℕ) (clauses : List (List ℤ)) → All (λ row. has_feed row ≡ false) table → variables ≤ MOST_VARIABLES → length clauses ≤ MOST_CLAUSES → All (All (IsOf variables)) clauses → formula_of (cnf_text table variables clauses) ≡ Ok (record { variables = variables; clauses = clauses }) }
 {}
-
-#[cfg(test)]
-mod tests {
-    use super::*;
-
-    #[test]
-    fn calls_the_law() {
-        printed_clauses_are_read_again();
-    }
-}

@@ -1,4 +1,4 @@
-// Copies of lines.
+//! Copies of lines.
 
 ghost use Rattle.std.specs.Prelude.{◌≡◌, ◌≤◌, ◌++◌, ◌∷◌, [], IfOk, OnOk, length};
 ghost use Rattle.sat_lemmas.specs.Kept.{is_marked, kept};

@@ -1,11 +1,9 @@
-//! The lemmas of a search, each of which is checked as it comes.
+//! The lemmas of a search: each is checked as it comes, and those not needed can be left out.
 //!
-//! A search that hands its lemmas to a log needs no proof that they are right: the log takes a lemma only where it passes
-//! the checker's step, so that its lines refute the clauses as soon as the empty lemma was taken.
-//!
-//! The lemmas of a refutation that it needs.
-//!
-//! A search learns many lemmas that no later one is drawn from. Without them a refutation still refutes, and is shorter.
+//! A search that hands its lemmas to a log needs no proof that they are right: the log takes a
+//! lemma only where it passes the checker's step, so that its lines refute the clauses as soon as
+//! the empty lemma was taken. From many lemmas of a search nothing is drawn later: without them a
+//! refutation still refutes, and is shorter.
 #![tactic(auto)]
 
 mod log;
@@ -13,13 +11,8 @@ mod log;
 pub use log::{LemmaLog, Taken};
 
 mod copy;
-#[cfg(test)]
-mod lemma_log_tests;
 mod mark;
 mod shorten;
 mod stay;
 
 pub use shorten::trim;
-
-#[cfg(test)]
-mod lemma_trim_tests;

@@ -1,3 +1,5 @@
+//! A log of lemmas takes a lemma only where the checker passes it.
+
 ghost use Rattle.std.specs.Prelude.{◌≡◌, List, ℤ, IfOk, [], IsTrue};
 ghost use Rattle.sat_lrat.specs.Step.{start};
 ghost use Rattle.sat_lemmas.specs.Outcome.{AreLemmas, Leaves, IsTaken, is_lemma};

@@ -1,4 +1,4 @@
-// Which lines the empty lemma is drawn from.
+//! Marks the lines that the empty lemma is drawn from.
 
 ghost use Rattle.std.specs.Prelude.{◌≡◌, ◌<◌, length};
 ghost use Rattle.sat_lemmas.specs.Kept.{place_of};

@@ -1,4 +1,4 @@
-// A refutation without the lines that it doesn't need.
+//! Makes a refutation without the lines that it doesn't need.
 
 ghost use Rattle.std.specs.Prelude.{◌≡◌, ◌<◌, ◌≤◌, ℤ, List, IfOk, IfSome, IsTrue, length, take};
 ghost use Rattle.std.specs.List.{list_any};

@@ -1,4 +1,4 @@
-// Whether the marked lines need no other.
+//! Tests whether the marked lines need no other.
 
 ghost use Rattle.std.specs.Prelude.{◌≡◌, ◌<◌, ◌≤◌, length};
 ghost use Rattle.std.specs.List.{list_all};

@@ -123,7 +123,7 @@ impl NodeLists {
 
 #[cfg(test)]
 mod tests {
-    use super::{NodeLists, push_in_room};
+    use super::NodeLists;
     use std::test::Fail;
 
     #[test]
@@ -142,14 +142,6 @@ mod tests {
         assert_eq!(rt; lists.first(), Some(2));
         lists.settle(2);
         assert_eq!(rt; lists.first(), Some(1));
-        Ok(())
-    }
-
-    #[test]
-    fn an_item_goes_into_the_room(rt: HostRuntime) -> Result<(), Fail> {
-        let mut items = Vec::with_capacity(rt.alloc(), 1)?;
-        push_in_room(&mut items, 7u64);
-        assert_eq!(rt; items.as_slice(), [7].as_slice());
         Ok(())
     }
 }

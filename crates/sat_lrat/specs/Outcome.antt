@@ -1,4 +1,4 @@
--- What the outcome of a search says of its clauses.
+-- What the outcome of a search says of its clauses: satisfied, refuted, or a budget spent.
 use Rattle.std.specs.Prelude.{◌≡◌, ℕ, ℤ, List, Option, Some}
 use Rattle.sat_dimacs.specs.Literal.{IsSolution}
 use Rattle.sat_lrat.specs.Step.{Refutes}

@@ -1,4 +1,4 @@
--- What the answers of the reader say.
+-- What the reader of lines answers: what the words spell, or that memory was wanting.
 use Rattle.std.specs.Prelude.{◌≤◌, ◌<◌, ◌≡◌, ℕ, Result, Ok, Err}
 use Rattle.sat_lrat.specs.declared.read.ReadLine.{ReadLine}
 use Rattle.sat_lrat.specs.declared.read.ReadLine.TheVariants as reads

@@ -1,3 +1,7 @@
+//! Laws of lines: what passes follows from the clauses, and what is written is read again.
+//!
+//! The functions do nothing; a caller that needs a law calls it.
+
 ghost use Rattle.std.specs.Prelude.{Bool, map, [], ◌∷◌, ◌++◌};
 ghost use Rattle.std.specs.Fmt.{signed_decimal};
 ghost use Rattle.std.specs.List.{AllByRecursion};

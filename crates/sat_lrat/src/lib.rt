@@ -1,8 +1,9 @@
 //! Lines of a refutation, what a list of lines refutes, and their text in the LRAT format.
 //!
-//! The format is the checkable form of a SAT solver's proof: a line `id literals 0 hints 0` adds a lemma that follows
-//! from the clauses of the hints by unit propagation, and a line `id d ids 0` deletes clauses. The clauses of the
-//! formula have the numbers from 1 on.
+//! The format is the checkable form of a SAT solver's proof (Cruz-Filipe and others 2017): a line
+//! `id literals 0 hints 0` adds a lemma that follows from the clauses of the hints by unit
+//! propagation, and a line `id d ids 0` deletes clauses. The clauses of the formula have the
+//! numbers from 1 on.
 #![tactic(auto)]
 
 mod laws;

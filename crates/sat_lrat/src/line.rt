@@ -1,3 +1,5 @@
+//! Lines of a refutation, lists of them, and what a clause has beside false literals.
+
 ghost use Rattle.std.specs.Prelude.{◌≡◌, ◌==◌, ◌<◌, ◌++◌, ◌∷◌, [], length, slice_get, is_ok, if◌then◌else◌, Some};
 
 use sat_dimacs::{Clause, Cnf};

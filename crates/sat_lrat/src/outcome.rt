@@ -1,3 +1,5 @@
+//! What a search for an assignment comes to: an assignment, a refutation, or a spent budget.
+
 use crate::line::LineList;
 use base_types::Assignment;
 

@@ -1,3 +1,5 @@
+//! Writing lines in the LRAT format.
+
 ghost use Rattle.std.specs.Prelude.{◌≡◌, ◌++◌, OnOk, IfOk};
 ghost use Rattle.sat_lrat.specs.Text.{numbers_text, literals_text, line_text, last_lemma, lines_text};
 

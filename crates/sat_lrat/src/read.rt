@@ -1,3 +1,5 @@
+//! Reading the lines of a text in the LRAT format, one at a time, or why there is none.
+
 ghost use Rattle.std.specs.Prelude.{◌≤◌, ◌<◌, ◌^◌, length};
 ghost use Rattle.std.specs.Prelude.{◌≡◌, ◌+◌, IfSome, IfNone, IfOk, IfErr, ℕ, false, option_copied};
 ghost use Rattle.base_words.specs.Words.{words, other_parts};

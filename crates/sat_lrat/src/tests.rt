@@ -1,37 +1,7 @@
-use crate::{Hints, Line, LineList, LratFault, ReadLine, print_lines, read_line};
+use crate::{Hints, Line, LineList, ReadLine, print_lines, read_line};
 use sat_dimacs::Clause;
 use std::alloc::{AllocError, Global};
 use std::test::Fail;
-
-/// The rule and the place of a text's first fault, if its first line has one.
-fn fault_of(alloc: Global, text: &str) -> Option<(u8, usize)> {
-    match read_line(alloc, text.as_bytes(), 0).err()? {
-        LratFault::Refused { rule, start } => Some((rule, start)),
-        LratFault::Memory => None,
-    }
-}
-
-#[test]
-fn refuses_other_lines(rt: HostRuntime) {
-    let rows = [
-        ("5 1 x 0\n", Some((11, 0))),
-        ("c x\n\n5 1 0 1 -2 0\n", Some((12, 5))),
-        ("5 1 0 1 2", Some((13, 0))),
-        ("5", Some((13, 0))),
-        ("5 d 3", Some((13, 0))),
-        ("5 1 0 1 2\n", Some((11, 0))),
-        ("5 1 0 1 2 0", None),
-        ("5 d -3 0\n", Some((11, 0))),
-        ("5 1 0 2 0 -3\n", Some((11, 0))),
-        ("5 100000001 0 0\n", Some((11, 0))),
-        ("05 1 0 0\n", Some((11, 0))),
-        ("9223372036854775808 0 0\n", Some((11, 0))),
-        ("c x", None),
-    ];
-    for (text, fault) in rows {
-        assert_eq!(rt; fault_of(rt.alloc(), text), fault, "at {text}");
-    }
-}
 
 /// A lemma and a line that deletes.
 fn two_lines(alloc: Global) -> Result<LineList, AllocError> {

@@ -1,3 +1,5 @@
+//! Reading the words of one line, or which rule of C11 to C13 they break.
+
 ghost use Rattle.std.specs.Prelude.{◌≡◌, [], Ok, Err};
 ghost use Rattle.base_words.specs.Words.{words};
 ghost use Rattle.sat_lrat.specs.Text.{short, is_negative, is_deletion, alone, numbers_after, lemma_after, line_of, body_of};

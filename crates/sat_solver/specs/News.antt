@@ -1,4 +1,4 @@
--- The clauses of lemmas, and that each is new.
+-- The clauses of lemmas, and that no lemma contains a clause that was there before it.
 use Rattle.std.specs.Prelude.{ℕ, ◌<◌, ◌≡◌, ℤ, List, [], ◌∷◌, All, length, slice_index_or}
 use Rattle.sat_lrat.specs.declared.line.Line.{Line}
 use Rattle.sat_lrat.specs.declared.line.Line.TheVariants.{Lemma, Delete}

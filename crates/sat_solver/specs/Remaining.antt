@@ -1,4 +1,4 @@
--- The clauses that can still be new.
+-- How many clauses can still be new, which falls with each lemma, so that a search ends.
 use Rattle.std.specs.Prelude.{ℕ, zero, suc, ◌+◌, ℤ, pos, negsuc, Bool, not, cond, List, [], ◌∷◌, ◌++◌, map}
 use Rattle.std.specs.List.{list_all}
 use Rattle.sat_lrat.specs.Step.{among}

@@ -1,4 +1,4 @@
--- What a step of the search comes to.
+-- What a turn of the search comes to: it goes on, or has its answer within the budget.
 use Rattle.std.specs.Prelude.{◌≡◌, ℕ, ◌+◌, ◌-◌, ◌*◌, ◌<◌, ◌≤◌, ◌^◌, List, ℤ, Option, Some, IfSome, length}
 use Rattle.sat_lrat.specs.declared.line.Line.{Line}
 use Rattle.sat_lrat.specs.declared.outcome.Outcome.{Outcome}

@@ -1,3 +1,5 @@
+//! A boxed chooser that is lent to a search is a chooser too, so that the lender has it back.
+
 use sat_decide::Chooser;
 use std::alloc::AllocError;
 

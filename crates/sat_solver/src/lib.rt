@@ -1,7 +1,9 @@
 //! A conflict-driven search: an assignment that satisfies the clauses, or lemmas that refute them.
 //!
-//! Each lemma is taken through the checker's step as it is learnt, and passes. It contains no clause that is there
-//! before it, so the search goes on to something new, whatever the chooser does.
+//! It decides, propagates, learns a clause from each conflict, goes back, and restarts now and
+//! then (CDCL; the frame is MiniSat's: Eén and Sörensson 2003). Each lemma is taken through the
+//! checker's step as it is learnt, and passes. It contains no clause that is there before it, so
+//! the search goes on to something new, whatever the chooser does.
 #![tactic(auto)]
 
 mod lent;
@@ -9,7 +11,5 @@ mod load;
 mod pace;
 mod round;
 mod search;
-#[cfg(test)]
-mod tests;
 
 pub use search::{solve, solve_by, solve_with};

@@ -1,3 +1,5 @@
+//! What passes between the trail, a learnt clause and the answer: literals, hints and values.
+
 ghost use Rattle.std.specs.Prelude.{◌≡◌, ℕ, pos, ◌<◌, ◌≤◌, ◌^◌, ◌↔◌, ◌++◌, ◌∷◌, [], false, IsTrue, IfOk, OnOk, length, slice_index_or};
 ghost use Rattle.std.specs.List.{All};
 ghost use Rattle.sat_trail.specs.Literal.{IsLiteral};

@@ -1,3 +1,30 @@
+//! Restarts: when a search takes back all decisions and begins anew, with all that it has learnt.
+//!
+//! A restart costs little: learnt clauses, weights and signs stay, so that the search soon comes
+//! back to much the same assignment, but decides in the order of the present weights. It corrects
+//! early decisions that recent conflicts no longer speak for. Two policies take turns, since
+//! restarts at a quick pace serve refutations best, and rare ones assignments. These are CaDiCaL's
+//! two modes.
+//!
+//! Eager phases follow Glucose (Audemard and Simon 2009). The LBD, or glue, of a learnt clause is
+//! the number of different decision levels among its literals: the fewer, the more it serves. Two
+//! exponential moving averages (EMA) of the LBD are kept, of about the latest 16 learnt clauses
+//! and of about 8192. A restart is due where the first is more than 23/20 of the second, that is,
+//! where the search learns worse clauses than it used to; but no sooner than ten conflicts after
+//! the last. Glucose has a window and the mean of all in their place. The averages start as plain
+//! means, so that they aren't drawn to their first value. The levels are counted by their rests at
+//! 64, so that the count is at most 64, and less than the LBD where two levels have one rest.
+//!
+//! Steady phases, CaDiCaL's stable mode, follow the series of Luby, Sinclair and Zuckerman (1993):
+//! 1, 1, 2, 1, 1, 2, 4, 1, .., times 1024 conflicts. It is made by Knuth's reluctant doubling from
+//! two numbers.
+//!
+//! The phases grow: the n-th has n thousand conflicts where it is steady, and four times as many
+//! where it is eager. The first one is eager.
+//!
+//! Not proved: anything of this. When a search restarts changes its pace and never its answer's
+//! truth.
+
 /// How many conflicts the shortest span between restarts of a steady phase has.
 const UNIT: u64 = 1024;
 
@@ -27,14 +54,23 @@ const EAGER_TIMES: u64 = 4;
 #[derive(Clone, Copy, Debug, Drop)]
 pub(crate) struct Pace {
     is_steady: bool,
+    /// How many conflicts the present phase has if it is steady; an eager one has four times that.
     phase: u64,
+    /// How many conflicts the present phase has left.
     phase_left: u64,
+    /// The fast moving average of the levels of learnt clauses, times `SCALE`.
     short_average: u64,
+    /// The slow one.
     long_average: u64,
+    /// How many learnt clauses were counted.
     count: u64,
+    /// How many conflicts an eager phase waits at least until it restarts.
     to_restart: u64,
+    /// How many conflicts a steady phase waits until it restarts.
     left: u64,
+    /// With `span`, the two numbers of reluctant doubling.
     turn: u64,
+    /// The present number of Luby's series.
     span: u64,
 }
 
@@ -138,39 +174,5 @@ impl Pace {
         } else {
             self.are_levels_many()
         }
-    }
-}
-
-#[cfg(test)]
-mod tests {
-    use super::{LEAST_SPAN, Pace, UNIT};
-
-    #[test]
-    fn spans_follow_the_series(rt: HostRuntime) {
-        let mut pace = Pace::new();
-        for span in [1, 1, 2, 1, 1, 2, 4, 1, 1, 2, 1, 1, 2, 4, 8] {
-            assert_eq!(rt; pace.left, span * UNIT);
-            pace.go_on();
-        }
-    }
-
-    #[test]
-    fn restarts_come_where_lemmas_have_more_levels(rt: HostRuntime) {
-        let mut pace = Pace::new();
-        for _ in 0..200 {
-            pace.take_levels(8);
-            assert!(rt; !pace.is_restart_due());
-        }
-        // The average over 16 passes 23/20 of the other with the third lemma of 16 levels.
-        for _ in 0..2 {
-            pace.take_levels(16);
-            assert!(rt; !pace.is_restart_due());
-        }
-        pace.take_levels(16);
-        assert!(rt; pace.is_restart_due());
-        for _ in 1..LEAST_SPAN {
-            assert!(rt; !pace.is_restart_due());
-        }
-        assert!(rt; pace.is_restart_due());
     }
 }

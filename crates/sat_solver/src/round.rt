@@ -1,3 +1,5 @@
+//! One turn of the search: it propagates, and then learns from a conflict or decides.
+
 ghost use Rattle.std.specs.Prelude.{◌≡◌, ◌≢◌, ℕ, ℤ, pos, ◌+◌, ◌-◌, ◌<◌, ◌≤◌, ◌⊎◌, ◌↔◌, List, Option, Some, IfOk, OnOk, IfSome, IfNone, IsTrue, IsFalse, length};
 ghost use Rattle.std.specs.List.{All};
 ghost use Rattle.sat_lrat.specs.declared.line.Line.{Line};
@@ -82,6 +84,7 @@ fn free_literal(trail: &Trail, picked: i64) -> Option<i64>
     if can_assign(trail, picked) {
         return Some(picked);
     }
+    // for the proof: this call's clauses say what a trail keeps
     let _literals = trail.trail();
     least_free(trail.values())
 }
@@ -93,6 +96,7 @@ fn decide<C: Chooser>(trail: &mut Trail, chooser: &mut C) -> Turn
     ensures turn { (formula : List (List ℤ)) (budget : Option ℕ) (lines : List Line) (state : State) → IsSearch formula lines state trail.old → IsTurn formula budget result lines state trail.new }
     ensures longer { result ≡ Turn.On → length trail.new.assignment.trail ≡ length trail.old.assignment.trail + 1 }
 {
+    // for the proof: this call's clauses say what a trail keeps
     let _literals = trail.trail();
     let picked = chooser.pick(trail.values());
     match free_literal(trail, picked) {
@@ -133,6 +137,7 @@ fn keep(
     ensures taken { (formula : List (List ℤ)) → IsSearch formula log.old.lines log.old.checker trail.old →
         IfOk result (λ taken. IsKept formula taken log.new.lines log.new.checker trail.new) }
 {
+    // for the proof: this call's clauses say what a trail keeps
     let _literals = trail.trail();
     let clause = clause_of(alloc, count_of(trail.values()), &analysis.literals)?;
     let hints = hints_of(alloc, &analysis.hints)?;
@@ -218,6 +223,7 @@ pub(crate) fn take_turn<C: Chooser>(
         (remaining trail.old.variables (behind formula log.new.lines) < remaining trail.old.variables (behind formula log.old.lines))
         ⊎ ((log.new.lines ≡ log.old.lines) × (length trail.old.assignment.trail < length trail.new.assignment.trail))) }
 {
+    // for the proof: this call's clauses say what a trail keeps
     let _literals = trail.trail();
     match trail.propagate() {
         Some(conflict) => {

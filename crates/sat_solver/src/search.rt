@@ -1,3 +1,5 @@
+//! The search takes turns until clauses are refuted or satisfied, or the budget is spent.
+
 ghost use Rattle.std.specs.Prelude.{◌≡◌, ℕ, ℤ, List, Option, IfOk, IsTrue};
 ghost use Rattle.sat_dimacs.specs.Literal.{IsSolution};
 ghost use Rattle.sat_lrat.specs.Outcome.{Answers};
@@ -23,6 +25,7 @@ use std::alloc::{AllocError, Global};
 fn answer(alloc: Global, trail: &Trail) -> Result<Assignment, AllocError>
     ensures { (formula : List (List ℤ)) → AreTrue formula trail.now.assignment.trail → IfOk result (IsSolution trail.now.variables formula) }
 {
+    // for the proof: this call's clauses say what a trail keeps
     let _literals = trail.trail();
     let truths = truths_of(alloc, trail.values())?;
     let assignment = Assignment::new(alloc, truths.as_slice())?;
@@ -61,6 +64,7 @@ pub fn solve_with<C: Chooser>(
             &mut pace,
             budget,
         )?;
+        // for the proof: this call's clauses say what a trail keeps
         let _literals = trail.trail();
         match turn {
             Turn::On => {}

@@ -1,3 +1,4 @@
+-- The partial assignment of a trail: which literals are true, and how their values are kept.
 use Rattle.std.specs.Prelude.{ℕ, zero, suc, ◌<◌, ◌≤◌, ◌≡◌, ℤ, pos, negsuc, List, ◌⊎◌, length, take, slice_index, slice_index_or}
 use Rattle.std.specs.List.{sum_by}
 use Rattle.sat_trail.specs.Literal.{index, sign, IsLiteral}

@@ -1,3 +1,5 @@
+-- What a visit finds at a watch: the clause is true, another literal can be watched,
+-- or it is unit or false.
 use Rattle.std.specs.Prelude.{ℕ, ◌/◌, ◌≡◌, ◌≢◌, ℤ, neg_ℤ, List, ◌⊎◌}
 use Rattle.std.specs.List.{Contains}
 use Rattle.sat_trail.specs.declared.watches.Found.{Found}

@@ -1,3 +1,4 @@
+-- What contracts see of a trail, and what a trail keeps of its watches, levels and reasons.
 use Rattle.std.specs.Prelude.{◌≡◌, length, take}
 use Rattle.sat_trail.specs.declared.trail.Trail.TheInside.{Inside}
 use Rattle.sat_trail.specs.Sound.{Net, IsSound}

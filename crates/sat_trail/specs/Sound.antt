@@ -1,3 +1,5 @@
+-- What a trail keeps at each decision level: which clauses were propagated when it was opened,
+-- so that one can go back to it.
 use Rattle.std.specs.Prelude.{ℕ, ◌<◌, ◌≤◌, ◌≡◌, ◌≢◌, ℤ, neg_ℤ, List, [], ◌⊎◌, length, take, slice_index}
 use Rattle.std.specs.List.{Contains}
 use Rattle.sat_lists.specs.Linked.{Lists}

@@ -1,3 +1,4 @@
+-- A trail as contracts see it: its clauses, its assignment, and where its decision levels begin.
 use Rattle.std.specs.Prelude.{ℕ, ◌+◌, ◌-◌, ◌<◌, ◌≡◌, ℤ, List, [], length, take, drop, slice_index, slice_index_or}
 use Rattle.sat_trail.specs.Assignment.{Assignment}
 use Rattle.sat_trail.specs.Watched.{start_of}

@@ -1,3 +1,4 @@
+-- The two watched literals: clauses and their watches in arrays, and the invariant of propagation.
 use Rattle.std.specs.Prelude.{ℕ, zero, suc, ◌+◌, ◌-◌, ◌*◌, ◌/◌, ◌%◌, ◌<◌, ◌≤◌, ◌≡◌, ◌≢◌, ◌==◌, if◌then◌else◌, ℤ, neg_ℤ, List, ◌++◌, ◌⊎◌, length, take, drop, slice_index}
 use Rattle.std.specs.List.{Contains}
 use Rattle.sat_trail.specs.Literal.{IsLiteral, list_of}

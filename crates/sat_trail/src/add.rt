@@ -1,3 +1,8 @@
+//! Which two literals a new clause watches, and what has to be propagated again for it.
+//!
+//! It watches a literal that isn't false, or else the one that became false last. Where a watched
+//! literal is false, propagation begins again at its place, at the latest, on every open level.
+
 ghost use Rattle.std.specs.Prelude.{◌≡◌, ◌≢◌, ℕ, neg_ℤ, ◌<◌, ◌≤◌, length, slice_index};
 ghost use Rattle.std.specs.List.{All};
 ghost use Rattle.sat_trail.specs.Literal.{IsLiteral};

@@ -1,3 +1,5 @@
+//! The arena holds the literals of all clauses in one array, and no clause has memory of its own.
+
 ghost use Rattle.std.specs.Prelude.{◌≡◌, ℕ, ◌+◌, ◌<◌, ◌≤◌, ◌++◌, ◌∷◌, [], length, slice_index, vec_len, vec_capacity, OnOk};
 ghost use Rattle.std.specs.List.{All};
 ghost use Rattle.sat_trail.specs.Literal.{IsLiteral};
@@ -9,8 +11,11 @@ use std::alloc::{AllocError, Global};
 /// The literals of all clauses, one clause after another, and where each clause ends.
 #[derive(Drop)]
 pub struct Arena {
+    /// The literals of all clauses.
     pub literals: Vec<i64>,
+    /// The place behind the last literal of each clause.
     pub ends: Vec<usize>,
+    /// How many variables there are.
     pub variables: usize,
     ghost in_order: { IsArena literals.items ends.items variables },
 }

@@ -1,3 +1,8 @@
+//! The partial assignment: the true literals in their order, with the level and reason of each.
+//!
+//! The order is that in which they became true, which makes the list a trail: what is taken back
+//! is its end. The level and the reason of a variable are kept until it is assigned again.
+
 ghost use Rattle.std.specs.Prelude.{◌≡◌, ℕ, neg_ℤ, unsigned_abs, ◌+◌, ◌-◌, ◌<◌, ◌≤◌, ◌^◌, ◌↔◌, ◌++◌, ◌∷◌, [], ℤ, pos, length, take, replicate, slice_get, slice_set, slice_index, Some, IsTrue, IfOk};
 ghost use Rattle.std.specs.List.{All, Contains};
 ghost use Rattle.sat_trail.specs.Literal.{IsLiteral};
@@ -37,11 +42,17 @@ fn are_same(a: i8, b: i8) -> bool
 /// The true literals in the order in which they were put, with the value, the place and the reason of each variable.
 #[derive(Drop)]
 pub struct Assigned {
+    /// The value of each variable: 1 true, -1 false, 0 free.
     values: Vec<i8>,
+    /// Where each variable that has a value stands on the trail.
     places: Vec<usize>,
+    /// The decision level of each variable, as it was last given one.
     levels: Vec<u64>,
+    /// The clause that forced each variable when it was last assigned, from 1 on; 0 of a decision.
     reasons: Vec<u64>,
+    /// The true literals in their order, at the first `len` places.
     trail: Vec<i64>,
+    /// How many literals are true.
     len: usize,
 }
 

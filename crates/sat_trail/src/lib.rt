@@ -1,6 +1,7 @@
-//! Where the things that are kept for a literal stand in lists.
+//! The trail of a search: its clauses, its partial assignment, and unit propagation over both.
 //!
-//! The partial assignment of a search, with full propagation over watched literals.
+//! A [`Trail`] decides ([`Trail::assign`]), propagates ([`Trail::propagate`]), and takes decisions
+//! back ([`Trail::undo_to`]). It finds what a clause forces by two watched literals.
 #![tactic(auto)]
 
 mod literal;
@@ -11,8 +12,6 @@ mod add;
 mod arena;
 mod assigned;
 mod propagate;
-#[cfg(test)]
-mod solver_trail_tests;
 mod trail;
 mod watches;
 

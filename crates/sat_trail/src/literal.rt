@@ -1,3 +1,8 @@
+//! Where a literal stands in lists with one entry a variable, and in lists with two.
+//!
+//! A literal is a number other than 0: `v` says that variable `v` is true, and `-v` that it is
+//! false.
+
 ghost use Rattle.std.specs.Prelude.{◌≡◌, ◌<◌, ◌≤◌, ◌^◌, unsigned_abs};
 ghost use Rattle.sat_trail.specs.Literal as spec;
 
@@ -19,17 +24,4 @@ pub fn list_of(literal: i64) -> usize
 {
     let double = 2 * index(literal);
     if literal < 0 { double + 1 } else { double }
-}
-
-#[cfg(test)]
-mod tests {
-    use super::{index, list_of};
-
-    #[test]
-    fn literals_have_places(rt: HostRuntime) {
-        for (literal, place, list) in [(1, 0, 0), (-1, 0, 1), (2, 1, 2), (-7, 6, 13)] {
-            assert_eq!(rt; index(literal), place);
-            assert_eq!(rt; list_of(literal), list);
-        }
-    }
 }

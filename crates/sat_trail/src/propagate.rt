@@ -1,3 +1,30 @@
+//! Unit propagation: what clauses force is made true, until one is false or none forces more.
+//!
+//! A clause is unit where one literal of it is free and all others are false. The free one has to
+//! be true, and gets the clause as its reason. The reasons make the implication graph: a forced
+//! literal has an edge from the negation of each other literal of its reason. A clause that is
+//! false is a conflict.
+//!
+//! The trail is the queue. A true literal at a place is propagated by a walk over the list of its
+//! negation (see `watches`). `advance` does this for each place from `start` on, those included
+//! that come to the trail meanwhile. A visit of a node whose literal has become false finds one of
+//! four:
+//! - the other watched literal, the blocker, is true: the clause is true, and the watch stays;
+//! - a further literal isn't false: it is watched in place of the false one;
+//! - all others are false and the other watched one is free: the clause is unit, and forces it;
+//! - all are false: a conflict, whose clause is answered, and which ends the propagation.
+//!
+//! A place that met a conflict doesn't count as propagated, so that it is visited again.
+//!
+//! What holds throughout is `IsWatched`: a clause with a watched literal that is false among the
+//! propagated places has a true literal. So where all places are propagated without a conflict,
+//! every such clause is true or has two different free literals.
+//!
+//! Short clauses have no two different literals: the empty clause, and those of one literal, which
+//! may stand in them several times. They can't watch two literals, and are taken first, in the
+//! order in which they came, and again where what made them true was taken back. The empty clause
+//! is a conflict, and any other is true, false, or unit.
+
 ghost use Rattle.std.specs.Prelude.{◌≡◌, ℕ, ℤ, neg_ℤ, ◌+◌, ◌-◌, ◌*◌, ◌<◌, ◌≤◌, ◌++◌, [], List, length, slice_index, IfNone, IfSome, IsTrue, IsFalse};
 ghost use Rattle.std.specs.List.{Contains};
 ghost use Rattle.sat_trail.specs.Assignment.{value_at};

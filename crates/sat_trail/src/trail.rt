@@ -1,3 +1,10 @@
+//! A trail is a partial assignment by decision levels, with the clause that forced each literal.
+//!
+//! A decision opens a level: its literal is made true without a reason. What the clauses force
+//! then has the same level, and the clause that forced it as its reason. Level 0 is below all
+//! decisions: what is true there follows from the clauses alone. To go back to a level takes the
+//! literals above it from the end of the trail, and leaves clauses and watches as they are.
+
 ghost use Rattle.std.specs.Prelude.{◌≡◌, ◌≢◌, ℕ, ℤ, pos, neg_ℤ, unsigned_abs, ◌+◌, ◌-◌, ◌*◌, ◌<◌, ◌≤◌, ◌⊎◌, ◌++◌, ◌∷◌, [], List, length, take, slice_index, slice_index_or, slice_set, slice_get, Some, IfNone, IfSome, IfOk, OnErr, IsTrue, false};
 ghost use Rattle.std.specs.List.{Contains, All};
 ghost use Rattle.sat_trail.specs.Literal.{IsLiteral};
@@ -30,15 +37,26 @@ fn are_neither(one: bool, other: bool) -> bool
 /// The clauses of a search and its partial assignment.
 #[derive(Drop)]
 pub struct Trail {
+    /// The clauses.
     arena: Arena,
+    /// The two watched literals of each clause that isn't short.
     watches: Watches,
+    /// The short clauses, which have no two different literals: the empty one and unit clauses.
     short: Vec<usize>,
+    /// The assignment: true literals in their order, each with its decision level and its reason.
     assigned: Assigned,
+    /// For each open level, how many literals were true before its decision.
     lens: Vec<usize>,
+    /// For each open level, what `done` is again once it is taken back: as it was at its decision, or
+    /// less where a clause has come since whose watched literal was false then.
     dones: Vec<usize>,
+    /// For each open level, what `short_done` is again once it is taken back.
     short_dones: Vec<usize>,
+    /// The present decision level, which is how many decisions are true.
     top: usize,
+    /// How many true literals are propagated: the head of the queue (MiniSat's `qhead`).
     done: usize,
+    /// How many of the short clauses are propagated, each of which is true then.
     short_done: usize,
 }
 

@@ -1,3 +1,31 @@
+//! Two watched literals: a literal that becomes false has those clauses visited that watch it.
+//!
+//! A clause forces nothing and isn't false as long as two different literals of it aren't false.
+//! So each clause with two different literals watches two of them, and isn't looked at before one
+//! of the two becomes false (Chaff: Moskewicz, Madigan, Zhao, Zhang and Malik 2001). To take
+//! literals back costs nothing here: `IsKept` says that a watch that moves keeps what holds of the
+//! watches at every earlier length of the trail, so they are right when the search goes back.
+//!
+//! Nodes. Clause k, counted from 0, has the nodes 2k and 2k + 1, one for each watch. `at` says at
+//! which place of the arena the literal of a node stands, and `copies` repeats the literal itself.
+//! The copy of the other node serves as the blocker literal: where it is true, so is the clause,
+//! which then isn't read. Clauses that have no two different literals have nodes too, which are
+//! never visited.
+//!
+//! Lists. Each node stands in the list of the literal that it watches, which is walked when that
+//! literal becomes false. (MiniSat files it under the negation, which becomes true then: Eén and
+//! Sörensson 2003.) One list more, behind those of the literals, has the nodes of the clauses that
+//! watch nothing.
+//!
+//! A walk. When a false literal's turn comes, its list is detached: it is `loose` then, and the
+//! list itself is empty. Each loose node in turn is settled: it goes to the list of the literal
+//! that it watches now, which may be the old one. A false clause ends the walk; its node and those
+//! behind it are put back.
+//!
+//! Why linked lists in flat arrays. A node is a number, and one array has the next node of each.
+//! So to settle a node changes three numbers, whatever the lengths of the lists, and takes no
+//! memory. A list that grows could be refused it. Hence unit propagation never fails.
+
 ghost use Rattle.std.specs.Prelude.{◌≡◌, ◌≢◌, ℕ, ℤ, neg_ℤ, ◌+◌, ◌-◌, ◌*◌, ◌/◌, ◌%◌, ◌<◌, ◌≤◌, ◌⊎◌, ◌++◌, ◌∷◌, [], List, length, slice_index, slice_set, IsTrue, IsFalse, IfNone, IfSome, MatchOption, drop, ◌^◌};
 ghost use Rattle.std.specs.List.{Contains};
 ghost use Rattle.sat_lists.specs.Linked.{list_at};
@@ -14,9 +42,11 @@ use sat_lists::NodeLists;
 /// The places of the two watched literals of each clause, and the lists of the nodes that watch each literal.
 #[derive(Drop)]
 pub struct Watches {
+    /// At which place of the arena the literal stands that each node watches.
     pub at: Vec<usize>,
     /// The literal that each node watches, so that a visit mostly reads no clause.
     pub copies: Vec<i64>,
+    /// The nodes that watch each literal.
     pub lists: NodeLists,
 }
 

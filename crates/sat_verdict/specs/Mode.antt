@@ -1,4 +1,4 @@
--- What the two texts of a refutation come to.
+-- The verdict on two texts: what the lines of one come to behind the clauses of the other.
 use Rattle.std.specs.Prelude.{◌≡◌, ℕ, ◌+◌, ℤ, false, IsTrue, List, [], ◌∷◌, Result, Ok, Err, count_by, take, codes, decimal, ◌++◌, ◌/◌, ◌%◌}
 use Rattle.base_words.specs.Words.{is_feed}
 use Rattle.sat_dimacs.specs.Text.{Formula, Break, formula_of}

@@ -1,9 +1,8 @@
-//! The check of a refutation that is given by two texts: clauses in the DIMACS format, and lines in the LRAT format.
+//! The check of a refutation that is given by two texts, clauses and lines; they have one verdict.
 //!
-//! A law of refutations: two texts have at most one verdict.
-//!
-//! `sat_verdict` says which verdict the lines of one text have on the clauses of another. The law says that there is no second
-//! one, so that the verdict is decided by the texts alone. The function does nothing; a caller that needs the law calls it.
+//! The clauses are in the DIMACS format, the lines in the LRAT format. A law says that two texts
+//! have at most one verdict, so that it is decided by the texts alone. Its function does nothing;
+//! a caller that needs the law calls it.
 #![tactic(auto)]
 
 mod mode;
@@ -18,13 +17,3 @@ pub use mode::{Verdict, check_texts, message_of, status_of};
 pub fn texts_have_one_verdict()
     ensures { (clauses lines : List ℕ) (verdict other : Verdict) → IsVerdict clauses lines verdict → IsVerdict clauses lines other → verdict ≡ other }
 {}
-
-#[cfg(test)]
-mod tests {
-    use super::*;
-
-    #[test]
-    fn calls_the_law() {
-        texts_have_one_verdict();
-    }
-}

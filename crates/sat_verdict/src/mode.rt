@@ -1,3 +1,5 @@
+//! The verdict on two texts, the line that tells it, and the status that a program ends with.
+
 ghost use Rattle.std.specs.Prelude.{◌≡◌, ◌+◌, ◌≤◌, ◌<◌, ◌^◌, length, IfOk, List, ℤ};
 ghost use Rattle.sat_lrat.specs.declared.line.Line.{Line};
 ghost use Rattle.sat_lrat.specs.Step.{Follows, IsUnsatisfiable};
@@ -193,77 +195,5 @@ pub fn message_of(
         Verdict::Unfinished { lemmas } => format!(in alloc; "unfinished {lemmas}"),
         Verdict::BadCnf { rule, line } => format!(in alloc; "refused C0{rule} {cnf}:{line}"),
         Verdict::BadProof { rule, line } => format!(in alloc; "refused C{rule} {proof}:{line}"),
-    }
-}
-
-#[cfg(test)]
-mod tests {
-    use super::*;
-    use std::test::Fail;
-
-    const CNF: &str = "p cnf 2 4\n1 2 0\n1 -2 0\n-1 2 0\n-1 -2 0\n";
-
-    #[derive(Drop)]
-    struct Row {
-        cnf: &'static str,
-        proof: &'static str,
-        status: u8,
-        message: &'static str,
-    }
-
-    fn make_row(cnf: &'static str, proof: &'static str, status: u8, message: &'static str) -> Row {
-        Row {
-            cnf,
-            proof,
-            status,
-            message,
-        }
-    }
-
-    fn holds(alloc: Global, row: &Row) -> Result<bool, AllocError> {
-        if row.cnf.len() > 1000 {
-            return Ok(false);
-        }
-        let verdict = check_texts(alloc, row.cnf.as_bytes(), row.proof.as_bytes())?;
-        let message = message_of(alloc, verdict, "f.cnf", "p.lrat")?;
-        Ok(status_of(verdict) == row.status && message.as_str() == row.message)
-    }
-
-    #[test]
-    fn rows(rt: HostRuntime) -> Result<(), Fail> {
-        let table = [
-            make_row(CNF, "5 1 0 1 2 0\n6 0 5 3 4 0\n", 0, "refuted"),
-            make_row(CNF, "5 1 0 1 2 0\n6 0 5 3 3 0\n", 1, "rejected L3 line 2"),
-            make_row(CNF, "5 1 0 1 2 0\n6 0 5 3", 3, "refused C13 p.lrat:2"),
-            make_row(CNF, "5 1 0 1 2 0\n", 1, "unfinished 1"),
-            make_row("p cnf 0 1\n0\n", "2 0 1 0\n", 0, "refuted"),
-            make_row(CNF, "", 1, "unfinished 0"),
-            make_row(CNF, "4 1 0 1 2 0\n", 1, "rejected L1 line 1"),
-            make_row(CNF, "5 1 0 1 2 0\n5 0 5 3 4 0\n", 1, "rejected L1 line 2"),
-            make_row(CNF, "5 1 0 1 9 0\n", 1, "rejected L2 line 1"),
-            make_row(
-                CNF,
-                "5 1 0 1 2 0\n5 d 3 0\n6 0 5 3 4 0\n",
-                1,
-                "rejected L2 line 3",
-            ),
-            make_row(CNF, "5 1 0 1 0\n", 1, "rejected L4 line 1"),
-            make_row(CNF, "5 1 0 1 2 0\n5 d 1 1 0\n", 1, "rejected L5 line 2"),
-            make_row(CNF, "5 1 0 1 2 9 0\n", 1, "unfinished 1"),
-            make_row(CNF, "5 1 0 1 -2 0\n", 3, "refused C12 p.lrat:1"),
-            make_row(CNF, "5 1 x 0\n", 3, "refused C11 p.lrat:1"),
-            make_row(CNF, "5 1 0 1 2 0\n6 0 5 3 4 0\nx\n", 0, "refuted"),
-            make_row("p cnf 2\n", "", 3, "refused C01 f.cnf:1"),
-            make_row("", "", 3, "refused C01 f.cnf:1"),
-            make_row("c\n\n", "", 3, "refused C01 f.cnf:2"),
-            make_row("p cnf 2 1\n1 3 0\n", "", 3, "refused C02 f.cnf:2"),
-            make_row("p cnf 2 2\n1 2 0\n", "", 3, "refused C03 f.cnf:2"),
-            make_row("p cnf 2 1\n1 2\n", "", 3, "refused C04 f.cnf:2"),
-        ];
-        for row in &table {
-            let passes = holds(rt.alloc(), row)?;
-            assert!(rt; passes, "{}", row.message);
-        }
-        Ok(())
     }
 }

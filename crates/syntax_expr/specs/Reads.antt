@@ -1,4 +1,4 @@
--- What a function that parses says.
+-- What a function that parses says: what it read is spelled by the tokens that are gone.
 use Rattle.std.specs.Prelude.{◌≡◌, ◌≤◌, ◌<◌, ◌-◌, ℕ, length, take, drop, List, [], ◌∷◌, ◌++◌, Result, Ok, Err}
 use Rattle.syntax_tree.specs.declared.token.Token.{Token}
 use Rattle.syntax_tree.specs.declared.token.TokenKind.{TokenKind}

@@ -1,4 +1,4 @@
-//! A cursor over the tokens of a text.
+//! A cursor goes over the tokens of a text.
 
 ghost use Rattle.std.specs.Prelude.{◌≡◌, ◌≢◌, ◌↔◌, [], ◌∷◌, ◌<◌, length, IsTrue, IfSome, IfOk, IfNone};
 ghost use Rattle.std.specs.Bool.{OnTrue, OnFalse};
@@ -7,7 +7,7 @@ ghost use Rattle.syntax_tree.specs.Spelling.{kinds, EndsWell, declared_name};
 ghost use Rattle.syntax_expr.specs.Reads.{first_kind, Reads};
 
 use crate::fault::ParseFault;
-use base_types::{Name, Place, Refusal, Rule};
+use base_types::{Name, Position, Refusal, Rule};
 use std::alloc::Global;
 use std::marker::Model;
 use syntax_tree::{Named, Symbol, Token, TokenKind, Word, same_symbol, same_word};
@@ -67,7 +67,7 @@ impl<'a> Cursor<'a> {
     }
 
     /// The next token's place.
-    pub fn place(&self) -> Place {
+    pub fn place(&self) -> Position {
         self.first().place
     }
 

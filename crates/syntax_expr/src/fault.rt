@@ -1,3 +1,5 @@
+//! Why a parser makes no tree: a token that is refused, or want of memory.
+
 use base_types::Refusal;
 use std::alloc::AllocError;
 

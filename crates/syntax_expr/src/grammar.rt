@@ -1,4 +1,6 @@
-//! The rules of expressions take the parser of inner expressions as a parameter, so that each is proved by itself.
+//! The rules of expressions: each has the parser of inner expressions as a parameter.
+//!
+//! So each is proved by itself.
 
 ghost use Rattle.std.specs.Prelude.{◌≡◌, IfOk};
 ghost use Rattle.syntax_tree.specs.Spelling.{spelling};

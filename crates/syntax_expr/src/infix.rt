@@ -1,4 +1,4 @@
-//! Operators after an operand.
+//! Parses the operators after an operand, by their levels (precedence).
 
 ghost use Rattle.std.specs.Prelude.{◌≡◌, ◌++◌, ◌∷◌, [], map, IfOk, IfSome, Bool, codes};
 ghost use Rattle.syntax_tree.specs.declared.token.TokenKind.TheVariants as kind;

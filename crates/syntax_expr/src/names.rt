@@ -1,4 +1,4 @@
-//! Names, and lists of them.
+//! Parses names, and lists of them.
 
 ghost use Rattle.std.specs.Prelude.{◌≡◌, ◌<◌, map, length, IfOk, IsTrue};
 ghost use Rattle.syntax_tree.specs.Levels.{name_right};

@@ -1,4 +1,4 @@
-//! The calls of the other crates.
+//! Parses an expression, a bound or a block: these are the calls that other crates make.
 
 ghost use Rattle.std.specs.Prelude.{◌≡◌, ◌++◌, ◌<◌, ◌&&◌, nat_le, length, drop, map, IfOk, IsTrue};
 ghost use Rattle.syntax_tree.specs.Words.{multiplicity_words};

@@ -1,4 +1,4 @@
-//! Primaries, and operators before an operand.
+//! Parses primaries, and the operators before an operand.
 
 ghost use Rattle.std.specs.Prelude.{◌≡◌, ◌++◌, ◌∷◌, [], map, IfOk};
 ghost use Rattle.syntax_tree.specs.declared.token.Symbol.TheVariants as s;

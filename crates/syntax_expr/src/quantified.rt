@@ -1,4 +1,4 @@
-//! Variables with their bounds, and the forms that begin with them.
+//! Parses variables with their bounds, and the forms that begin with them.
 
 ghost use Rattle.std.specs.Prelude.{◌≡◌, ◌++◌, ◌∷◌, [], map, IfOk, Bool};
 ghost use Rattle.syntax_tree.specs.declared.token.Word.TheVariants as w;

@@ -1,4 +1,4 @@
-//! What single tokens stand for in an expression.
+//! Tells what a token stands for in an expression: which operator or word, and of which level.
 
 ghost use Rattle.std.specs.Prelude.{◌≡◌, [], ◌∷◌, IfSome};
 ghost use Rattle.syntax_tree.specs.declared.token.TokenKind.TheVariants as kind;

@@ -1,6 +1,6 @@
 -- The tokens of a text are those of its one division.
 use Rattle.std.proofs.Common.{◌≡◌, ℕ, zero, suc, ◌-◌, ◌<◌, ◌≤◌, List, [], ◌∷◌, ◌++◌, length, take, drop, Option, Some, None, Ok, Err, refl, sym, ap, ap₂, subst, ◌∙◌, arith, length-drop}
-use Rattle.base_types.specs.declared.place.Place.{Place}
+use Rattle.base_types.specs.declared.place.Position.{Position}
 use Rattle.base_types.specs.declared.place.Refusal.{Refusal}
 use Rattle.syntax_tree.specs.declared.token.Token.{Token}
 use Rattle.syntax_tree.specs.declared.token.TokenKind.{TokenKind}
@@ -12,7 +12,7 @@ use Rattle.syntax_lexer.proofs.Steps.{goes, rest_after}
 use Rattle.syntax_laws.specs.Division.{IsPiece, IsDivided, with_said, start_of}
 use Rattle.syntax_laws.proofs.Pieces.{Agrees, agrees, piece_one}
 
-abbrev Division : Place → Text → List Token → Type 0
+abbrev Division : Position → Text → List Token → Type 0
 Division at z tokens = (lengths : List ℕ) × IsDivided at z lengths tokens
 
 abbrev listed : Tokens → List Token
@@ -32,14 +32,14 @@ within z (p.Token said n) a = (a.1, a.2)
 within z (p.Wrong rule) a = tt
 
 -- a piece, and a division of the rest
-gap : (at : Place) (z : Text) (n : ℕ) (tokens : List Token) → 0 < length z → IsPiece z n None → Division (moved at (take n z)) (drop n z) tokens → Division at z tokens
+gap : (at : Position) (z : Text) (n : ℕ) (tokens : List Token) → 0 < length z → IsPiece z n None → Division (moved at (take n z)) (drop n z) tokens → Division at z tokens
 gap at z n tokens some is (ns, rest) = (n ∷ ns, (None, tokens, some, is, refl, rest))
 
-token : (at : Place) (z : Text) (n : ℕ) (said : TokenKind) (tokens rest : List Token) → 0 < length z → IsPiece z n (Some said) →
+token : (at : Position) (z : Text) (n : ℕ) (said : TokenKind) (tokens rest : List Token) → 0 < length z → IsPiece z n (Some said) →
     tokens ≡ record { kind = said; place = at } ∷ rest → Division (moved at (take n z)) (drop n z) rest → Division at z tokens
 token at z n said tokens rest some is same (ns, more) = (n ∷ ns, (Some said, rest, some, is, same, more))
 
-further : (at : Place) (b : ℕ) (z : Text) (tokens : List Token) (q : Piece) → Agrees (b ∷ z) q → taken at q (rest_after at (b ∷ z)) ≡ Ok tokens →
+further : (at : Position) (b : ℕ) (z : Text) (tokens : List Token) (q : Piece) → Agrees (b ∷ z) q → taken at q (rest_after at (b ∷ z)) ≡ Ok tokens →
     ((n : ℕ) (rest : List Token) → 1 ≤ n → rest_after at (b ∷ z) n ≡ Ok rest → Division (moved at (take n (b ∷ z))) (drop n (b ∷ z)) rest) → Division at (b ∷ z) tokens
 further at b z tokens (p.Gap n) a e later = gap at (b ∷ z) n tokens (omega arith) a.0 (later n tokens a.1 e)
 further at b z tokens (p.Token said n) a e later = by (rest_after at (b ∷ z) n) refl e
@@ -49,7 +49,7 @@ further at b z tokens (p.Token said n) a e later = by (rest_after at (b ∷ z) n
     by (Err refusal) is f = clash tokens refusal (Err refusal) f refl
 further at b z tokens (p.Wrong rule) a e later = clash tokens _ _ e refl
 
-found : (k : ℕ) (at : Place) (z : Text) (tokens : List Token) → length z ≤ k → tokens_after 0 at z ≡ Ok tokens → Division at z tokens
+found : (k : ℕ) (at : Position) (z : Text) (tokens : List Token) → length z ≤ k → tokens_after 0 at z ≡ Ok tokens → Division at z tokens
 found k at [] tokens le e = ([], (refl, sym (ap listed e)))
 found zero at (b ∷ z) tokens le e = absurd (omega (arith, le))
 found (suc k) at (b ∷ z) tokens le e =
@@ -58,7 +58,7 @@ found (suc k) at (b ∷ z) tokens le e =
     (λ n rest some f. found k (moved at (take n (b ∷ z))) (drop n (b ∷ z)) rest (omega (arith, le, some, length-drop n (b ∷ z))) f)
 
 -- there is at most one division
-pub one : (at : Place) (z : Text) (ns ms : List ℕ) (tokens others : List Token) → IsDivided at z ns tokens → IsDivided at z ms others → (ns ≡ ms) × (tokens ≡ others)
+pub one : (at : Position) (z : Text) (ns ms : List ℕ) (tokens others : List Token) → IsDivided at z ns tokens → IsDivided at z ms others → (ns ≡ ms) × (tokens ≡ others)
 one at z [] [] tokens others d e = (refl, d.1 ∙ sym e.1)
 one at z [] (m ∷ ms) tokens others d (said, rest, some, is, same, more) = absurd (omega (arith, some, ap length d.0))
 one at z (n ∷ ns) [] tokens others (said, rest, some, is, same, more) e = absurd (omega (arith, some, ap length e.0))
@@ -72,7 +72,7 @@ front_fails : (front : List Token) (refusal : Refusal) (r : Tokens) → with_fro
 front_fails front refusal (Ok tokens) e = clash (front ++ tokens) refusal (Ok (front ++ tokens)) refl e
 front_fails front refusal (Err other) e = e
 
-fails : (at : Place) (b : ℕ) (z : Text) (n : ℕ) (said : Option TokenKind) (refusal : Refusal) (q : Piece) → IsPiece (b ∷ z) n said → Agrees (b ∷ z) q →
+fails : (at : Position) (b : ℕ) (z : Text) (n : ℕ) (said : Option TokenKind) (refusal : Refusal) (q : Piece) → IsPiece (b ∷ z) n said → Agrees (b ∷ z) q →
     taken at q (rest_after at (b ∷ z)) ≡ Err refusal → (rest_after at (b ∷ z) n ≡ Err refusal → ⊥) → ⊥
 fails at b z n said refusal (p.Gap m) is a e later =
     let one = piece_one (b ∷ z) n m said None is a.0 in
@@ -83,7 +83,7 @@ fails at b z n said refusal (p.Token told m) is a e later =
 fails at b z n said refusal (p.Wrong rule) is a e later = a n said is
 
 -- a refused text has no division
-refused : (at : Place) (z : Text) (ns : List ℕ) (tokens : List Token) (refusal : Refusal) → tokens_after 0 at z ≡ Err refusal → IsDivided at z ns tokens → ⊥
+refused : (at : Position) (z : Text) (ns : List ℕ) (tokens : List Token) (refusal : Refusal) → tokens_after 0 at z ≡ Err refusal → IsDivided at z ns tokens → ⊥
 refused at [] [] tokens refusal e d = clash _ refusal _ refl e
 refused at (b ∷ z) [] tokens refusal e d = absurd (omega (arith, ap length d.0))
 refused at [] (n ∷ ns) tokens refusal e (said, rest, some, is, same, more) = absurd (omega (arith, some))

@@ -1,8 +1,8 @@
--- The one division of a text: its pieces join to the text, and each is a blank, a whole comment, or the longest token that begins
--- at its place. Nothing here says how it is found.
+-- The one division of a text: its pieces join to the text, and each is a blank, a whole comment,
+-- or the longest token that begins at its place. Nothing here says how it is found.
 use Rattle.std.specs.Prelude.{◌≡◌, ℕ, ◌+◌, ◌<◌, ◌≤◌, ◌==◌, ◌&&◌, ◌||◌, Bool, true, false, if◌then◌else◌, List, [], ◌∷◌, length, take, drop, map, slice_index, Option, Some, None}
 use Rattle.std.specs.Str.{bytes_eq}
-use Rattle.base_types.specs.declared.place.Place.{Place}
+use Rattle.base_types.specs.declared.place.Position.{Position}
 use Rattle.syntax_tree.specs.declared.token.Symbol.{Symbol}
 use Rattle.syntax_tree.specs.declared.token.Token.{Token}
 use Rattle.syntax_tree.specs.declared.token.TokenKind.{TokenKind}
@@ -77,17 +77,17 @@ pub data IsPiece (z : Text) (n : ℕ) (said : Option TokenKind) : Type 0 where
   a_block : beginning z ≡ block_comment → comment_len z ≡ Some n → said ≡ None → IsPiece z n said
   a_token : (token : TokenKind) → beginning z ≡ other → IsLongest z n token → IsShort token n → said ≡ Some token → IsPiece z n said
 
-abbrev pub with_said : Place → Option TokenKind → List Token → List Token
+abbrev pub with_said : Position → Option TokenKind → List Token → List Token
 with_said at None tokens = tokens
 with_said at (Some token) tokens = record { kind = token; place = at } ∷ tokens
 
 -- The text is cut into pieces of these lengths, and these are its tokens with their places, the end token last.
-abbrev pub IsDivided : Place → Text → List ℕ → List Token → Type 0
+abbrev pub IsDivided : Position → Text → List ℕ → List Token → Type 0
 IsDivided at z [] tokens = (z ≡ []) × (tokens ≡ record { kind = kind.End; place = at } ∷ [])
 IsDivided at z (n ∷ ns) tokens =
     (said : Option TokenKind) × (rest : List Token) × (0 < length z) × IsPiece z n said
     × (tokens ≡ with_said at said rest) × IsDivided (moved at (take n z)) (drop n z) ns rest
 
 -- the first place of a text
-abbrev pub start_of : ℕ → Place
+abbrev pub start_of : ℕ → Position
 start_of text = record { «module» = text; line = 1; column = 1 }

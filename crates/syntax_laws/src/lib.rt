@@ -1,12 +1,9 @@
-//! Laws of tokens: the lexer's tokens are those of the one division of a text.
+//! Laws of tokens and places: a text has one division into tokens, and a tree spells its pieces.
 //!
-//! `syntax_lexer` says of a text what it gives by a definition that goes from piece to piece. The law here says of that definition
-//! what a reader expects of it. The function does nothing; a caller that needs the law calls it.
-//!
-//! Laws of places: what the pieces of a tree say is its spelling.
-//!
-//! `syntax_places` speaks of the pieces of a tree, which are its tokens with the places that it keeps. The law here says that these
-//! tokens are the ones that spell the tree. The function does nothing; a caller that needs the law calls it.
+//! `syntax_lexer` says what it gives for a text by a definition that goes from piece to piece, and
+//! `syntax_places` speaks of the pieces of a tree, which are its tokens with the places that it
+//! keeps. The laws say of these definitions what a reader expects of them. The functions do
+//! nothing; a caller that needs a law calls it.
 #![tactic(auto)]
 
 ghost use Rattle.std.specs.Prelude.{◌≡◌, ℕ, List, Ok, Err};
@@ -27,16 +24,6 @@ pub fn tokens_are_the_one_division()
         tokens_of text z ≡ Err refusal → IsDivided (start_of text) z ns tokens → ⊥ }
 {}
 
-#[cfg(test)]
-mod tests {
-    use super::*;
-
-    #[test]
-    fn calls_the_law() {
-        tokens_are_the_one_division();
-    }
-}
-
 ghost use Rattle.std.specs.Prelude.{◌≡◌, ◌++◌, Option};
 ghost use Rattle.syntax_tree.specs.declared.operator.Multiplicity.{Multiplicity};
 ghost use Rattle.syntax_tree.specs.declared.expr.Expr.{Expr};
@@ -53,13 +40,3 @@ pub fn pieces_say_the_spelling()
     ensures bounds { (word : Option Multiplicity) (e : Expr) → said (worded_pieces word e) ≡ multiplicity_words word ++ spelling e }
     ensures modules { (m : Module) → said (module_pieces m) ≡ module_words m }
 {}
-
-#[cfg(test)]
-mod tests {
-    use super::*;
-
-    #[test]
-    fn calls_the_law() {
-        pieces_say_the_spelling();
-    }
-}

@@ -194,6 +194,7 @@ fn number(z: &[u8]) -> Piece
     ensures within { spec.IsWithin result (length z.now) }
 {
     let len = digits_len(z);
+    // LongNumber, S03: a literal has at most nine digits.
     if len > 9 {
         return Piece::Wrong(Rule::LongNumber);
     }

@@ -1,11 +1,11 @@
-//! The tokens of a text.
+//! Cuts a whole text into its tokens, or gives the first fault.
 
 ghost use Rattle.std.specs.Prelude.{◌≡◌, ◌<◌, ◌≤◌, ◌+◌, ◌^◌, length, IfOk, vec_len};
 ghost use Rattle.syntax_tree.specs.Spelling.{EndsWell};
 ghost use Rattle.syntax_lexer.specs.Tokens as spec;
 
 use crate::piece::{Piece, cut};
-use base_types::{Place, Refusal};
+use base_types::{Position, Refusal};
 use std::alloc::{AllocError, AllocFailed, Global};
 use syntax_tree::{Token, TokenKind};
 
@@ -41,7 +41,7 @@ impl<T: Drop> From<AllocFailed<T>> for LexFault {
 }
 
 /// The place after these bytes.
-fn moved(at: Place, bytes: &[u8]) -> Place
+fn moved(at: Position, bytes: &[u8]) -> Position
     requires line { at.line + length bytes.now < 2 ^ 32 }
     requires column { at.column + length bytes.now < 2 ^ 32 }
     requires begins { 1 ≤ at.column }
@@ -62,7 +62,12 @@ fn moved(at: Place, bytes: &[u8]) -> Place
 }
 
 /// Adds the token that comes next, if it is no gap, and gives the length of the piece.
-fn step(alloc: Global, found: &mut Vec<Token>, place: Place, rest: &[u8]) -> Result<usize, LexFault>
+fn step(
+    alloc: Global,
+    found: &mut Vec<Token>,
+    place: Position,
+    rest: &[u8],
+) -> Result<usize, LexFault>
     requires some { 0 < length rest.now }
     requires short { length rest.now < 2 ^ 31 }
     ensures within { IfOk result (λ n. (1 ≤ n) × (n ≤ length rest.now)) }
@@ -92,7 +97,7 @@ pub fn lex(alloc: Global, text: u32, bytes: &[u8]) -> Result<Vec<Token>, LexFaul
     ensures some { IfOk result (λ found. 0 < vec_len found) }
 {
     let mut found = Vec::new(alloc);
-    let mut place = Place {
+    let mut place = Position {
         module: text,
         line: 1,
         column: 1,

@@ -1,4 +1,4 @@
-//! The reserved words and the symbols.
+//! Lists the reserved words and the symbols.
 
 use syntax_tree::{Symbol, Word};
 

@@ -1,4 +1,4 @@
-//! Facts, assertions, predicates and functions.
+//! Parses facts, assertions, predicates and functions.
 
 ghost use Rattle.std.specs.Prelude.{◌≡◌, ◌++◌, ◌∷◌, [], map, IfOk, IfSome, IsTrue};
 ghost use Rattle.syntax_tree.specs.declared.token.Word.TheVariants as w;

@@ -1,4 +1,4 @@
-//! Commands with their scopes.
+//! Parses commands with their scopes.
 
 ghost use Rattle.std.specs.Prelude.{◌≡◌, ◌++◌, ◌∷◌, [], ◌<◌, length, map, IfOk, IfSome, IsTrue};
 ghost use Rattle.syntax_tree.specs.declared.token.Word.TheVariants as w;

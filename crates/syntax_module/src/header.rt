@@ -1,4 +1,4 @@
-//! The line that names a module, and its opens.
+//! Parses the line that names a module, and its opens.
 
 ghost use Rattle.std.specs.Prelude.{◌≡◌, ◌++◌, ◌∷◌, [], map, IfOk, IsTrue, ◌<◌, length};
 ghost use Rattle.syntax_tree.specs.declared.token.Word.TheVariants as w;

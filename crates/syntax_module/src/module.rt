@@ -1,4 +1,4 @@
-//! The call of the other crates.
+//! Parses a whole module: this is the call that other crates make.
 
 ghost use Rattle.std.specs.Prelude.{◌≡◌, ◌++◌, ◌∷◌, [], map, IfOk, IsTrue};
 ghost use Rattle.syntax_tree.specs.declared.token.TokenKind.TheVariants as kind;

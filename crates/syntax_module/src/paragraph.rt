@@ -1,4 +1,4 @@
-//! Paragraphs.
+//! Parses paragraphs up to the end of a text: the first word says which one comes.
 
 ghost use Rattle.std.specs.Prelude.{◌≡◌, ◌++◌, ◌∷◌, map, IfOk, IsTrue};
 ghost use Rattle.syntax_tree.specs.declared.token.Word.TheVariants as w;

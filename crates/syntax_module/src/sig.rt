@@ -1,4 +1,4 @@
-//! Sigs with their fields, and enums.
+//! Parses sigs with their fields, and enums.
 
 ghost use Rattle.std.specs.Prelude.{◌≡◌, ◌++◌, ◌∷◌, [], ◌<◌, not, length, map, IfOk, IfSome, IsTrue};
 ghost use Rattle.syntax_tree.specs.declared.token.Word.TheVariants as w;

@@ -1,4 +1,4 @@
-//! Names of sigs.
+//! Parses the names of sigs.
 
 ghost use Rattle.std.specs.Prelude.{◌≡◌, ◌++◌, ◌∷◌, [], ◌<◌, length, map, IfOk, IsTrue};
 ghost use Rattle.syntax_tree.specs.declared.token.Symbol.TheVariants as s;

@@ -1,4 +1,4 @@
-//! Words that have to come next, and numbers.
+//! Parses words and numbers that have to come next.
 
 ghost use Rattle.std.specs.Prelude.{◌≡◌, ◌∷◌, IfOk};
 ghost use Rattle.syntax_tree.specs.declared.token.TokenKind.TheVariants as kind;

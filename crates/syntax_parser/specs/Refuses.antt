@@ -1,7 +1,7 @@
 -- What a refusal of a list of tokens says.
 use Rattle.std.specs.Prelude.{Bool, true, false, IsTrue, List, ⊤}
 use Rattle.std.specs.List.{list_any}
-use Rattle.base_types.specs.declared.place.Place.{Place}
+use Rattle.base_types.specs.declared.place.Position.{Position}
 use Rattle.base_types.specs.declared.place.Rule.{Rule}
 use Rattle.base_types.specs.declared.place.Rule.TheVariants as rule
 use Rattle.syntax_tree.specs.declared.token.Token.{Token}
@@ -10,7 +10,7 @@ use Rattle.syntax_expr.specs.declared.fault.ParseFault.{ParseFault}
 use Rattle.syntax_expr.specs.declared.fault.ParseFault.TheVariants as fault
 
 -- some token has this place
-abbrev pub has_token_at : Place → List Token → Bool
+abbrev pub has_token_at : Position → List Token → Bool
 has_token_at p = list_any (λ t. same_place p t.place)
 
 -- the two rules that the grammar has

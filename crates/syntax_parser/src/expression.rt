@@ -1,4 +1,4 @@
-//! Expressions, bounds and blocks.
+//! Parses expressions, bounds and blocks into trees that keep the places of their tokens.
 
 ghost use Rattle.std.specs.Prelude.{◌≡◌, ◌++◌, ◌<◌, ◌≤◌, ◌-◌, ◌&&◌, nat_le, length, take, drop, IfOk, IfErr, IsTrue};
 ghost use Rattle.syntax_tree.specs.Words.{multiplicity_words};

@@ -1,4 +1,4 @@
-//! Modules.
+//! Parses modules into trees that keep the places of their tokens.
 
 ghost use Rattle.std.specs.Prelude.{◌≡◌, IfOk, IfErr, IsTrue};
 ghost use Rattle.syntax_tree.specs.Spelling.{kinds, EndsWell};

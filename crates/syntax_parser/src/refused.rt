@@ -1,21 +1,21 @@
-//! Refusals of a list of tokens.
+//! A parser refuses a token of its list, under a rule of the grammar, or memory was wanting.
 
 ghost use Rattle.std.specs.Prelude.{◌≡◌, ◌<◌, length, drop};
 ghost use Rattle.syntax_places.specs.Pieces.{same_place};
 ghost use Rattle.syntax_parser.specs.Refuses.{has_token_at, is_of_grammar, IsOfTokens};
 
-use base_types::{Place, Rule};
+use base_types::{Position, Rule};
 use syntax_expr::ParseFault;
 use syntax_tree::Token;
 
-fn same_place(a: Place, b: Place) -> bool
+fn same_place(a: Position, b: Position) -> bool
     ensures { result ≡ same_place a b }
 {
     a.module == b.module && a.line == b.line && a.column == b.column
 }
 
 /// Whether some token has this place.
-fn has_token_at(place: Place, tokens: &[Token]) -> bool
+fn has_token_at(place: Position, tokens: &[Token]) -> bool
     ensures { result ≡ has_token_at place tokens.now }
 {
     tokens.iter().any(|token| same_place(place, token.place))

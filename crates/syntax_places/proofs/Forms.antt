@@ -1,6 +1,6 @@
 -- The pieces of each form of tree, from those of its parts.
 use Rattle.std.proofs.Common.{◌≡◌, ℕ, Bool, List, [], ◌∷◌, ◌++◌, Option, None, Some, map, refl, sym, ap, ◌∙◌}
-use Rattle.base_types.specs.declared.place.Place.{Place}
+use Rattle.base_types.specs.declared.place.Position.{Position}
 use Rattle.syntax_tree.specs.declared.token.TokenKind.TheVariants as kind
 use Rattle.syntax_tree.specs.declared.token.Word.TheVariants as w
 use Rattle.syntax_tree.specs.declared.token.Symbol.{Symbol}
@@ -42,45 +42,45 @@ pub pieces_Name : (name : QualName) → pieces (e.Name name) ≡ name_pieces nam
 unfolding pieces
 pieces_Name name = ap pieces (sym (e.rolls-Name name)) ∙ fold-roll-Expr Pieces layer_pieces (Expr-F.Name name)
 
-pub pieces_At : (place : Place) (name : QualName) → pieces (e.At place name) ≡ Here place ∷ Says (symbol s.At) ∷ name_pieces name
+pub pieces_At : (place : Position) (name : QualName) → pieces (e.At place name) ≡ Here place ∷ Says (symbol s.At) ∷ name_pieces name
 unfolding pieces
 pieces_At place name = ap pieces (sym (e.rolls-At place name)) ∙ fold-roll-Expr Pieces layer_pieces (Expr-F.At place name)
 
-pub pieces_Constant : (place : Place) (constant : Constant) → pieces (e.Constant place constant) ≡ Here place ∷ Says (word (constant_word constant)) ∷ []
+pub pieces_Constant : (place : Position) (constant : Constant) → pieces (e.Constant place constant) ≡ Here place ∷ Says (word (constant_word constant)) ∷ []
 unfolding pieces
 pieces_Constant place constant = ap pieces (sym (e.rolls-Constant place constant)) ∙ fold-roll-Expr Pieces layer_pieces (Expr-F.Constant place constant)
 
-pub pieces_Number : (place : Place) (number : ℕ) → pieces (e.Number place number) ≡ Here place ∷ Says (kind.Number number) ∷ []
+pub pieces_Number : (place : Position) (number : ℕ) → pieces (e.Number place number) ≡ Here place ∷ Says (kind.Number number) ∷ []
 unfolding pieces
 pieces_Number place number = ap pieces (sym (e.rolls-Number place number)) ∙ fold-roll-Expr Pieces layer_pieces (Expr-F.Number place number)
 
-pub pieces_Negative : (place : Place) (number : ℕ) → pieces (e.Negative place number) ≡ Here place ∷ Says (symbol s.Minus) ∷ Says (kind.Number number) ∷ []
+pub pieces_Negative : (place : Position) (number : ℕ) → pieces (e.Negative place number) ≡ Here place ∷ Says (symbol s.Minus) ∷ Says (kind.Number number) ∷ []
 unfolding pieces
 pieces_Negative place number = ap pieces (sym (e.rolls-Negative place number)) ∙ fold-roll-Expr Pieces layer_pieces (Expr-F.Negative place number)
 
-pub pieces_Literal : (place : Place) (text : List ℕ) → pieces (e.Literal place text) ≡ Here place ∷ Says (kind.Literal text) ∷ []
+pub pieces_Literal : (place : Position) (text : List ℕ) → pieces (e.Literal place text) ≡ Here place ∷ Says (kind.Literal text) ∷ []
 unfolding pieces
 pieces_Literal place text = ap pieces (sym (e.rolls-Literal place text)) ∙ fold-roll-Expr Pieces layer_pieces (Expr-F.Literal place text)
 
-pub pieces_Parenthesis : (place : Place) (inner : Expr) → pieces (e.Parenthesis place inner) ≡ Here place ∷ Says (symbol s.OpenParenthesis) ∷ (pieces inner ++ Says (symbol s.CloseParenthesis) ∷ [])
+pub pieces_Parenthesis : (place : Position) (inner : Expr) → pieces (e.Parenthesis place inner) ≡ Here place ∷ Says (symbol s.OpenParenthesis) ∷ (pieces inner ++ Says (symbol s.CloseParenthesis) ∷ [])
 unfolding pieces
 pieces_Parenthesis place inner = ap pieces (sym (e.rolls-Parenthesis place inner)) ∙ fold-roll-Expr Pieces layer_pieces (Expr-F.Parenthesis place inner)
 
-pub pieces_Block : (place : Place) (items : List Expr) → pieces (e.Block place items) ≡ Here place ∷ Says (symbol s.OpenBrace) ∷ (joined (map pieces items) ++ Says (symbol s.CloseBrace) ∷ [])
+pub pieces_Block : (place : Position) (items : List Expr) → pieces (e.Block place items) ≡ Here place ∷ Says (symbol s.OpenBrace) ∷ (joined (map pieces items) ++ Says (symbol s.CloseBrace) ∷ [])
 unfolding pieces
 pieces_Block place items = ap pieces (sym (e.rolls-Block place items)) ∙ fold-roll-Expr Pieces layer_pieces (Expr-F.Block place items)
 
-pub pieces_Comprehension : (place : Place) (decls : List (Decl Expr)) (has_bar : Bool) (body : Expr) → pieces (e.Comprehension place decls has_bar body) ≡ Here place ∷ Says (symbol s.OpenBrace) ∷ (decls_pieces decls ++ (optional has_bar (symbol s.Bar) ++ (pieces body ++ Says (symbol s.CloseBrace) ∷ [])))
+pub pieces_Comprehension : (place : Position) (decls : List (Decl Expr)) (has_bar : Bool) (body : Expr) → pieces (e.Comprehension place decls has_bar body) ≡ Here place ∷ Says (symbol s.OpenBrace) ∷ (decls_pieces decls ++ (optional has_bar (symbol s.Bar) ++ (pieces body ++ Says (symbol s.CloseBrace) ∷ [])))
 unfolding pieces
 pieces_Comprehension place decls has_bar body = ap pieces (sym (e.rolls-Comprehension place decls has_bar body)) ∙ fold-roll-Expr Pieces layer_pieces (Expr-F.Comprehension place decls has_bar body)
     ∙ ap (λ ds. Here place ∷ Says (symbol s.OpenBrace) ∷ (separated s.Comma ds ++ (optional has_bar (symbol s.Bar) ++ (pieces body ++ Says (symbol s.CloseBrace) ∷ [])))) (map_map decl_pieces pieced_decl decls)
 
-pub pieces_Quantified : (place : Place) (quantifier : Quantifier) (decls : List (Decl Expr)) (has_bar : Bool) (body : Expr) → pieces (e.Quantified place quantifier decls has_bar body) ≡ Here place ∷ Says (word (quantifier_word quantifier)) ∷ (decls_pieces decls ++ (optional has_bar (symbol s.Bar) ++ pieces body))
+pub pieces_Quantified : (place : Position) (quantifier : Quantifier) (decls : List (Decl Expr)) (has_bar : Bool) (body : Expr) → pieces (e.Quantified place quantifier decls has_bar body) ≡ Here place ∷ Says (word (quantifier_word quantifier)) ∷ (decls_pieces decls ++ (optional has_bar (symbol s.Bar) ++ pieces body))
 unfolding pieces
 pieces_Quantified place quantifier decls has_bar body = ap pieces (sym (e.rolls-Quantified place quantifier decls has_bar body)) ∙ fold-roll-Expr Pieces layer_pieces (Expr-F.Quantified place quantifier decls has_bar body)
     ∙ ap (λ ds. Here place ∷ Says (word (quantifier_word quantifier)) ∷ (separated s.Comma ds ++ (optional has_bar (symbol s.Bar) ++ pieces body))) (map_map decl_pieces pieced_decl decls)
 
-pub pieces_Let : (place : Place) (bindings : List (Binding Expr)) (has_bar : Bool) (body : Expr) → pieces (e.Let place bindings has_bar body) ≡ Here place ∷ Says (word w.Let) ∷ (bindings_pieces bindings ++ (optional has_bar (symbol s.Bar) ++ pieces body))
+pub pieces_Let : (place : Position) (bindings : List (Binding Expr)) (has_bar : Bool) (body : Expr) → pieces (e.Let place bindings has_bar body) ≡ Here place ∷ Says (word w.Let) ∷ (bindings_pieces bindings ++ (optional has_bar (symbol s.Bar) ++ pieces body))
 unfolding pieces
 pieces_Let place bindings has_bar body = ap pieces (sym (e.rolls-Let place bindings has_bar body)) ∙ fold-roll-Expr Pieces layer_pieces (Expr-F.Let place bindings has_bar body)
     ∙ ap (λ bs. Here place ∷ Says (word w.Let) ∷ (separated s.Comma bs ++ (optional has_bar (symbol s.Bar) ++ pieces body))) (map_map binding_pieces pieced_binding bindings)
@@ -98,7 +98,7 @@ pub pieces_Compare : (comparison : Comparison) (left right : Expr) → pieces (e
 unfolding pieces
 pieces_Compare comparison left right = ap pieces (sym (e.rolls-Compare comparison left right)) ∙ fold-roll-Expr Pieces layer_pieces (Expr-F.Compare comparison left right)
 
-pub pieces_Prefix : (place : Place) (operator : Prefix) (operand : Expr) → pieces (e.Prefix place operator operand) ≡ Here place ∷ Says (prefix_token operator) ∷ pieces operand
+pub pieces_Prefix : (place : Position) (operator : Prefix) (operand : Expr) → pieces (e.Prefix place operator operand) ≡ Here place ∷ Says (prefix_token operator) ∷ pieces operand
 unfolding pieces
 pieces_Prefix place operator operand = ap pieces (sym (e.rolls-Prefix place operator operand)) ∙ fold-roll-Expr Pieces layer_pieces (Expr-F.Prefix place operator operand)
 

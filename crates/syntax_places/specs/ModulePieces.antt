@@ -1,5 +1,6 @@
--- What a module and its paragraphs keep of the tokens that spell them. The place of a paragraph and of each other part is that of its
--- first token; a command keeps the place of `run` or `check` too.
+-- What a module and its paragraphs keep of the tokens that spell them. The place of a paragraph
+-- and of each other part is that of its first token; a command keeps the place of `run` or `check`
+-- too.
 use Rattle.std.specs.Prelude.{ℕ, Bool, true, false, List, [], ◌∷◌, ◌++◌, Option, Some, None, map}
 use Rattle.syntax_tree.specs.declared.token.TokenKind.TheVariants as kind
 use Rattle.syntax_tree.specs.declared.token.Word.TheVariants as w

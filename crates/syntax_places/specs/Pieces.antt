@@ -1,6 +1,7 @@
--- What a tree keeps of the tokens that spell it: what each of them says, and the places of some of them.
+-- What a tree keeps of the tokens that spell it: what each of them says, and the places of some of
+-- them.
 use Rattle.std.specs.Prelude.{ℕ, Bool, true, false, ◌&&◌, nat_eq, List, [], ◌∷◌, ◌++◌, Option, Some, None, map}
-use Rattle.base_types.specs.declared.place.Place.{Place}
+use Rattle.base_types.specs.declared.place.Position.{Position}
 use Rattle.syntax_tree.specs.declared.token.Token.{Token}
 use Rattle.syntax_tree.specs.declared.token.TokenKind.{TokenKind}
 use Rattle.syntax_tree.specs.declared.token.TokenKind.TheVariants as kind
@@ -25,7 +26,7 @@ use Rattle.syntax_tree.specs.Spelling.{own_words, implies_token}
 -- The next token says this, or the next token has this place.
 pub data Piece : Type 0 where
   Says : (kind : TokenKind) → Piece
-  Here : (place : Place) → Piece
+  Here : (place : Position) → Piece
 
 abbrev pub Pieces : Type 0
 Pieces = List Piece
@@ -41,10 +42,10 @@ said [] = []
 said (Says k ∷ ps) = k ∷ said ps
 said (Here p ∷ ps) = said ps
 
-abbrev pub same_place : Place → Place → Bool
+abbrev pub same_place : Position → Position → Bool
 same_place p q = nat_eq p.module q.module && (nat_eq p.line q.line && nat_eq p.column q.column)
 
-abbrev pub begins_at : Place → List Token → Bool
+abbrev pub begins_at : Position → List Token → Bool
 begins_at p [] = false
 begins_at p (t ∷ ts) = same_place p t.place
 

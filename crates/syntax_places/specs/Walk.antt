@@ -1,6 +1,6 @@
 -- A walk over tokens along the pieces of a tree.
 use Rattle.std.specs.Prelude.{Bool, true, false, ◌&&◌, List, [], ◌∷◌, ◌++◌, map}
-use Rattle.base_types.specs.declared.place.Place.{Place}
+use Rattle.base_types.specs.declared.place.Position.{Position}
 use Rattle.syntax_tree.specs.declared.token.Token.{Token}
 use Rattle.syntax_tree.specs.declared.token.Symbol.{Symbol}
 use Rattle.syntax_tree.specs.declared.token.TokenKind.TheVariants as kind
@@ -29,7 +29,7 @@ abbrev pub past_if : Bool → Walked → Walked
 past_if true v = past v
 past_if false v = v
 
-abbrev pub look : Walked → Place → Walked
+abbrev pub look : Walked → Position → Walked
 look v p = record { left = v.left; right = v.right && begins_at p v.left }
 
 abbrev pub step : Walked → Piece → Walked

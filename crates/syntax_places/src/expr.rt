@@ -1,4 +1,4 @@
-//! Expressions.
+//! Walks the tokens of expressions and formulas, and compares the places that they keep.
 #![tactic(auto, using(crate::proofs::Parts::walk_append, crate::proofs::Parts::walk_optional))]
 
 ghost use Rattle.std.specs.Prelude.{◌≡◌, map};

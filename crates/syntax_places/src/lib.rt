@@ -10,6 +10,3 @@ mod walk;
 mod words;
 
 pub use places::{has_bound_places, has_module_places, has_places};
-
-#[cfg(test)]
-mod tests;

@@ -1,4 +1,4 @@
-//! Modules and their paragraphs.
+//! Walks the tokens of a module and its paragraphs, and compares the places that they keep.
 #![tactic(auto, using(crate::proofs::Parts::walk_append, crate::proofs::Parts::walk_optional))]
 
 ghost use Rattle.std.specs.Prelude.{◌≡◌, map};

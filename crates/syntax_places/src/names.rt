@@ -1,4 +1,4 @@
-//! Names.
+//! Walks the tokens of names, and compares the places that they keep.
 #![tactic(auto, using(crate::proofs::Parts::walk_append))]
 
 ghost use Rattle.std.specs.Prelude.{◌≡◌};

@@ -1,4 +1,4 @@
-//! Lists of parts.
+//! Walks lists of parts, with a mark between two of them.
 
 ghost use Rattle.std.specs.Prelude.{◌≡◌, map};
 ghost use Rattle.syntax_places.specs.Pieces as p;

@@ -1,4 +1,4 @@
-//! Whether the places are those of the tokens.
+//! Tells whether the places that a tree keeps are those of its tokens.
 
 ghost use Rattle.std.specs.Prelude.{◌≡◌};
 ghost use Rattle.syntax_places.specs.Pieces.{pieces, worded_pieces, at_places};

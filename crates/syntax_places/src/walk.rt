@@ -1,10 +1,10 @@
-//! A walk over tokens along a tree.
+//! A walk goes over tokens along a tree, and compares places on its way.
 
 ghost use Rattle.std.specs.Prelude.{◌≡◌, true};
 ghost use Rattle.syntax_places.specs.Pieces.{same_place, begins_at};
 ghost use Rattle.syntax_places.specs.Walk as v;
 
-use base_types::Place;
+use base_types::Position;
 use std::marker::Model;
 use syntax_tree::Token;
 
@@ -23,14 +23,14 @@ impl<'a> Model for Walk<'a> {
     ghost view = { λ w. record { left = w.rest.now; right = w.right } };
 }
 
-fn same_place(a: Place, b: Place) -> bool
+fn same_place(a: Position, b: Position) -> bool
     ensures { result ≡ same_place a b }
 {
     a.module == b.module && a.line == b.line && a.column == b.column
 }
 
 /// Whether the first token has this place.
-fn begins_at(place: Place, rest: &[Token]) -> bool
+fn begins_at(place: Position, rest: &[Token]) -> bool
     ensures { result ≡ begins_at place rest.now }
 {
     match rest {
@@ -57,7 +57,7 @@ impl<'a> Walk<'a> {
     }
 
     /// The next token has this place.
-    pub fn here(&mut self, place: Place)
+    pub fn here(&mut self, place: Position)
         ensures { self.new ≡ v.look self.old place }
     {
         let begins = begins_at(place, self.rest);

@@ -1,4 +1,4 @@
-//! Tokens of which no place is kept.
+//! Walks tokens of which a tree keeps no place.
 
 ghost use Rattle.std.specs.Prelude.{◌≡◌};
 ghost use Rattle.syntax_tree.specs.Words.{multiplicity_words, infix_words, negation_words};

@@ -1,6 +1,6 @@
 -- How each form of tree is spelled.
 use Rattle.std.proofs.Common.{◌≡◌, ℕ, Bool, List, [], ◌∷◌, ◌++◌, Option, None, Some, map, sym, ap, ◌∙◌, append_assoc}
-use Rattle.base_types.specs.declared.place.Place.{Place}
+use Rattle.base_types.specs.declared.place.Position.{Position}
 use Rattle.syntax_tree.specs.declared.token.TokenKind.TheVariants as kind
 use Rattle.syntax_tree.specs.declared.token.Word.TheVariants as w
 use Rattle.syntax_tree.specs.declared.token.Symbol.TheVariants as s
@@ -27,34 +27,34 @@ use Rattle.syntax_printer.proofs.Parts.{decls_spelled, bindings_spelled, links_s
 pub spelled_Name : (name : QualName) → spelling (e.Name name) ≡ name_words name
 spelled_Name name = was.spelling-Name name
 
-pub spelled_At : (place : Place) (name : QualName) → spelling (e.At place name) ≡ symbol s.At ∷ name_words name
+pub spelled_At : (place : Position) (name : QualName) → spelling (e.At place name) ≡ symbol s.At ∷ name_words name
 spelled_At place name = was.spelling-At place name
 
-pub spelled_Constant : (place : Place) (constant : Constant) → spelling (e.Constant place constant) ≡ word (constant_word constant) ∷ []
+pub spelled_Constant : (place : Position) (constant : Constant) → spelling (e.Constant place constant) ≡ word (constant_word constant) ∷ []
 spelled_Constant place constant = was.spelling-Constant place constant
 
-pub spelled_Number : (place : Place) (number : ℕ) → spelling (e.Number place number) ≡ kind.Number number ∷ []
+pub spelled_Number : (place : Position) (number : ℕ) → spelling (e.Number place number) ≡ kind.Number number ∷ []
 spelled_Number place number = was.spelling-Number place number
 
-pub spelled_Negative : (place : Place) (number : ℕ) → spelling (e.Negative place number) ≡ symbol s.Minus ∷ kind.Number number ∷ []
+pub spelled_Negative : (place : Position) (number : ℕ) → spelling (e.Negative place number) ≡ symbol s.Minus ∷ kind.Number number ∷ []
 spelled_Negative place number = was.spelling-Negative place number
 
-pub spelled_Literal : (place : Place) (text : List ℕ) → spelling (e.Literal place text) ≡ kind.Literal text ∷ []
+pub spelled_Literal : (place : Position) (text : List ℕ) → spelling (e.Literal place text) ≡ kind.Literal text ∷ []
 spelled_Literal place text = was.spelling-Literal place text
 
-pub spelled_Parenthesis : (place : Place) (inner : Expr) → spelling (e.Parenthesis place inner) ≡ symbol s.OpenParenthesis ∷ (spelling inner ++ symbol s.CloseParenthesis ∷ [])
+pub spelled_Parenthesis : (place : Position) (inner : Expr) → spelling (e.Parenthesis place inner) ≡ symbol s.OpenParenthesis ∷ (spelling inner ++ symbol s.CloseParenthesis ∷ [])
 spelled_Parenthesis place inner = was.spelling-Parenthesis place inner
 
-pub spelled_Block : (place : Place) (items : List Expr) → spelling (e.Block place items) ≡ symbol s.OpenBrace ∷ (joined (map spelling items) ++ symbol s.CloseBrace ∷ [])
+pub spelled_Block : (place : Position) (items : List Expr) → spelling (e.Block place items) ≡ symbol s.OpenBrace ∷ (joined (map spelling items) ++ symbol s.CloseBrace ∷ [])
 spelled_Block place items = was.spelling-Block place items
 
-pub spelled_Comprehension : (place : Place) (decls : List (Decl Expr)) (has_bar : Bool) (body : Expr) → spelling (e.Comprehension place decls has_bar body) ≡ symbol s.OpenBrace ∷ (separated s.Comma (map (λ d. decl_words (spelled_decl d)) decls) ++ (body_words has_bar (spelling body) ++ symbol s.CloseBrace ∷ []))
+pub spelled_Comprehension : (place : Position) (decls : List (Decl Expr)) (has_bar : Bool) (body : Expr) → spelling (e.Comprehension place decls has_bar body) ≡ symbol s.OpenBrace ∷ (separated s.Comma (map (λ d. decl_words (spelled_decl d)) decls) ++ (body_words has_bar (spelling body) ++ symbol s.CloseBrace ∷ []))
 spelled_Comprehension place decls has_bar body = was.spelling-Comprehension place decls has_bar body ∙ ap (λ ws. symbol s.OpenBrace ∷ (ws ++ (body_words has_bar (spelling body) ++ symbol s.CloseBrace ∷ []))) (decls_spelled decls)
 
-pub spelled_Quantified : (place : Place) (quantifier : Quantifier) (decls : List (Decl Expr)) (has_bar : Bool) (body : Expr) → spelling (e.Quantified place quantifier decls has_bar body) ≡ word (quantifier_word quantifier) ∷ (separated s.Comma (map (λ d. decl_words (spelled_decl d)) decls) ++ body_words has_bar (spelling body))
+pub spelled_Quantified : (place : Position) (quantifier : Quantifier) (decls : List (Decl Expr)) (has_bar : Bool) (body : Expr) → spelling (e.Quantified place quantifier decls has_bar body) ≡ word (quantifier_word quantifier) ∷ (separated s.Comma (map (λ d. decl_words (spelled_decl d)) decls) ++ body_words has_bar (spelling body))
 spelled_Quantified place quantifier decls has_bar body = was.spelling-Quantified place quantifier decls has_bar body ∙ ap (λ ws. word (quantifier_word quantifier) ∷ (ws ++ body_words has_bar (spelling body))) (decls_spelled decls)
 
-pub spelled_Let : (place : Place) (bindings : List (Binding Expr)) (has_bar : Bool) (body : Expr) → spelling (e.Let place bindings has_bar body) ≡ word w.Let ∷ (separated s.Comma (map (λ b. binding_words (spelled_binding b)) bindings) ++ body_words has_bar (spelling body))
+pub spelled_Let : (place : Position) (bindings : List (Binding Expr)) (has_bar : Bool) (body : Expr) → spelling (e.Let place bindings has_bar body) ≡ word w.Let ∷ (separated s.Comma (map (λ b. binding_words (spelled_binding b)) bindings) ++ body_words has_bar (spelling body))
 spelled_Let place bindings has_bar body = was.spelling-Let place bindings has_bar body ∙ ap (λ ws. word w.Let ∷ (ws ++ body_words has_bar (spelling body))) (bindings_spelled bindings)
 
 pub spelled_Sequence : (first second : Expr) → spelling (e.Sequence first second) ≡ spelling first ++ symbol s.Semicolon ∷ spelling second
@@ -67,7 +67,7 @@ spelled_Implication is_word condition consequence (Some other) = was.spelling-Im
 pub spelled_Compare : (comparison : Comparison) (left right : Expr) → spelling (e.Compare comparison left right) ≡ spelling left ++ (comparison_words comparison ++ spelling right)
 spelled_Compare comparison left right = was.spelling-Compare comparison left right
 
-pub spelled_Prefix : (place : Place) (operator : Prefix) (operand : Expr) → spelling (e.Prefix place operator operand) ≡ prefix_token operator ∷ spelling operand
+pub spelled_Prefix : (place : Position) (operator : Prefix) (operand : Expr) → spelling (e.Prefix place operator operand) ≡ prefix_token operator ∷ spelling operand
 spelled_Prefix place operator operand = was.spelling-Prefix place operator operand
 
 pub spelled_Infix : (first : Expr) (links : List (Infix × Expr)) → spelling (e.Infix first links) ≡ spelling first ++ joined (map (λ l. link_words (spelled_link l)) links)

@@ -1,4 +1,4 @@
-//! Expressions.
+//! Spells expressions and formulas: their tokens, one after another.
 #![tactic(auto, using(crate::proofs::Parts::regrouped, crate::proofs::Parts::joined_next, crate::proofs::Parts::joined_end, crate::proofs::Parts::separated_next, crate::proofs::Parts::separated_end))]
 
 ghost use Rattle.std.specs.Prelude.{◌≡◌, ◌++◌, map, OnOk};

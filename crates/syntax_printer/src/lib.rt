@@ -8,6 +8,3 @@ mod part;
 mod words;
 
 pub use module::spell;
-
-#[cfg(test)]
-mod tests;

@@ -1,4 +1,4 @@
-//! Modules and their paragraphs.
+//! Spells a module and its paragraphs: their tokens, one after another.
 #![tactic(auto, using(crate::proofs::Parts::regrouped))]
 
 ghost use Rattle.std.specs.Prelude.{◌≡◌, ◌++◌, map, OnOk, IfOk};

@@ -1,4 +1,4 @@
-//! Names.
+//! Spells names and the paths before them.
 #![tactic(auto, using(crate::proofs::Parts::regrouped))]
 
 ghost use Rattle.std.specs.Prelude.{◌≡◌, ◌++◌, OnOk};

@@ -1,4 +1,4 @@
-//! Lists of parts.
+//! Spells lists of parts, with a mark between two of them.
 #![tactic(auto, using(crate::proofs::Parts::joined_next, crate::proofs::Parts::joined_end, crate::proofs::Parts::separated_next, crate::proofs::Parts::separated_end))]
 
 ghost use Rattle.std.specs.Prelude.{◌≡◌, ◌++◌, map, OnOk};

@@ -1,4 +1,4 @@
-//! Single tokens, and operators.
+//! Spells single tokens, words and operators.
 
 ghost use Rattle.std.specs.Prelude.{◌≡◌, ◌++◌, ◌∷◌, [], OnOk};
 ghost use Rattle.syntax_tree.specs.Words as w;

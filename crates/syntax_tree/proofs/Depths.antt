@@ -1,7 +1,7 @@
 -- The depth of each form, from the depths of its parts.
 use Rattle.std.proofs.Common.{◌≡◌, ℕ, ◌+◌, ◌<◌, ◌≤◌, max, Bool, List, [], ◌∷◌, Option, None, Some, map, take, length, min, get_or, ◌++◌, refl, sym, ap, ◌∙◌, arith}
 use Rattle.std.proofs.lemmas.List.{take_more}
-use Rattle.base_types.specs.declared.place.Place.{Place}
+use Rattle.base_types.specs.declared.place.Position.{Position}
 use Rattle.syntax_tree.specs.declared.operator.Constant.{Constant}
 use Rattle.syntax_tree.specs.declared.operator.Quantifier.{Quantifier}
 use Rattle.syntax_tree.specs.declared.operator.Prefix.{Prefix}
@@ -26,43 +26,43 @@ pub depth-Name : (name : QualName) → depth_of (e.Name name) ≡ 0
 unfolding depth_of
 depth-Name name = ap depth_of (sym (e.rolls-Name name)) ∙ fold-roll-Expr ℕ layer_depth (Expr-F.Name name)
 
-pub depth-At : (place : Place) (name : QualName) → depth_of (e.At place name) ≡ 0
+pub depth-At : (place : Position) (name : QualName) → depth_of (e.At place name) ≡ 0
 unfolding depth_of
 depth-At place name = ap depth_of (sym (e.rolls-At place name)) ∙ fold-roll-Expr ℕ layer_depth (Expr-F.At place name)
 
-pub depth-Constant : (place : Place) (constant : Constant) → depth_of (e.Constant place constant) ≡ 0
+pub depth-Constant : (place : Position) (constant : Constant) → depth_of (e.Constant place constant) ≡ 0
 unfolding depth_of
 depth-Constant place constant = ap depth_of (sym (e.rolls-Constant place constant)) ∙ fold-roll-Expr ℕ layer_depth (Expr-F.Constant place constant)
 
-pub depth-Number : (place : Place) (number : ℕ) → depth_of (e.Number place number) ≡ 0
+pub depth-Number : (place : Position) (number : ℕ) → depth_of (e.Number place number) ≡ 0
 unfolding depth_of
 depth-Number place number = ap depth_of (sym (e.rolls-Number place number)) ∙ fold-roll-Expr ℕ layer_depth (Expr-F.Number place number)
 
-pub depth-Negative : (place : Place) (number : ℕ) → depth_of (e.Negative place number) ≡ 0
+pub depth-Negative : (place : Position) (number : ℕ) → depth_of (e.Negative place number) ≡ 0
 unfolding depth_of
 depth-Negative place number = ap depth_of (sym (e.rolls-Negative place number)) ∙ fold-roll-Expr ℕ layer_depth (Expr-F.Negative place number)
 
-pub depth-Literal : (place : Place) (text : List ℕ) → depth_of (e.Literal place text) ≡ 0
+pub depth-Literal : (place : Position) (text : List ℕ) → depth_of (e.Literal place text) ≡ 0
 unfolding depth_of
 depth-Literal place text = ap depth_of (sym (e.rolls-Literal place text)) ∙ fold-roll-Expr ℕ layer_depth (Expr-F.Literal place text)
 
-pub depth-Parenthesis : (place : Place) (inner : Expr) → depth_of (e.Parenthesis place inner) ≡ depth_of inner + 1
+pub depth-Parenthesis : (place : Position) (inner : Expr) → depth_of (e.Parenthesis place inner) ≡ depth_of inner + 1
 unfolding depth_of
 depth-Parenthesis place inner = ap depth_of (sym (e.rolls-Parenthesis place inner)) ∙ fold-roll-Expr ℕ layer_depth (Expr-F.Parenthesis place inner)
 
-pub depth-Block : (place : Place) (items : List Expr) → depth_of (e.Block place items) ≡ block_depth (map depth_of items)
+pub depth-Block : (place : Position) (items : List Expr) → depth_of (e.Block place items) ≡ block_depth (map depth_of items)
 unfolding depth_of
 depth-Block place items = ap depth_of (sym (e.rolls-Block place items)) ∙ fold-roll-Expr ℕ layer_depth (Expr-F.Block place items)
 
-pub depth-Comprehension : (place : Place) (decls : List (Decl Expr)) (has_bar : Bool) (body : Expr) → depth_of (e.Comprehension place decls has_bar body) ≡ max (deepest (map (λ d. depth_of d.bound) decls)) (depth_of body) + 1
+pub depth-Comprehension : (place : Position) (decls : List (Decl Expr)) (has_bar : Bool) (body : Expr) → depth_of (e.Comprehension place decls has_bar body) ≡ max (deepest (map (λ d. depth_of d.bound) decls)) (depth_of body) + 1
 unfolding depth_of
 depth-Comprehension place decls has_bar body = ap depth_of (sym (e.rolls-Comprehension place decls has_bar body)) ∙ fold-roll-Expr ℕ layer_depth (Expr-F.Comprehension place decls has_bar body) ∙ ap (λ ds. max (deepest ds) (depth_of body) + 1) (map_map _ _ decls)
 
-pub depth-Quantified : (place : Place) (quantifier : Quantifier) (decls : List (Decl Expr)) (has_bar : Bool) (body : Expr) → depth_of (e.Quantified place quantifier decls has_bar body) ≡ max (deepest (map (λ d. depth_of d.bound) decls)) (depth_of body) + 1
+pub depth-Quantified : (place : Position) (quantifier : Quantifier) (decls : List (Decl Expr)) (has_bar : Bool) (body : Expr) → depth_of (e.Quantified place quantifier decls has_bar body) ≡ max (deepest (map (λ d. depth_of d.bound) decls)) (depth_of body) + 1
 unfolding depth_of
 depth-Quantified place quantifier decls has_bar body = ap depth_of (sym (e.rolls-Quantified place quantifier decls has_bar body)) ∙ fold-roll-Expr ℕ layer_depth (Expr-F.Quantified place quantifier decls has_bar body) ∙ ap (λ ds. max (deepest ds) (depth_of body) + 1) (map_map _ _ decls)
 
-pub depth-Let : (place : Place) (bindings : List (Binding Expr)) (has_bar : Bool) (body : Expr) → depth_of (e.Let place bindings has_bar body) ≡ max (deepest (map (λ b. depth_of b.value) bindings)) (depth_of body) + 1
+pub depth-Let : (place : Position) (bindings : List (Binding Expr)) (has_bar : Bool) (body : Expr) → depth_of (e.Let place bindings has_bar body) ≡ max (deepest (map (λ b. depth_of b.value) bindings)) (depth_of body) + 1
 unfolding depth_of
 depth-Let place bindings has_bar body = ap depth_of (sym (e.rolls-Let place bindings has_bar body)) ∙ fold-roll-Expr ℕ layer_depth (Expr-F.Let place bindings has_bar body) ∙ ap (λ ds. max (deepest ds) (depth_of body) + 1) (map_map _ _ bindings)
 
@@ -79,7 +79,7 @@ pub depth-Compare : (comparison : Comparison) (left right : Expr) → depth_of (
 unfolding depth_of
 depth-Compare comparison left right = ap depth_of (sym (e.rolls-Compare comparison left right)) ∙ fold-roll-Expr ℕ layer_depth (Expr-F.Compare comparison left right)
 
-pub depth-Prefix : (place : Place) (operator : Prefix) (operand : Expr) → depth_of (e.Prefix place operator operand) ≡ depth_of operand + 1
+pub depth-Prefix : (place : Position) (operator : Prefix) (operand : Expr) → depth_of (e.Prefix place operator operand) ≡ depth_of operand + 1
 unfolding depth_of
 depth-Prefix place operator operand = ap depth_of (sym (e.rolls-Prefix place operator operand)) ∙ fold-roll-Expr ℕ layer_depth (Expr-F.Prefix place operator operand)
 
@@ -118,11 +118,11 @@ pub deepest_next : {A : Type 0} (f : A → ℕ) (xs : List A) (i : ℕ) (x : A) 
 deepest_next f xs i x most before now one inside at was its is =
     rw (take_more xs i x inside, sym at, deepest_push f (take i xs) x) (omega (arith, was, its, is))
 
-pub depth-filled : (place : Place) (items : List Expr) → 0 < length items → depth_of (e.Block place items) ≡ deepest (map depth_of items) + 1
+pub depth-filled : (place : Position) (items : List Expr) → 0 < length items → depth_of (e.Block place items) ≡ deepest (map depth_of items) + 1
 depth-filled place [] some = absurd (omega arith)
 depth-filled place (x ∷ items) some = depth-Block place (x ∷ items)
 
-pub depth-empty : (place : Place) (items : List Expr) → length items ≡ 0 → depth_of (e.Block place items) ≡ 0
+pub depth-empty : (place : Position) (items : List Expr) → length items ≡ 0 → depth_of (e.Block place items) ≡ 0
 depth-empty place [] none = depth-Block place []
 depth-empty place (x ∷ items) none = absurd (omega (arith, none))
 

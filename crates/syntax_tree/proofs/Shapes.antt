@@ -1,7 +1,7 @@
 -- The shape of each form, from the shapes of its parts.
 use Rattle.std.proofs.Common.{◌≡◌, ℕ, ◌+◌, ◌<◌, ◌≤◌, Bool, true, false, List, [], ◌∷◌, Option, None, Some, map, drop, fold, length, get_or, refl, sym, ap, ◌∙◌}
 use Rattle.std.proofs.lemmas.List.{at_drop_more, at_drop_all}
-use Rattle.base_types.specs.declared.place.Place.{Place}
+use Rattle.base_types.specs.declared.place.Position.{Position}
 use Rattle.syntax_tree.specs.declared.operator.Constant.{Constant}
 use Rattle.syntax_tree.specs.declared.operator.Quantifier.{Quantifier}
 use Rattle.syntax_tree.specs.declared.operator.Prefix.{Prefix}
@@ -32,43 +32,43 @@ pub shape-Name : (name : QualName) → shape (e.Name name) ≡ closed (name_righ
 unfolding shape
 shape-Name name = ap shape (sym (e.rolls-Name name)) ∙ fold-roll-Expr Shape layer_shape (Expr-F.Name name)
 
-pub shape-At : (place : Place) (name : QualName) → shape (e.At place name) ≡ closed (name_right name)
+pub shape-At : (place : Position) (name : QualName) → shape (e.At place name) ≡ closed (name_right name)
 unfolding shape
 shape-At place name = ap shape (sym (e.rolls-At place name)) ∙ fold-roll-Expr Shape layer_shape (Expr-F.At place name)
 
-pub shape-Constant : (place : Place) (constant : Constant) → shape (e.Constant place constant) ≡ closed true
+pub shape-Constant : (place : Position) (constant : Constant) → shape (e.Constant place constant) ≡ closed true
 unfolding shape
 shape-Constant place constant = ap shape (sym (e.rolls-Constant place constant)) ∙ fold-roll-Expr Shape layer_shape (Expr-F.Constant place constant)
 
-pub shape-Number : (place : Place) (number : ℕ) → shape (e.Number place number) ≡ closed true
+pub shape-Number : (place : Position) (number : ℕ) → shape (e.Number place number) ≡ closed true
 unfolding shape
 shape-Number place number = ap shape (sym (e.rolls-Number place number)) ∙ fold-roll-Expr Shape layer_shape (Expr-F.Number place number)
 
-pub shape-Negative : (place : Place) (number : ℕ) → shape (e.Negative place number) ≡ negative
+pub shape-Negative : (place : Position) (number : ℕ) → shape (e.Negative place number) ≡ negative
 unfolding shape
 shape-Negative place number = ap shape (sym (e.rolls-Negative place number)) ∙ fold-roll-Expr Shape layer_shape (Expr-F.Negative place number)
 
-pub shape-Literal : (place : Place) (text : List ℕ) → shape (e.Literal place text) ≡ closed true
+pub shape-Literal : (place : Position) (text : List ℕ) → shape (e.Literal place text) ≡ closed true
 unfolding shape
 shape-Literal place text = ap shape (sym (e.rolls-Literal place text)) ∙ fold-roll-Expr Shape layer_shape (Expr-F.Literal place text)
 
-pub shape-Parenthesis : (place : Place) (inner : Expr) → shape (e.Parenthesis place inner) ≡ closed (shape inner).right
+pub shape-Parenthesis : (place : Position) (inner : Expr) → shape (e.Parenthesis place inner) ≡ closed (shape inner).right
 unfolding shape
 shape-Parenthesis place inner = ap shape (sym (e.rolls-Parenthesis place inner)) ∙ fold-roll-Expr Shape layer_shape (Expr-F.Parenthesis place inner)
 
-pub shape-Block : (place : Place) (items : List Expr) → shape (e.Block place items) ≡ block (items_right (map shape items))
+pub shape-Block : (place : Position) (items : List Expr) → shape (e.Block place items) ≡ block (items_right (map shape items))
 unfolding shape
 shape-Block place items = ap shape (sym (e.rolls-Block place items)) ∙ fold-roll-Expr Shape layer_shape (Expr-F.Block place items)
 
-pub shape-Comprehension : (place : Place) (decls : List (Decl Expr)) (has_bar : Bool) (body : Expr) → shape (e.Comprehension place decls has_bar body) ≡ comprehension (decls_right (map shaped_decl decls)) has_bar (shape body)
+pub shape-Comprehension : (place : Position) (decls : List (Decl Expr)) (has_bar : Bool) (body : Expr) → shape (e.Comprehension place decls has_bar body) ≡ comprehension (decls_right (map shaped_decl decls)) has_bar (shape body)
 unfolding shape
 shape-Comprehension place decls has_bar body = ap shape (sym (e.rolls-Comprehension place decls has_bar body)) ∙ fold-roll-Expr Shape layer_shape (Expr-F.Comprehension place decls has_bar body)
 
-pub shape-Quantified : (place : Place) (quantifier : Quantifier) (decls : List (Decl Expr)) (has_bar : Bool) (body : Expr) → shape (e.Quantified place quantifier decls has_bar body) ≡ quantified quantifier (decls_right (map shaped_decl decls)) has_bar (shape body)
+pub shape-Quantified : (place : Position) (quantifier : Quantifier) (decls : List (Decl Expr)) (has_bar : Bool) (body : Expr) → shape (e.Quantified place quantifier decls has_bar body) ≡ quantified quantifier (decls_right (map shaped_decl decls)) has_bar (shape body)
 unfolding shape
 shape-Quantified place quantifier decls has_bar body = ap shape (sym (e.rolls-Quantified place quantifier decls has_bar body)) ∙ fold-roll-Expr Shape layer_shape (Expr-F.Quantified place quantifier decls has_bar body)
 
-pub shape-Let : (place : Place) (bindings : List (Binding Expr)) (has_bar : Bool) (body : Expr) → shape (e.Let place bindings has_bar body) ≡ zero_form (bindings_right (map shaped_binding bindings)) has_bar (shape body) false
+pub shape-Let : (place : Position) (bindings : List (Binding Expr)) (has_bar : Bool) (body : Expr) → shape (e.Let place bindings has_bar body) ≡ zero_form (bindings_right (map shaped_binding bindings)) has_bar (shape body) false
 unfolding shape
 shape-Let place bindings has_bar body = ap shape (sym (e.rolls-Let place bindings has_bar body)) ∙ fold-roll-Expr Shape layer_shape (Expr-F.Let place bindings has_bar body)
 
@@ -85,7 +85,7 @@ pub shape-Compare : (comparison : Comparison) (left right : Expr) → shape (e.C
 unfolding shape
 shape-Compare comparison left right = ap shape (sym (e.rolls-Compare comparison left right)) ∙ fold-roll-Expr Shape layer_shape (Expr-F.Compare comparison left right)
 
-pub shape-Prefix : (place : Place) (operator : Prefix) (operand : Expr) → shape (e.Prefix place operator operand) ≡ prefixed operator (shape operand)
+pub shape-Prefix : (place : Position) (operator : Prefix) (operand : Expr) → shape (e.Prefix place operator operand) ≡ prefixed operator (shape operand)
 unfolding shape
 shape-Prefix place operator operand = ap shape (sym (e.rolls-Prefix place operator operand)) ∙ fold-roll-Expr Shape layer_shape (Expr-F.Prefix place operator operand)
 

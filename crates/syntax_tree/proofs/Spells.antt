@@ -1,6 +1,6 @@
 -- How each form of tree is spelled, from how its parts are.
 use Rattle.std.proofs.Common.{◌≡◌, ℕ, Bool, List, [], ◌∷◌, ◌++◌, Option, None, Some, map, refl, sym, ap, ◌∙◌}
-use Rattle.base_types.specs.declared.place.Place.{Place}
+use Rattle.base_types.specs.declared.place.Position.{Position}
 use Rattle.syntax_tree.specs.declared.token.TokenKind.TheVariants as kind
 use Rattle.syntax_tree.specs.declared.token.Word.TheVariants as w
 use Rattle.syntax_tree.specs.declared.token.Symbol.TheVariants as s
@@ -25,43 +25,43 @@ pub spelling-Name : (name : QualName) → spelling (e.Name name) ≡ name_words 
 unfolding spelling
 spelling-Name name = ap spelling (sym (e.rolls-Name name)) ∙ fold-roll-Expr Spelled layer_words (Expr-F.Name name)
 
-pub spelling-At : (place : Place) (name : QualName) → spelling (e.At place name) ≡ symbol s.At ∷ name_words name
+pub spelling-At : (place : Position) (name : QualName) → spelling (e.At place name) ≡ symbol s.At ∷ name_words name
 unfolding spelling
 spelling-At place name = ap spelling (sym (e.rolls-At place name)) ∙ fold-roll-Expr Spelled layer_words (Expr-F.At place name)
 
-pub spelling-Constant : (place : Place) (constant : Constant) → spelling (e.Constant place constant) ≡ word (constant_word constant) ∷ []
+pub spelling-Constant : (place : Position) (constant : Constant) → spelling (e.Constant place constant) ≡ word (constant_word constant) ∷ []
 unfolding spelling
 spelling-Constant place constant = ap spelling (sym (e.rolls-Constant place constant)) ∙ fold-roll-Expr Spelled layer_words (Expr-F.Constant place constant)
 
-pub spelling-Number : (place : Place) (number : ℕ) → spelling (e.Number place number) ≡ kind.Number number ∷ []
+pub spelling-Number : (place : Position) (number : ℕ) → spelling (e.Number place number) ≡ kind.Number number ∷ []
 unfolding spelling
 spelling-Number place number = ap spelling (sym (e.rolls-Number place number)) ∙ fold-roll-Expr Spelled layer_words (Expr-F.Number place number)
 
-pub spelling-Negative : (place : Place) (number : ℕ) → spelling (e.Negative place number) ≡ symbol s.Minus ∷ kind.Number number ∷ []
+pub spelling-Negative : (place : Position) (number : ℕ) → spelling (e.Negative place number) ≡ symbol s.Minus ∷ kind.Number number ∷ []
 unfolding spelling
 spelling-Negative place number = ap spelling (sym (e.rolls-Negative place number)) ∙ fold-roll-Expr Spelled layer_words (Expr-F.Negative place number)
 
-pub spelling-Literal : (place : Place) (text : List ℕ) → spelling (e.Literal place text) ≡ kind.Literal text ∷ []
+pub spelling-Literal : (place : Position) (text : List ℕ) → spelling (e.Literal place text) ≡ kind.Literal text ∷ []
 unfolding spelling
 spelling-Literal place text = ap spelling (sym (e.rolls-Literal place text)) ∙ fold-roll-Expr Spelled layer_words (Expr-F.Literal place text)
 
-pub spelling-Parenthesis : (place : Place) (inner : Expr) → spelling (e.Parenthesis place inner) ≡ symbol s.OpenParenthesis ∷ (spelling inner ++ symbol s.CloseParenthesis ∷ [])
+pub spelling-Parenthesis : (place : Position) (inner : Expr) → spelling (e.Parenthesis place inner) ≡ symbol s.OpenParenthesis ∷ (spelling inner ++ symbol s.CloseParenthesis ∷ [])
 unfolding spelling
 spelling-Parenthesis place inner = ap spelling (sym (e.rolls-Parenthesis place inner)) ∙ fold-roll-Expr Spelled layer_words (Expr-F.Parenthesis place inner)
 
-pub spelling-Block : (place : Place) (items : List Expr) → spelling (e.Block place items) ≡ symbol s.OpenBrace ∷ (joined (map spelling items) ++ symbol s.CloseBrace ∷ [])
+pub spelling-Block : (place : Position) (items : List Expr) → spelling (e.Block place items) ≡ symbol s.OpenBrace ∷ (joined (map spelling items) ++ symbol s.CloseBrace ∷ [])
 unfolding spelling
 spelling-Block place items = ap spelling (sym (e.rolls-Block place items)) ∙ fold-roll-Expr Spelled layer_words (Expr-F.Block place items)
 
-pub spelling-Comprehension : (place : Place) (decls : List (Decl Expr)) (has_bar : Bool) (body : Expr) → spelling (e.Comprehension place decls has_bar body) ≡ symbol s.OpenBrace ∷ (decls_spelling decls ++ (body_words has_bar (spelling body) ++ symbol s.CloseBrace ∷ []))
+pub spelling-Comprehension : (place : Position) (decls : List (Decl Expr)) (has_bar : Bool) (body : Expr) → spelling (e.Comprehension place decls has_bar body) ≡ symbol s.OpenBrace ∷ (decls_spelling decls ++ (body_words has_bar (spelling body) ++ symbol s.CloseBrace ∷ []))
 unfolding spelling
 spelling-Comprehension place decls has_bar body = ap spelling (sym (e.rolls-Comprehension place decls has_bar body)) ∙ fold-roll-Expr Spelled layer_words (Expr-F.Comprehension place decls has_bar body)
 
-pub spelling-Quantified : (place : Place) (quantifier : Quantifier) (decls : List (Decl Expr)) (has_bar : Bool) (body : Expr) → spelling (e.Quantified place quantifier decls has_bar body) ≡ word (quantifier_word quantifier) ∷ (decls_spelling decls ++ body_words has_bar (spelling body))
+pub spelling-Quantified : (place : Position) (quantifier : Quantifier) (decls : List (Decl Expr)) (has_bar : Bool) (body : Expr) → spelling (e.Quantified place quantifier decls has_bar body) ≡ word (quantifier_word quantifier) ∷ (decls_spelling decls ++ body_words has_bar (spelling body))
 unfolding spelling
 spelling-Quantified place quantifier decls has_bar body = ap spelling (sym (e.rolls-Quantified place quantifier decls has_bar body)) ∙ fold-roll-Expr Spelled layer_words (Expr-F.Quantified place quantifier decls has_bar body)
 
-pub spelling-Let : (place : Place) (bindings : List (Binding Expr)) (has_bar : Bool) (body : Expr) → spelling (e.Let place bindings has_bar body) ≡ word w.Let ∷ (bindings_spelling bindings ++ body_words has_bar (spelling body))
+pub spelling-Let : (place : Position) (bindings : List (Binding Expr)) (has_bar : Bool) (body : Expr) → spelling (e.Let place bindings has_bar body) ≡ word w.Let ∷ (bindings_spelling bindings ++ body_words has_bar (spelling body))
 unfolding spelling
 spelling-Let place bindings has_bar body = ap spelling (sym (e.rolls-Let place bindings has_bar body)) ∙ fold-roll-Expr Spelled layer_words (Expr-F.Let place bindings has_bar body)
 
@@ -80,7 +80,7 @@ pub spelling-Compare : (comparison : Comparison) (left right : Expr) → spellin
 unfolding spelling
 spelling-Compare comparison left right = ap spelling (sym (e.rolls-Compare comparison left right)) ∙ fold-roll-Expr Spelled layer_words (Expr-F.Compare comparison left right)
 
-pub spelling-Prefix : (place : Place) (operator : Prefix) (operand : Expr) → spelling (e.Prefix place operator operand) ≡ prefix_token operator ∷ spelling operand
+pub spelling-Prefix : (place : Position) (operator : Prefix) (operand : Expr) → spelling (e.Prefix place operator operand) ≡ prefix_token operator ∷ spelling operand
 unfolding spelling
 spelling-Prefix place operator operand = ap spelling (sym (e.rolls-Prefix place operator operand)) ∙ fold-roll-Expr Spelled layer_words (Expr-F.Prefix place operator operand)
 

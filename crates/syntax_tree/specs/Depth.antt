@@ -1,5 +1,5 @@
--- How deep a tree is: 0 for a form without inner parts, and one more than its deepest part for any other. A parenthesis and a block
--- that holds something are such nodes too.
+-- How deep a tree is: 0 for a form without inner parts, and one more than its deepest part for any
+-- other. A parenthesis and a block that holds something are such nodes too.
 use Rattle.std.specs.Prelude.{ℕ, ◌+◌, max, List, [], ◌∷◌, map, Option, None, Some}
 use Rattle.syntax_tree.specs.declared.operator.Infix.{Infix}
 use Rattle.syntax_tree.specs.declared.expr.Decl.{Decl}

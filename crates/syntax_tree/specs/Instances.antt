@@ -1,4 +1,5 @@
--- What the modules of an analysis keep: which numbers are in range, and how many things have a name.
+-- What the modules of an analysis keep: which numbers are in range, and how many things have a
+-- name.
 use Rattle.std.specs.Prelude.{ℕ, ◌+◌, Bool, true, false, ◌&&◌, ◌==◌, nat_lt, if◌then◌else◌, List, [], ◌∷◌, length, sum_by, slice_get, Option, Some, None}
 use Rattle.std.specs.List.{list_any, list_all, flat_map}
 use Rattle.std.specs.Str.{bytes_eq}

@@ -1,14 +1,17 @@
 -- Which trees are right: their forms are complete, and their operands keep five rules on levels.
+-- (Other texts call a level the precedence of an operator, and grouping its associativity.)
 --
--- 1. An operand binds tighter than its operator: its level is greater. The left operand of an operator that groups to the left,
---    the right operand of one that groups to the right, and the operand of a prefix or of a postfix may have the same level.
---    Operands of one level that group to the left are one node with a list, so there the first one binds tighter as well.
---    What stands in brackets has any level.
--- 2. The last operand may also be a form with variables or a `let` (level 0), except in a bound. A tree is open where its last token
---    lies in the body of such a form that is written with `|`, outside brackets.
+-- 1. An operand binds tighter than its operator: its level is greater. The left operand of an
+--    operator that groups to the left, the right operand of one that groups to the right, and the
+--    operand of a prefix or of a postfix may have the same level. Operands of one level that group
+--    to the left are one node with a list, so there the first one binds tighter as well. What
+--    stands in brackets has any level.
+-- 2. The last operand may also be a form with variables or a `let` (level 0), except in a bound. A
+--    tree is open where its last token lies in the body of such a form that is written with `|`,
+--    outside brackets.
 -- 3. An operand after which its operator goes on is not open.
--- 4. What stands between `=>` and `else` may have the level of `=>`. Neither it nor the last operand with which it ends is an
---    implication without `else`.
+-- 4. What stands between `=>` and `else` may have the level of `=>`. Neither it nor the last
+--    operand with which it ends is an implication without `else`.
 -- 5. An item of a block that is not the first one doesn't begin with `-`.
 --
 -- All is one fold, into what a tree shows to the node above it.

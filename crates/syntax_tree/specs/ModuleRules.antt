@@ -1,4 +1,5 @@
--- Which modules are right: their lists have what the grammar asks, and their trees keep the rules on levels within a depth.
+-- Which modules are right: their lists have what the grammar asks, and their trees keep the rules
+-- on levels within a depth.
 use Rattle.std.specs.Prelude.{ℕ, Bool, true, false, not, ◌&&◌, ◌||◌, nat_le, List, [], ◌∷◌, Option, Some, None, map}
 use Rattle.syntax_tree.specs.declared.expr.Decl.{Decl}
 use Rattle.syntax_tree.specs.declared.expr.Expr.{Expr}

@@ -1,12 +1,14 @@
+//! The trees of expressions and formulas, as they were written.
+
 use crate::operator::{Comparison, Constant, Infix, Multiplicity, Prefix, Quantifier};
 use base_lists::{Boxed, Items};
-use base_types::{Name, Place};
+use base_types::{Name, Position};
 
 /// A name with the path before it.
 #[derive(Drop)]
 pub struct QualName {
     /// The place of its first token.
-    pub place: Place,
+    pub place: Position,
     /// Whether `this/` stands before it.
     pub is_own: bool,
     /// The parts between the slashes, of which there is at least one.
@@ -17,7 +19,7 @@ pub struct QualName {
 #[derive(Drop)]
 pub struct Named {
     /// The place of the name.
-    pub place: Place,
+    pub place: Position,
     pub name: Name,
 }
 
@@ -25,13 +27,13 @@ pub struct Named {
 #[derive(Drop)]
 pub struct Decl<E> {
     /// The place of its first token.
-    pub place: Place,
+    pub place: Position,
     /// Whether `disj` stands before the names.
     pub is_disjoint: bool,
     /// The variables, of which there is at least one.
     pub names: Items<Named>,
     /// The place of the bound's first token.
-    pub bound_place: Place,
+    pub bound_place: Position,
     /// The multiplicity word before the bound.
     pub word: Option<Multiplicity>,
     pub bound: E,
@@ -41,7 +43,7 @@ pub struct Decl<E> {
 #[derive(Drop)]
 pub struct Binding<E> {
     /// The place of the name.
-    pub place: Place,
+    pub place: Position,
     pub name: Name,
     pub value: E,
 }
@@ -64,27 +66,27 @@ pub enum Access<E> {
 pub enum Expr {
     Name(QualName),
     /// `@` and a name
-    At(Place, QualName),
-    Constant(Place, Constant),
-    Number(Place, u32),
+    At(Position, QualName),
+    Constant(Position, Constant),
+    Number(Position, u32),
     /// `-` and a number; the place is that of `-`.
-    Negative(Place, u32),
+    Negative(Position, u32),
     /// A string literal: the bytes between its quotes.
-    Literal(Place, Name),
-    Parenthesis(Place, Boxed<Expr>),
-    Block(Place, Items<Expr>),
+    Literal(Position, Name),
+    Parenthesis(Position, Boxed<Expr>),
+    Block(Position, Items<Expr>),
     /// The variables, whether `|` stands before the body, and the body.
-    Comprehension(Place, Items<Decl<Expr>>, bool, Boxed<Expr>),
+    Comprehension(Position, Items<Decl<Expr>>, bool, Boxed<Expr>),
     /// The variables, whether `|` stands before the body, and the body.
-    Quantified(Place, Quantifier, Items<Decl<Expr>>, bool, Boxed<Expr>),
+    Quantified(Position, Quantifier, Items<Decl<Expr>>, bool, Boxed<Expr>),
     /// The names, whether `|` stands before the body, and the body.
-    Let(Place, Items<Binding<Expr>>, bool, Boxed<Expr>),
+    Let(Position, Items<Binding<Expr>>, bool, Boxed<Expr>),
     /// `;`
     Sequence(Boxed<Expr>, Boxed<Expr>),
     /// Whether `=>` is written as a word, the condition, the consequence, and what stands after `else`.
     Implication(bool, Boxed<Expr>, Boxed<Expr>, Option<Boxed<Expr>>),
     Compare(Comparison, Boxed<Expr>, Boxed<Expr>),
-    Prefix(Place, Prefix, Boxed<Expr>),
+    Prefix(Position, Prefix, Boxed<Expr>),
     /// The first operand, and each further one with the operator before it.
     Infix(Boxed<Expr>, Items<(Infix, Expr)>),
     /// The first operand, and each step after it.

@@ -28,6 +28,3 @@ pub use operator::{
 };
 pub use shape::Shape;
 pub use token::{Symbol, Token, TokenKind, Word, same_symbol, same_word};
-
-#[cfg(test)]
-mod tests;

@@ -1,3 +1,5 @@
+//! What an analysis reads: the texts of all modules, and the instances that they have.
+
 ghost use Rattle.std.specs.Prelude.{◌+◌, ◌-◌, ◌^◌, ◌<◌, IsTrue};
 ghost use Rattle.syntax_tree.specs.Instances.{are_closed, name_count, literal_count};
 

@@ -1,13 +1,15 @@
+//! The trees of a module and its paragraphs, as they were written.
+
 use crate::expr::{Decl, Expr, Named, QualName};
 use crate::operator::Multiplicity;
 use base_lists::Items;
-use base_types::Place;
+use base_types::Position;
 
 /// The name of a sig, or `Int`.
 #[derive(Drop)]
 pub enum SigName {
     Name(QualName),
-    Int(Place),
+    Int(Position),
 }
 
 /// A parameter of a module.
@@ -21,7 +23,7 @@ pub struct Parameter {
 #[derive(Drop)]
 pub struct Header {
     /// The place of its first token.
-    pub place: Place,
+    pub place: Position,
     pub path: QualName,
     /// The parameters in brackets; where there are none, no brackets stand.
     pub parameters: Items<Parameter>,
@@ -31,7 +33,7 @@ pub struct Header {
 #[derive(Drop)]
 pub struct Open {
     /// The place of its first token.
-    pub place: Place,
+    pub place: Position,
     pub is_private: bool,
     pub path: QualName,
     /// The arguments in brackets; where there are none, no brackets stand.
@@ -44,7 +46,7 @@ pub struct Open {
 #[derive(Drop)]
 pub struct Bound {
     /// The place of its first token.
-    pub place: Place,
+    pub place: Position,
     pub word: Option<Multiplicity>,
     pub tree: Expr,
 }
@@ -72,7 +74,7 @@ pub enum FieldWord {
 #[derive(Drop)]
 pub struct Field {
     /// The place of its first token.
-    pub place: Place,
+    pub place: Position,
     pub words: Items<FieldWord>,
     pub names: Items<Named>,
     /// Whether `disj` stands after the colon.
@@ -94,7 +96,7 @@ pub enum Parents {
 #[derive(Drop)]
 pub struct Sig {
     /// The place of its first token.
-    pub place: Place,
+    pub place: Position,
     pub qualifiers: Items<Qualifier>,
     pub names: Items<Named>,
     pub parents: Parents,
@@ -109,7 +111,7 @@ pub struct Sig {
 #[derive(Drop)]
 pub struct Enumeration {
     /// The place of its first token.
-    pub place: Place,
+    pub place: Position,
     pub name: Named,
     pub members: Items<Named>,
     /// Whether a comma stands after the last member.
@@ -120,7 +122,7 @@ pub struct Enumeration {
 #[derive(Drop)]
 pub struct Claim {
     /// The place of its first token.
-    pub place: Place,
+    pub place: Position,
     pub name: Option<Named>,
     pub block: Expr,
 }
@@ -143,7 +145,7 @@ pub struct Parameters {
 #[derive(Drop)]
 pub struct Pred {
     /// The place of its first token.
-    pub place: Place,
+    pub place: Position,
     pub is_private: bool,
     /// The sig before the dot.
     pub receiver: Option<SigName>,
@@ -156,7 +158,7 @@ pub struct Pred {
 #[derive(Drop)]
 pub struct Fun {
     /// The place of its first token.
-    pub place: Place,
+    pub place: Position,
     pub is_private: bool,
     /// The sig before the dot.
     pub receiver: Option<SigName>,
@@ -170,7 +172,7 @@ pub struct Fun {
 /// A number that was written.
 #[derive(Clone, Copy, Debug, PartialEq, Eq)]
 pub struct Numeral {
-    pub place: Place,
+    pub place: Position,
     pub value: u32,
 }
 
@@ -179,7 +181,7 @@ pub struct Numeral {
 pub enum ScopeTarget {
     Sig(SigName),
     /// `int`
-    Bits(Place),
+    Bits(Position),
 }
 
 /// A number of a scope.
@@ -212,11 +214,11 @@ pub enum Subject {
 #[derive(Drop)]
 pub struct Command {
     /// The place of its first token.
-    pub place: Place,
+    pub place: Position,
     /// The name before the colon.
     pub label: Option<Named>,
     /// The place of `run` or `check`.
-    pub keyword: Place,
+    pub keyword: Position,
     pub is_check: bool,
     pub subject: Subject,
     pub scope: Option<Scope>,

@@ -1,4 +1,4 @@
-//! How deep a tree is.
+//! Measures how deep a tree is.
 
 ghost use Rattle.std.specs.Prelude.{◌≡◌, ◌+◌, ◌-◌, ◌^◌, min, max, map};
 ghost use Rattle.syntax_tree.specs.Depth.{depth_of, deepest, step_depth, rest_depth};

@@ -1,3 +1,5 @@
+//! The operators, words and constants of expressions, each as it can be written.
+
 /// A word that stands for a set by itself.
 #[derive(Clone, Copy, Debug, PartialEq, Eq)]
 pub enum Constant {

@@ -1,4 +1,4 @@
-//! What the rules on levels ask of an operand.
+//! What a tree shows to the node above it: all that the rules on levels ask of an operand.
 
 /// What a tree shows to the node above it.
 #[derive(Clone, Copy, Debug, PartialEq, Eq)]

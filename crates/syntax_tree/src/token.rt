@@ -1,6 +1,8 @@
+//! Tokens: names, numbers, literals, reserved words and symbols, each with its place.
+
 ghost use Rattle.std.specs.Prelude.{◌≡◌, ◌↔◌, IsTrue};
 
-use base_types::{Name, Place};
+use base_types::{Name, Position};
 
 /// A symbol of the language. Where one begins with another, the longer one is its own token.
 #[derive(Clone, Copy, Debug, PartialEq, Eq)]
@@ -128,7 +130,7 @@ pub enum TokenKind {
 pub struct Token {
     pub kind: TokenKind,
     /// The place of its first byte; of the end token, the place just past the last byte.
-    pub place: Place,
+    pub place: Position,
 }
 
 /// Whether two symbols are the same.

@@ -1,7 +1,8 @@
-//! The plain search: it takes a unit clause's literal first, and else splits on the least free variable.
+//! The plain search: it takes a unit clause's literal first, or tries the least free variable.
 //!
-//! Each time a clause is false, the lemma "not all of these steps" is taken, so that the lemmas refute the clauses in
-//! the end. It is slow, and it is what the fast search is compared with.
+//! Each time a clause is false, the lemma "not all of these steps" is taken, so that the lemmas
+//! refute the clauses in the end (DPLL: Davis, Logemann and Loveland 1962). It is slow, and it is
+//! what the fast search is compared with.
 #![tactic(auto)]
 
 mod path;

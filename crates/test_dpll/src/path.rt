@@ -1,3 +1,5 @@
+//! The path of the plain search: the literals that were tried or forced, and the values by them.
+
 ghost use Rattle.std.specs.Prelude.{◌≡◌, ◌≢◌, ◌+◌, ◌<◌, ◌≤◌, ℕ, IfOk, OnOk, IfSome, IfNone, IsSome, None, Some, Ok, length, nat_abs, [], ◌∷◌, ◌++◌, map, slice_index_or, neg_ℤ};
 ghost use Rattle.test_dpll.specs.declared.path.Step.{Step};
 ghost use Rattle.sat_dimacs.specs.Literal.{IsLiteral};

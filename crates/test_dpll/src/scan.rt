@@ -1,3 +1,5 @@
+//! What a path makes of the clauses: one is false, one is unit, all are true, or one is open.
+
 ghost use Rattle.std.specs.Prelude.{◌≡◌, ◌≢◌, ◌+◌, ◌≤◌, nat_abs, length, All, true, if◌then◌else◌, IfNone, IfSome};
 ghost use Rattle.sat_dimacs.specs.Literal.{IsLiteral, IsWithin};
 ghost use Rattle.sat_lrat.specs.declared.line.Rest.{Rest};

@@ -1,3 +1,5 @@
+//! The plain search: a turn takes a unit clause's literal, tries a variable, or goes back.
+
 ghost use Rattle.std.specs.Prelude.{◌≡◌, ◌+◌, ℤ, neg_ℤ, None, Some, IfOk, OnOk, length, ◌∷◌};
 ghost use Rattle.sat_dimacs.specs.Literal.{IsSolution};
 ghost use Rattle.sat_lrat.specs.Outcome.{Answers};

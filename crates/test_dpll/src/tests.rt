@@ -1,19 +1,26 @@
 use crate::split;
 use sat_checker::{Checker, Step};
-use sat_dimacs::{read_cnf, satisfies};
+use sat_decide::FirstFree;
+use sat_dimacs::{Cnf, read_cnf, satisfies};
 use sat_lrat::Outcome;
+use sat_solver::solve_with;
 use std::alloc::{AllocError, Global};
 use std::test::Fail;
 
-/// Whether the clauses of a text can be satisfied, by a search whose answer is tried.
-fn is_satisfiable(alloc: Global, text: &[u8]) -> Result<Option<bool>, AllocError> {
-    if text.len() > 1000 {
-        return Ok(None);
+/// The clauses of a text.
+fn cnf_of(alloc: Global, text: &[u8]) -> Result<Cnf, Fail> {
+    if text.len() > 1000000 {
+        return Err("the text is long")?;
     }
-    let Ok(cnf) = read_cnf(alloc, text) else {
-        return Ok(None);
-    };
-    match split(alloc, &cnf)? {
+    match read_cnf(alloc, text) {
+        Ok(cnf) => Ok(cnf),
+        Err(_) => Err("the clauses are not read")?,
+    }
+}
+
+/// Whether an outcome says that the clauses can be satisfied, where what it gives shows it.
+fn told(alloc: Global, cnf: &Cnf, outcome: &Outcome) -> Result<Option<bool>, AllocError> {
+    match outcome {
         Outcome::Assignment(assignment) => {
             let mut values = Vec::new(alloc);
             for variable in 0..assignment.variables() {
@@ -26,7 +33,7 @@ fn is_satisfiable(alloc: Global, text: &[u8]) -> Result<Option<bool>, AllocError
             })
         }
         Outcome::Refutation(lines) => {
-            let mut checker = Checker::new(alloc, &cnf)?;
+            let mut checker = Checker::new(alloc, cnf)?;
             for line in lines.lines() {
                 if checker.add(line) == Ok(Step::Refuted) {
                     return Ok(Some(false));
@@ -38,24 +45,27 @@ fn is_satisfiable(alloc: Global, text: &[u8]) -> Result<Option<bool>, AllocError
     }
 }
 
+/// Whether the plain search and the fast one say so of the clauses of a text.
+fn say(alloc: Global, text: &[u8], wanted: bool) -> Result<bool, Fail> {
+    let cnf = cnf_of(alloc, text)?;
+    let outcome = split(alloc, &cnf)?;
+    let plain = told(alloc, &cnf, &outcome)?;
+    let outcome = solve_with(alloc, &cnf, &mut FirstFree::new(), None)?;
+    let fast = told(alloc, &cnf, &outcome)?;
+    Ok(plain == Some(wanted) && fast == Some(wanted))
+}
+
 #[test]
-fn answers_rightly(rt: HostRuntime) -> Result<(), Fail> {
-    let rows = [
-        (
-            b"p cnf 2 4\n1 2 0\n1 -2 0\n-1 2 0\n-1 -2 0\n".as_slice(),
-            false,
-        ),
-        (b"p cnf 2 3\n1 2 0\n1 -2 0\n-1 2 0\n", true),
-        (b"p cnf 0 1\n0\n", false),
-        (b"p cnf 3 0\n", true),
-        (b"p cnf 3 4\n1 2 3 0\n-3 0\n-2 3 0\n-1 2 0\n", false),
-        (
-            b"p cnf 6 9\n1 2 0\n3 4 0\n5 6 0\n-1 -3 0\n-1 -5 0\n-3 -5 0\n-2 -4 0\n-2 -6 0\n-4 -6 0\n",
-            false,
-        ),
-    ];
-    for (text, satisfiable) in rows {
-        assert_eq!(rt; is_satisfiable(rt.alloc(), text)?, Some(satisfiable));
-    }
+fn both_refute_clauses(rt: HostRuntime) -> Result<(), Fail> {
+    let text =
+        b"p cnf 6 9\n1 2 0\n3 4 0\n5 6 0\n-1 -3 0\n-1 -5 0\n-3 -5 0\n-2 -4 0\n-2 -6 0\n-4 -6 0\n";
+    assert!(rt; say(rt.alloc(), text, false)?);
+    Ok(())
+}
+
+#[test]
+fn both_satisfy_clauses(rt: HostRuntime) -> Result<(), Fail> {
+    let text = b"p cnf 3 4\n1 2 0\n-1 3 0\n-2 -3 0\n3 -3 0\n";
+    assert!(rt; say(rt.alloc(), text, true)?);
     Ok(())
 }

@@ -1,6 +1,6 @@
 use Rattle.std.proofs.Common.{arith, sym, ap, ◌∙◌, ◌++◌, ◌∷◌, [], ◌<◌, ◌≤◌, ℕ, length}
 use Rattle.std.proofs.lemmas.Option.{get_or_from_slice_get}
-use Rattle.bound_uppers.specs.declared.numbers.Span.{Span}
+use Rattle.bound_uppers.specs.declared.numbers.AtomRange.{AtomRange}
 use Rattle.bound_uppers.specs.Kinds.{span_in}
 use Rattle.bound_uppers.proofs.Spanning.{first_none, first_more, spans_none, spans_more, spans_all}
 use Rattle.bound_uppers.proofs.numbers.sig_spans.Goals as goal
@@ -27,7 +27,7 @@ loop-place-preserved c =
     record {
       next = omega (arith, begins, further, its);
       most = omega arith;
-      spans = spans_more c.args.size xs k c.loop-place.next x c.loop-place.sigs.items c.push.new.self.items lt is was.next was.spans (c.in_ok-push.ensures.items ∙ ap (λ (s : Span). c.loop-place.sigs.items ++ s ∷ []) made);
+      spans = spans_more c.args.size xs k c.loop-place.next x c.loop-place.sigs.items c.push.new.self.items lt is was.next was.spans (c.in_ok-push.ensures.items ∙ ap (λ (s : AtomRange). c.loop-place.sigs.items ++ s ∷ []) made);
     }
 
 pub returns : goal.returns

@@ -1,0 +1,1 @@
+run { (a => all x: A {x} else b) }

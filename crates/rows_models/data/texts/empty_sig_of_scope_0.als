@@ -1,0 +1,2 @@
+sig A {}
+run { no A } for 0

@@ -1,0 +1,2 @@
+sig A {}
+enum E { F }

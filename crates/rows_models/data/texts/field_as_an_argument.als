@@ -1,0 +1,2 @@
+open b[f]
+sig A { f: A }

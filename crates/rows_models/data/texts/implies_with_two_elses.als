@@ -1,0 +1,1 @@
+run { a => b => c else d else e }

@@ -1,0 +1,2 @@
+sig set {}
+run {}

@@ -1,0 +1,1 @@
+run { all x: A { x } - 3 = y }

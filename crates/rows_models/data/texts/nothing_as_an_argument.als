@@ -1,0 +1,1 @@
+open b[Int, C]

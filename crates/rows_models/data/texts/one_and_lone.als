@@ -1,0 +1,1 @@
+one lone sig A {}

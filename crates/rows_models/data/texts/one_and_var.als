@@ -1,0 +1,1 @@
+one var sig A {}

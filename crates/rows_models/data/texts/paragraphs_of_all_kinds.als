@@ -1,0 +1,1 @@
+enum E { a, b, } fact n { "a" = "a" } pred p { } check { } for 3 but exactly 2 E expect 1

@@ -1,0 +1,3 @@
+module c[x]
+open d
+open b

@@ -1,0 +1,1 @@
+module util/integer[x]

@@ -1,0 +1,2 @@
+module util/ordering[exactly elem]
+private one sig Ord { First: set elem }

@@ -1,0 +1,5 @@
+open gone
+run {} for 9
+x: check { no none }
+pred p {}
+  run p

@@ -1,0 +1,2 @@
+open b
+run {}

@@ -1,0 +1,2 @@
+open b as x
+open b as x
