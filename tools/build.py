@@ -3,8 +3,9 @@
 
 Each crate is proved as `rt ci` proves it, from nothing and once, without its tests and edits: a library as its statements
 alone, which is all that the crates above load. So each takes 1 to 2 GB. As many are at work as there are processors, as
-far as 8 GB hold them, or what is free of memory where that is less. A crate that an earlier start built of the same text
-over the same libraries is left as it is, and one that `rt ci` passed on this machine is taken from what it kept.
+far as 8 GB hold them, or what is free of memory where that is less; where fewer are ready, one gets up to four processors.
+A crate that an earlier start built of the same text over the same libraries is left as it is, and one that `rt ci` passed
+on this machine is taken from what it kept.
 
 What is made lies in crates/NAME/out: of a library out/rlib, of a program out/NAME; the log is out/build.log. Standard
 error says which crate it is at. It ends with 0 once all are built, and else with 1; a new start goes on behind the crates
@@ -15,15 +16,15 @@ import importlib.machinery
 import importlib.util
 import os
 import shutil
-import signal
 import subprocess
 import sys
 import time
 
 sys.dont_write_bytecode = True
 TOP = os.path.dirname(os.path.dirname(os.path.abspath(__file__)))
-# What all builds may take together, and what is planned for one of them until it takes more, in bytes.
-MOST, EACH = 8_000_000_000, 1_600_000_000
+# What all builds may take together, and what is planned for one of them until it takes more, in bytes. A second job and each
+# further one adds a part of that.
+MOST, EACH, JOB = 8_000_000_000, 1_600_000_000, 0.6
 
 
 def load_kit():
@@ -72,7 +73,7 @@ def is_built(rt, crate, seen):
     return os.path.isfile(made_of(crate)) and rt.rtlib.text_of(stamp_file(crate)) == stamp_of(rt, crate, seen)
 
 
-def build_one(name):
+def build_one(name, jobs):
     """Proves and builds one crate over those below it, which are built. This is a process of its own, which writes to the log."""
     rt = load_kit()
     rt.rtlib.guarded()
@@ -85,7 +86,7 @@ def build_one(name):
         os.remove(stamp_file(crate))
     status = 0
     if not kept.give(crate, False, kept.key(crate)):
-        status = crate.ci(["--jobs", "1"], tests=False)
+        status = crate.ci(["--jobs", jobs], tests=False)
     # (a text that changed meanwhile is built by the next start)
     if not status and text == rt.stamp_of(crate, {}):
         with open(stamp_file(crate), "w", encoding="utf-8") as it:
@@ -118,7 +119,7 @@ class Builds:
 
     def __init__(self, rt, crates):
         self.rt, self.left, self.count = rt, list(crates), len(crates)
-        self.done, self.seen, self.running, self.begun, self.peaks, self.failed = set(), {}, {}, set(), {}, []
+        self.done, self.seen, self.running, self.jobs, self.begun, self.peaks, self.failed = set(), {}, {}, {}, set(), {}, []
         self.most = min(MOST, int(0.85 * rt.free()))
         # (a crate is first that has the longest chain of others above it)
         self.above = {}
@@ -135,24 +136,33 @@ class Builds:
                 self.done.add(crate.name)
                 self.left.remove(crate)
 
-    def planned(self):
-        return sum(max(EACH, self.peaks.get(crate.name, 0)) for crate in self.running.values())
+    def needs(self, crate, jobs):
+        return max(EACH * (1 + JOB * (jobs - 1)), self.peaks.get(crate.name, 0))
 
     def start_some(self):
         ready = [it for it in self.left if all(below.name in self.done for below in it.below())]
-        for crate in sorted(ready, key=lambda it: -self.above[it.name]):
-            needs = max(EACH, self.peaks.get(crate.name, 0))
-            if len(self.running) >= self.rt.processors() or self.running and self.planned() + needs > self.most:
+        ready.sort(key=lambda it: -self.above[it.name])
+        for at, crate in enumerate(ready):
+            idle = self.rt.processors() - sum(self.jobs[it] for it in self.running)
+            room = self.most - sum(self.needs(it, self.jobs[child]) for child, it in self.running.items())
+            if idle < 1 or self.running and self.needs(crate, 1) > room:
                 return
-            if crate.name not in self.begun:
-                self.begun.add(crate.name)
-                print(f"run: {len(self.done) + len(self.running) + 1} of {self.count}: {crate.name}", file=sys.stderr, flush=True)
-            os.makedirs(f"{crate.folder}/out", exist_ok=True)
-            with open(f"{crate.folder}/out/build.log", "w") as log:
-                words = [*self.rt.rtlib.guarded(), sys.executable, os.path.abspath(__file__), "--one", crate.name]
-                child = subprocess.Popen(words, stdin=subprocess.DEVNULL, stdout=log, stderr=subprocess.STDOUT)
-            self.left.remove(crate)
-            self.running[child] = crate
+            # (a crate gets the processors that no other waits for)
+            jobs = max(1, min(4, idle // (len(ready) - at)))
+            while jobs > 1 and self.needs(crate, jobs) > room:
+                jobs -= 1
+            self.start(crate, jobs)
+
+    def start(self, crate, jobs):
+        if crate.name not in self.begun:
+            self.begun.add(crate.name)
+            print(f"run: {len(self.done) + len(self.running) + 1} of {self.count}: {crate.name}", file=sys.stderr, flush=True)
+        os.makedirs(f"{crate.folder}/out", exist_ok=True)
+        with open(f"{crate.folder}/out/build.log", "w") as log:
+            words = [*self.rt.rtlib.guarded(), sys.executable, os.path.abspath(__file__), "--one", crate.name, str(jobs)]
+            child = subprocess.Popen(words, stdin=subprocess.DEVNULL, stdout=log, stderr=subprocess.STDOUT)
+        self.left.remove(crate)
+        self.running[child], self.jobs[child] = crate, jobs
 
     def watch(self):
         """Notes the memory that the builds take, and ends the one that was begun last where that is too much: it is begun anew once there is room."""
@@ -218,8 +228,8 @@ def main(name):
 
 if __name__ == "__main__":
     words = sys.argv[1:]
-    if len(words) == 2 and words[0] == "--one":
-        sys.exit(build_one(words[1]))
+    if len(words) == 3 and words[0] == "--one":
+        sys.exit(build_one(*words[1:]))
     if len(words) > 1 or (words and words[0].startswith("-")):
         sys.exit(__doc__)
     sys.exit(main(words[0] if words else "alloyc"))
