@@ -40,13 +40,12 @@ fn function(
     setting: &Setting<'_>,
     state: &mut State,
     fun: &Fun,
-    count: u32,
+    place: RootPlace,
 ) -> Result<Inside, AllocError> {
     let mut root = new_root();
     let piece = prepare(alloc, setting, state, &mut root, false, &fun.value)?;
     let start = first_place(&fun.value);
-    let place = RootPlace::Columns(count);
-    let draft = draft_of(piece);
+    let draft = draft_of(alloc, piece)?;
     let value = settle_term(alloc, setting, state, root, start, draft, place, 0)?;
     match value {
         None => Ok(Inside::Nothing),
@@ -57,10 +56,11 @@ fn function(
     }
 }
 
-fn result_count(head: &Head) -> Option<u32> {
+/// Where the expression of a function stands. Where the result bound was refused, it may have any columns.
+fn value_place(head: &Head) -> RootPlace {
     match &head.result {
-        None => None,
-        Some(bound) => Some(bound.columns.count),
+        None => RootPlace::Value,
+        Some(bound) => RootPlace::Columns(bound.columns.count),
     }
 }
 
@@ -74,10 +74,7 @@ pub(crate) fn inside_of(
 ) -> Result<Inside, AllocError> {
     match paragraph {
         Paragraph::Pred(pred) => predicate(alloc, setting, state, pred),
-        Paragraph::Fun(fun) => match result_count(head) {
-            None => Ok(Inside::Nothing),
-            Some(count) => function(alloc, setting, state, fun, count),
-        },
+        Paragraph::Fun(fun) => function(alloc, setting, state, fun, value_place(head)),
         _ => Ok(Inside::Nothing),
     }
 }

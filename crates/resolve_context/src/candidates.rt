@@ -256,6 +256,19 @@ fn widest_of(what: &What) -> u32 {
     }
 }
 
+/// The root names a body whose types aren't known, since a bound of it was refused. In the bound of a
+/// parameter or a result that body is a predicate. It is no set whatever its types are, so there it
+/// spoils only a root in a formula's place: any other is judged.
+fn spoil(setting: &Setting<'_>, root: &mut Root) {
+    if setting.is_quiet {
+        return;
+    }
+    match setting.ground {
+        Ground::BodyBound => root.is_spoilt_formula = true,
+        _ => root.is_spoilt = true,
+    }
+}
+
 fn body_candidate(
     alloc: Global,
     setting: &Setting<'_>,
@@ -277,9 +290,7 @@ fn body_candidate(
     let integer = is_integer(setting.known, instance);
     let meaning = match body_what(alloc, setting.known, body)? {
         None => {
-            if !setting.is_quiet {
-                root.is_spoilt = true;
-            }
+            spoil(setting, root);
             formula_meaning(integer)
         }
         Some(what) => {

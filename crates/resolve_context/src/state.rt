@@ -58,6 +58,8 @@ pub struct Root {
     pub is_unknown: bool,
     /// Whether something in it was refused.
     pub is_spoilt: bool,
+    /// Whether that is so where it stands in a formula's place.
+    pub is_spoilt_formula: bool,
 }
 
 /// A root of which nothing is gathered yet.
@@ -66,13 +68,14 @@ pub fn new_root() -> Root {
         first: None,
         is_unknown: false,
         is_spoilt: false,
+        is_spoilt_formula: false,
     }
 }
 
 /// A name, constant, number, literal or `this` of the root.
 pub fn see(root: &mut Root, place: Position)
     ensures kept { (first : Position) → root.old.first ≡ Some first → root.new ≡ root.old }
-    ensures first { root.old.first ≡ None → root.new ≡ record { first = Some place; is_unknown = root.old.is_unknown; is_spoilt = root.old.is_spoilt } }
+    ensures first { root.old.first ≡ None → root.new ≡ record { first = Some place; is_unknown = root.old.is_unknown; is_spoilt = root.old.is_spoilt; is_spoilt_formula = root.old.is_spoilt_formula } }
 {
     if root.first.is_none() {
         root.first = Some(place);

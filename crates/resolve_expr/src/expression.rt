@@ -116,7 +116,7 @@ fn draft_in(
     tree: &Tree,
 ) -> Result<Draft, AllocError> {
     let piece = prepare(alloc, setting, state, root, false, tree)?;
-    Ok(draft_of(piece))
+    draft_of(alloc, piece)
 }
 
 /// The items of a block, as a conjunction.

@@ -370,16 +370,8 @@ pub fn settle_bound(
     more: u32,
 ) -> Result<Option<Resolved>, AllocError> {
     let place = RootPlace::Bound(bound_word(word));
-    settle_term(
-        alloc,
-        setting,
-        state,
-        root,
-        start,
-        draft_of(piece),
-        place,
-        more,
-    )
+    let draft = draft_of(alloc, piece)?;
+    settle_term(alloc, setting, state, root, start, draft, place, more)
 }
 
 /// A comparison by its reading.

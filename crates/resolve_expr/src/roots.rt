@@ -25,16 +25,20 @@ pub struct Resolved {
     pub columns: Columns,
 }
 
-/// The piece in an expression's place: there a formula is never right.
-pub fn draft_of(piece: Piece) -> Draft {
-    match piece {
-        Piece::Part(draft) => draft,
-        Piece::Claim(_) => Draft::Known(formula_meaning(false), Expr::Empty),
-    }
-}
-
 pub fn single(alloc: Global, operator: Unary, inner: Draft) -> Result<Draft, AllocError> {
     Ok(Draft::Single(operator, Box::new(alloc, inner)?))
+}
+
+/// The piece in an expression's place. There a formula is never right, not even before an empty box: it
+/// stands as in the body of a `let`, where only a set is right.
+pub fn draft_of(alloc: Global, piece: Piece) -> Result<Draft, AllocError> {
+    match piece {
+        Piece::Part(draft) => Ok(draft),
+        Piece::Claim(_) => {
+            let claim = Draft::Known(formula_meaning(false), Expr::Empty);
+            single(alloc, Unary::Body, claim)
+        }
+    }
 }
 
 fn add_calls(
@@ -83,6 +87,11 @@ fn taken(
     Some((built, meaning))
 }
 
+/// Whether something on which the reading of a root depends was refused.
+fn is_unjudged(root: &Root, place: RootPlace) -> bool {
+    root.is_spoilt || root.is_spoilt_formula && matches!(place, RootPlace::Formula)
+}
+
 /// The reading of a root in its place; the refusal is noted where it has none. A root in which something
 /// was refused is refused itself only where it has too many readings. Where it is a field's bound, the field
 /// has one column more.
@@ -107,7 +116,7 @@ fn settled(
     let draft = single(alloc, Unary::Fits(place), draft)?;
     let part = part_of(alloc, &draft)?;
     let outcome = settle(alloc, &setting.known.typing, &draft, &part)?;
-    if root.is_spoilt && !matches!(outcome, Settled::TooMany) {
+    if is_unjudged(&root, place) && !matches!(outcome, Settled::TooMany) {
         return Ok(None);
     }
     match outcome {

@@ -64,7 +64,8 @@ fn valued(
     let mut root = new_root();
     let piece = prepare(alloc, &setting, &mut state, &mut root, false, tree)?;
     let start = first_place(tree);
-    let value = settle_value(alloc, &setting, &mut state, root, start, draft_of(piece))?;
+    let draft = draft_of(alloc, piece)?;
+    let value = settle_value(alloc, &setting, &mut state, root, start, draft)?;
     Ok(tree_or(value, state.least))
 }
 

@@ -1,0 +1,3 @@
+fun f: g { zz }
+sig A { g: yy }
+run {}

@@ -1,0 +1,3 @@
+pred p[x: q] {}
+pred q[x: p] {}
+run {}
