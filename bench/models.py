@@ -79,7 +79,7 @@ def with_library(folder):
     """Returns a copy of a folder that has the library modules as files, since bench_alloyc reads files alone."""
     copy = tempfile.mkdtemp()
     shutil.copytree(folder, copy, dirs_exist_ok=True)
-    texts = os.path.join(os.path.dirname(os.path.abspath(__file__)), "../crates/util_library/src/texts.rt")
+    texts = os.path.join(os.path.dirname(os.path.abspath(__file__)), "../crates/base_library/src/texts.rt")
     with open(texts, encoding="utf-8") as file:
         found = re.findall(r'&str = "(module (util/\w+).*?)";', file.read(), re.S)
     os.makedirs(os.path.join(copy, "util"), exist_ok=True)

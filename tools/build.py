@@ -1,0 +1,235 @@
+#!/usr/bin/env python3
+"""Proves and builds a crate and those below it, side by side: tools/build.py [CRATE] (alloyc, if no other is named)
+
+Each crate is proved as `rt ci` proves it, from nothing and once, without its tests and edits: a library as its statements
+alone, which is all that the crates above load. So each takes 1 to 2 GB. As many are at work as there are processors, as
+far as 8 GB hold them, or what is free of memory where that is less; where fewer are ready, one gets up to four processors.
+A crate that an earlier start built of the same text over the same libraries is left as it is, and one that `rt ci` passed
+on this machine is taken from what it kept.
+
+What is made lies in crates/NAME/out: of a library out/rlib, of a program out/NAME; the log is out/build.log. Standard
+error says which crate it is at. It ends with 0 once all are built, and else with 1; a new start goes on behind the crates
+that were built.
+"""
+import hashlib
+import importlib.machinery
+import importlib.util
+import os
+import shutil
+import subprocess
+import sys
+import time
+
+sys.dont_write_bytecode = True
+TOP = os.path.dirname(os.path.dirname(os.path.abspath(__file__)))
+# What all builds may take together, and what is planned for one of them until it takes more, in bytes. A second job and each
+# further one adds a part of that.
+MOST, EACH, JOB = 8_000_000_000, 1_600_000_000, 0.6
+
+
+def load_kit():
+    """Returns the module of the kit's command rt, set up as for rt ci."""
+    command = shutil.which("rt")
+    if not command:
+        sys.exit("run: the command rt is not on the path: it is part of the kit that README.md names")
+    loader = importlib.machinery.SourceFileLoader("rt", os.path.realpath(command))
+    rt = importlib.util.module_from_spec(importlib.util.spec_from_loader("rt", loader))
+    sys.modules["rt"] = rt
+    loader.exec_module(rt)
+    rt.Crate.allowed = rt.handles_of(TOP)
+    # (the crates above a library load its statements, and not its proofs)
+    rt.Crate.cuts_libraries = True
+    rt.rtlib.Crate = rt.Crate
+    for name in (rt.rtlib.ALLOW_C, rt.rtlib.BACKEND, "RT_SECONDS"):
+        os.environ.pop(name, None)
+    return rt
+
+
+def crates_of(rt, name):
+    """Returns the crate of this name behind those below it, lowest first."""
+    for crate in rt.rtlib.crates_below(TOP):
+        if crate.name == name:
+            return [*crate.below(), crate]
+    sys.exit(f"run: crates.txt names no crate {name}")
+
+
+def made_of(crate):
+    """Returns the file that stands for what is built of a crate: a library's `format` holds the sums of its files."""
+    return f"{crate.folder}/out/{crate.name}" if crate.is_program else f"{crate.rlib}/format"
+
+
+def stamp_of(rt, crate, seen):
+    """Returns what a crate's build stands on and what was built: its text, that of those below, and their libraries as they are."""
+    found = [rt.stamp_of(crate, seen), *[rt.rtlib.sum_of(made_of(it)) for it in [*crate.below(), crate]]]
+    return hashlib.sha256(repr(found).encode()).hexdigest()
+
+
+def stamp_file(crate):
+    """Where the stamp is kept; of a library in a folder that each other build of it removes first."""
+    return f"{crate.folder}/out/{crate.name}.built" if crate.is_program else f"{crate.folder}/out/rlib/built"
+
+
+def is_built(rt, crate, seen):
+    return os.path.isfile(made_of(crate)) and rt.rtlib.text_of(stamp_file(crate)) == stamp_of(rt, crate, seen)
+
+
+def build_one(name, jobs):
+    """Proves and builds one crate over those below it, which are built. This is a process of its own, which writes to the log."""
+    rt = load_kit()
+    rt.rtlib.guarded()
+    *below, crate = crates_of(rt, name)
+    kept, seen = rt.Kept([*below, crate]), {}
+    for it in below:
+        kept.is_built(it)
+    text = rt.stamp_of(crate, seen)
+    if os.path.isfile(stamp_file(crate)):
+        os.remove(stamp_file(crate))
+    status = 0
+    if not kept.give(crate, False, kept.key(crate)):
+        status = crate.ci(["--jobs", jobs], tests=False)
+    # (a text that changed meanwhile is built by the next start)
+    if not status and text == rt.stamp_of(crate, {}):
+        with open(stamp_file(crate), "w", encoding="utf-8") as it:
+            it.write(stamp_of(rt, crate, seen))
+    return 1 if status else 0
+
+
+def memory_of(pids):
+    """Returns the memory in bytes that each of these processes and all below it take now."""
+    children, sizes = {}, {}
+    for name in os.listdir("/proc"):
+        if name.isdigit():
+            try:
+                with open(f"/proc/{name}/stat") as it:
+                    parent = int(it.read().rsplit(")", 1)[1].split()[1])
+                with open(f"/proc/{name}/statm") as it:
+                    sizes[int(name)] = int(it.read().split()[1]) * os.sysconf("SC_PAGE_SIZE")
+                children.setdefault(parent, []).append(int(name))
+            except (OSError, IndexError, ValueError):
+                pass
+
+    def whole(pid):
+        return sizes.get(pid, 0) + sum(whole(it) for it in children.get(pid, []))
+
+    return {pid: whole(pid) for pid in pids}
+
+
+class Builds:
+    """The crates that are at work, what is left, and what each took so far."""
+
+    def __init__(self, rt, crates):
+        self.rt, self.left, self.count = rt, list(crates), len(crates)
+        self.done, self.seen, self.running, self.jobs, self.begun, self.peaks, self.failed = set(), {}, {}, {}, set(), {}, []
+        self.most = min(MOST, int(0.85 * rt.free()))
+        # (a crate is first that has the longest chain of others above it)
+        self.above = {}
+        for crate in reversed(crates):
+            own = crate.count(rb"\n") + self.above.get(crate.name, 0)
+            self.above[crate.name] = own
+            for it in crate.below():
+                self.above[it.name] = max(self.above.get(it.name, 0), own)
+
+    def note_built(self):
+        """Takes out of what is left the crates that are built already, lowest first."""
+        for crate in self.left[:]:
+            if all(it.name in self.done for it in crate.below()) and is_built(self.rt, crate, self.seen):
+                self.done.add(crate.name)
+                self.left.remove(crate)
+
+    def needs(self, crate, jobs):
+        return max(EACH * (1 + JOB * (jobs - 1)), self.peaks.get(crate.name, 0))
+
+    def start_some(self):
+        ready = [it for it in self.left if all(below.name in self.done for below in it.below())]
+        ready.sort(key=lambda it: -self.above[it.name])
+        for at, crate in enumerate(ready):
+            idle = self.rt.processors() - sum(self.jobs[it] for it in self.running)
+            room = self.most - sum(self.needs(it, self.jobs[child]) for child, it in self.running.items())
+            if idle < 1 or self.running and self.needs(crate, 1) > room:
+                return
+            # (a crate gets the processors that no other waits for)
+            jobs = max(1, min(4, idle // (len(ready) - at)))
+            while jobs > 1 and self.needs(crate, jobs) > room:
+                jobs -= 1
+            self.start(crate, jobs)
+
+    def start(self, crate, jobs):
+        if crate.name not in self.begun:
+            self.begun.add(crate.name)
+            print(f"run: {len(self.done) + len(self.running) + 1} of {self.count}: {crate.name}", file=sys.stderr, flush=True)
+        os.makedirs(f"{crate.folder}/out", exist_ok=True)
+        with open(f"{crate.folder}/out/build.log", "w") as log:
+            words = [*self.rt.rtlib.guarded(), sys.executable, os.path.abspath(__file__), "--one", crate.name, str(jobs)]
+            child = subprocess.Popen(words, stdin=subprocess.DEVNULL, stdout=log, stderr=subprocess.STDOUT)
+        self.left.remove(crate)
+        self.running[child], self.jobs[child] = crate, jobs
+
+    def watch(self):
+        """Notes the memory that the builds take, and ends the one that was begun last where that is too much: it is begun anew once there is room."""
+        taken = memory_of([it.pid for it in self.running])
+        for child, crate in self.running.items():
+            self.peaks[crate.name] = max(taken[child.pid], self.peaks.get(crate.name, 0))
+        if sum(taken.values()) > self.most and len(self.running) > 1:
+            child = list(self.running)[-1]
+            child.kill()
+            child.wait()
+            self.left.append(self.running.pop(child))
+
+    def take_ended(self):
+        for child in [it for it in self.running if it.poll() is not None]:
+            crate = self.running.pop(child)
+            if child.returncode == 0 and is_built(self.rt, crate, self.seen):
+                self.done.add(crate.name)
+            else:
+                self.failed.append(crate)
+
+    def run(self):
+        self.note_built()
+        if self.done and self.left:
+            print(f"run: {len(self.done)} of {self.count} are built already", file=sys.stderr, flush=True)
+        while self.running or self.left and not self.failed:
+            if not self.failed:
+                self.start_some()
+            time.sleep(0.5)
+            self.watch()
+            self.take_ended()
+        return not self.failed
+
+    def end(self):
+        for child in self.running:
+            child.kill()
+
+
+def main(name):
+    rt = load_kit()
+    # (its first call sets a signal's handler)
+    rt.rtlib.guarded()
+    crates = crates_of(rt, name)
+    # (no other command of rt, and no other start, works in these folders meanwhile)
+    held = rt.rtlib.lock(crates)
+    builds, begun = Builds(rt, crates), time.monotonic()
+    try:
+        is_well = builds.run()
+    except KeyboardInterrupt:
+        builds.end()
+        print("run: interrupted; a new start goes on from here", file=sys.stderr)
+        return 130
+    for crate in builds.failed:
+        log = f"crates/{crate.name}/out/build.log"
+        print(f"run: {crate.name} was not built, or its files changed meanwhile; the end of {log}:", file=sys.stderr)
+        with open(f"{TOP}/{log}", errors="replace") as it:
+            print("".join(it.readlines()[-20:]), end="", file=sys.stderr)
+    if builds.begun and is_well:
+        print(f"run: built, in {(time.monotonic() - begun) / 60:.0f} minutes", file=sys.stderr)
+    for it in held:
+        os.close(it)
+    return 0 if is_well else 1
+
+
+if __name__ == "__main__":
+    words = sys.argv[1:]
+    if len(words) == 3 and words[0] == "--one":
+        sys.exit(build_one(*words[1:]))
+    if len(words) > 1 or (words and words[0].startswith("-")):
+        sys.exit(__doc__)
+    sys.exit(main(words[0] if words else "alloyc"))
