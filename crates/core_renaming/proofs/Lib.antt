@@ -1,0 +1,4 @@
+mod Moves
+mod Numbers
+mod Times
+mod Meanings
