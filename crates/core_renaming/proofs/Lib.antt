@@ -2,3 +2,6 @@ mod Moves
 mod Numbers
 mod Times
 mod Meanings
+mod Alike
+mod Tops
+mod Keeping

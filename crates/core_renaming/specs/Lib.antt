@@ -1,1 +1,3 @@
 pub mod Renamings
+pub mod Environments
+pub mod Sigs
