@@ -5,3 +5,5 @@ mod Meanings
 mod Alike
 mod Tops
 mod Keeping
+mod Gathered
+mod Existing

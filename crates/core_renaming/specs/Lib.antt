@@ -1,3 +1,4 @@
 pub mod Renamings
 pub mod Environments
 pub mod Sigs
+pub mod Renamed

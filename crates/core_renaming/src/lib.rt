@@ -29,3 +29,10 @@ pub fn renaming_keeps_models()
     ensures scopes { ScopesAreKept }
     ensures satisfied { SatisfactionIsKept }
 {}
+
+ghost use Rattle.core_renaming.specs.Renamed.{LassosHaveRenamed};
+
+/// A law: each lasso over a universe of at most 16,384 atoms has one that shows its relations renamed.
+pub fn lassos_have_renamed()
+    ensures { LassosHaveRenamed }
+{}
