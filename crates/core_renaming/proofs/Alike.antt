@@ -1,6 +1,5 @@
 -- In environments renamed alike names stand for the same, renamed.
-use Rattle.std.proofs.Common.{◌≡◌, ◌↔◌, ℕ, List, subst}
-use Rattle.core_tree.specs.declared.model.Body.{Body}
+use Rattle.std.proofs.Common.{◌≡◌, ℕ, subst}
 use Rattle.core_tree.specs.Trees.{Term, term_of}
 use Rattle.core_meaning.specs.declared.scope.Environment.{Environment}
 use Rattle.core_meaning.specs.declared.scope.Environment.TheVariants.{Empty, Atom', Written'}

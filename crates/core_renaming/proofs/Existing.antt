@@ -1,5 +1,5 @@
 -- Each lasso can be renamed: state by state, set by set, each set sorted anew.
-use Rattle.std.proofs.Common.{◌≡◌, ◌↔◌, inl, inr, ℕ, zero, suc, ◌<◌, ◌≤◌, nat_lt, if◌then◌else◌, ◌+◌, ◌-◌, ◌%◌, List, [], ◌∷◌, map, length, Contains, All, get_or, Some, slice_get, slice_index, refl, sym, ap, ◌∙◌, subst, arith}
+use Rattle.std.proofs.Common.{◌≡◌, ◌↔◌, inl, inr, ℕ, zero, suc, ◌<◌, ◌≤◌, nat_lt, if◌then◌else◌, ◌+◌, ◌-◌, ◌%◌, List, [], ◌∷◌, map, length, Contains, All, get_or, Some, slice_get, refl, sym, ap, ◌∙◌, subst, arith}
 use Rattle.std.proofs.lemmas.Bool.{cases_lt}
 use Rattle.std.proofs.lemmas.List.{length-map, get_or-map}
 use Rattle.std.proofs.lemmas.List.Elements.{All-map}
@@ -8,12 +8,11 @@ use Rattle.core_tuples.specs.Sets.{TupleList, IsTupleSet}
 use Rattle.core_tree.specs.declared.model.Model.{Model}
 use Rattle.core_meaning.specs.declared.scopes.Scopes.{Scopes}
 use Rattle.core_meaning.specs.Sequence.{LassoValue, place_of}
-use Rattle.core_meaning.specs.World.{InRelation}
-use Rattle.core_meaning.specs.Kept.{world_of, FitsColumns, FitsModel, atom_count, relation_columns, universe_size}
+use Rattle.core_meaning.specs.Kept.{FitsColumns, FitsModel, atom_count, relation_columns, universe_size}
 use Rattle.core_laws.specs.Typed.{HasSets}
-use Rattle.core_renaming.specs.Renamings.{Renaming, KeepsIntegers, ShowsRenamed}
+use Rattle.core_renaming.specs.Renamings.{Renaming, KeepsIntegers, ShowsRenamed, inverse}
 use Rattle.core_renaming.specs.Renamed.{LassosHaveRenamed}
-use Rattle.core_renaming.proofs.Moves.{inverse, renamed_back, same_atom, same_tuple}
+use Rattle.core_renaming.proofs.Moves.{renamed_back, same_atom, same_tuple}
 use Rattle.core_renaming.proofs.Gathered.{gathered, Pairs, paired, paired_length, second_there, first_there, all_get}
 
 -- what stands at a place, of which something holds

@@ -1,13 +1,13 @@
 -- Lists of tuples as sorted sets, and lists that go item by item with another.
-use Rattle.std.proofs.Common.{◌≡◌, ◌↔◌, ◌⊎◌, inl, inr, ℕ, zero, suc, ◌+◌, ◌<◌, ◌≤◌, List, [], ◌∷◌, length, Contains, All, get_or, Some, slice_get, refl, sym, ap, ◌∙◌, subst, arith}
+use Rattle.std.proofs.Common.{◌≡◌, ◌↔◌, ◌⊎◌, inl, inr, ℕ, zero, suc, ◌<◌, ◌≤◌, List, [], ◌∷◌, length, Contains, All, get_or, Some, slice_get, refl, sym, ap, ◌∙◌, subst, arith}
 use Rattle.std.specs.declared.cmp.Ordering.{Ordering}
 use Rattle.std.specs.declared.cmp.Ordering.TheVariants.{Less, Equal, Greater}
-use Rattle.std.specs.List.{AllByRecursion, insert}
+use Rattle.std.specs.List.{insert}
 use Rattle.std.specs.List.Sorted.{IsStrictlySortedBy}
 use Rattle.std.proofs.lemmas.Map.Keys.{sorted_tail}
 use Rattle.core_tuples.specs.Index.{IsNumber}
 use Rattle.core_tuples.specs.Sets.{TupleList, tuple_cmp, IsTupleSet, IsGap}
-use Rattle.core_tuples.specs.Order.{cons_cases, cons_here, cons_later, no_members, same_tuple, all_above, insert_cases, insert_kept, set_insert}
+use Rattle.core_tuples.specs.Order.{cons_cases, cons_here, cons_later, same_tuple, all_above, insert_cases, insert_kept, set_insert}
 
 -- ---- sorted sets
 

@@ -1,6 +1,5 @@
 -- A renaming that keeps the sigs of a model keeps its declarations, its scopes, and what is satisfied.
-use Rattle.std.proofs.Common.{◌≡◌, ◌↔◌, ℕ, ◌+◌, ◌<◌, ◌≤◌, List, [], ◌∷◌, map, length, Contains, get_or, Option, Some, None, IfSome, slice_get, sym, ap, ◌∙◌, subst, arith}
-use Rattle.std.proofs.lemmas.List.{length-map}
+use Rattle.std.proofs.Common.{◌≡◌, ◌↔◌, ℕ, ◌+◌, ◌<◌, List, [], ◌∷◌, map, length, Contains, get_or, Some, slice_get, sym, ap, ◌∙◌, subst}
 use Rattle.core_tree.specs.declared.model.Model.{Model}
 use Rattle.core_tree.specs.declared.model.Sig.{Sig}
 use Rattle.core_tree.specs.declared.model.SigKind.{SigKind}
@@ -13,7 +12,6 @@ use Rattle.core_tree.specs.declared.model.FieldBound.{FieldBound}
 use Rattle.core_tree.specs.Trees.{Term, Claim, term_of, claim_of}
 use Rattle.core_tree.specs.Columns.{or_zero}
 use Rattle.core_tree.specs.Types.{TypeRow, sig_rows}
-use Rattle.core_meaning.specs.declared.scopes.SigScope.{SigScope}
 use Rattle.core_meaning.specs.declared.scopes.Scopes.{Scopes}
 use Rattle.core_meaning.specs.Sequence.{LassoValue}
 use Rattle.core_meaning.specs.World.{World, InRelation}
@@ -21,28 +19,18 @@ use Rattle.core_meaning.specs.Operators.{IsInside, HasMultiplicity}
 use Rattle.core_meaning.specs.Meaning.{Bodies, no_names, atom, InTerm, Fits, Holds}
 use Rattle.core_meaning.specs.Declarations.{IsChild, this_is, InColumn, IsPlaced, InValue, SigDeclared, FieldDeclared}
 use Rattle.core_meaning.specs.Called.{bodies_of}
-use Rattle.core_meaning.specs.Kept.{world_of, IsEverIn, IsWithin, InColumnBound, InRowBound, InSigBound, Keeps, or_zero_number, first_atom, top_above}
+use Rattle.core_meaning.specs.Kept.{world_of, InColumnBound, InRowBound, InSigBound, Keeps, or_zero_number, first_atom, top_above}
 use Rattle.core_meaning.specs.Satisfied.{DeclaresAt, SatisfiesWith}
-use Rattle.core_renaming.specs.Renamings.{Renaming, KeepsIntegers, ShowsRenamed}
-use Rattle.core_renaming.specs.Sigs.{IsOwnAtom, KeepsSigs, IsRightly, DeclarationsKeepTruth, ScopesAreKept, SatisfactionIsKept}
-use Rattle.core_renaming.proofs.Moves.{inverse, same_atom, Moved, turn, onto, alike, moved_by, all_atoms, implied, atoms_moved, atom_moved, inside_moved, multiplicity_moved}
-use Rattle.core_renaming.proofs.Numbers.{list_to}
+use Rattle.core_renaming.specs.Renamings.{Renaming, KeepsIntegers, ShowsRenamed, inverse}
+use Rattle.core_renaming.specs.Sigs.{IsOwnAtom, KeepsSigs, IsWellFormed, DeclarationsKeepTruth, ScopesAreKept, SatisfactionIsKept}
+use Rattle.core_renaming.proofs.Moves.{same_atom, Moved, onto, alike, moved_by, all_atoms, implied, atoms_moved, atom_moved, inside_moved, multiplicity_moved}
 use Rattle.core_renaming.proofs.Meanings.{relation_moved, integers_are, MovedNames, more_moved, no_names_moved, term_moved, fits_moved, holds_moved, bodies_moved}
+use Rattle.core_renaming.proofs.Targets.{some_to, inverse_integers, inverse_shows, numbers_to}
 use Rattle.core_renaming.proofs.Tops.{IsMarked, columns_marked}
-
-some_to : {X : Type 0} {P Q : X → Type 0} (o : Option X) → ((x : X) → P x → Q x) → IfSome o P → IfSome o Q
-some_to None f h = tt
-some_to (Some x) f h = f x h
 
 -- ---- the other way round
 
-pub inverse_integers : (scopes : Scopes) (r : Renaming) → KeepsIntegers scopes r → KeepsIntegers scopes (inverse r)
-inverse_integers scopes r stay a high = sym (ap r.from (stay a high)) ∙ r.from_to a
-
-pub inverse_shows : (scopes : Scopes) (r : Renaming) (one two : LassoValue) → KeepsIntegers scopes r → ShowsRenamed scopes r one two → ShowsRenamed scopes (inverse r) two one
-inverse_shows scopes r one two stay shows relation i = alike (turn (relation_moved scopes r one two stay shows relation i))
-
-inverse_keeps : (model : Model) (scopes : Scopes) (r : Renaming) → KeepsSigs model scopes r → KeepsSigs model scopes (inverse r)
+pub inverse_keeps : (model : Model) (scopes : Scopes) (r : Renaming) → KeepsSigs model scopes r → KeepsSigs model scopes (inverse r)
 inverse_keeps model scopes r keeps = record {
   sigs = λ s e get top a. (
     (λ own. (keeps.sigs s e get top (r.from a)).1 (subst (IsOwnAtom scopes.numbers s e) (sym (r.to_from a)) own)),
@@ -156,15 +144,9 @@ module _ (model : Model) (scopes : Scopes) (r : Renaming) (one two : LassoValue)
     fields = λ k f s d get owner declared. field_to i k f s d (h.fields k f s d get owner declared);
   }
 
-  ever_to : (s a : ℕ) → IsEverIn w s a → IsEverIn v s (r.to a)
-  ever_to s a (i, has) = (i, (rel s i).to (a ∷ []) has)
-
-  ever_from : (s a : ℕ) → IsEverIn v s a → IsEverIn w s (r.from a)
-  ever_from s a (i, has) = (i, (rel s i).from (a ∷ []) has)
-
 -- ---- scopes
 
-module _ (model : Model) (scopes : Scopes) (r : Renaming) (right : IsRightly model scopes) (keeps : KeepsSigs model scopes r) where
+module _ (model : Model) (scopes : Scopes) (r : Renaming) (right : IsWellFormed model scopes) (keeps : KeepsSigs model scopes r) where
   column_to : (c : Column) (a : ℕ) → IsMarked model scopes c → InColumnBound model scopes c a → InColumnBound model scopes c (r.to a)
   column_to IntColumn a marked inside = subst (InColumnBound model scopes IntColumn) (sym (keeps.integers a inside.0)) inside
   column_to (SigColumn s) a (e, get, top) inside =
@@ -191,11 +173,7 @@ module _ (model : Model) (scopes : Scopes) (r : Renaming) (right : IsRightly mod
     keeps_to : Keeps model scopes one → Keeps model scopes two
     keeps_to k = record {
       bounded = λ s d get i a has. subst (InSigBound model scopes s d) (r.to_from a) (bound_to s d (r.from a) get (k.bounded s d get i (r.from a) ((moved s i).from (a ∷ []) has)));
-      numbers = λ s scope get. some_to scope.number (λ n (atoms, list, within). (
-        map r.to atoms,
-        list_to r.to r.from r.to_from r.from_to (ever_to model scopes r one two keeps.integers shows s) (ever_from model scopes r one two keeps.integers shows s) atoms list,
-        subst (IsWithin scope.exact n) (sym (length-map atoms r.to)) within,
-      )) (k.numbers s scope get);
+      numbers = numbers_to scopes r one two keeps.integers shows k.numbers;
       sigs = λ s d get static i j t has. onto (moved s j) t (k.sigs s d get static i j (map r.from t) ((moved s i).from t has));
       fields = λ g f get static i j t has. onto (moved (length model.sigs + g) j) t (k.fields g f get static i j (map r.from t) ((moved (length model.sigs + g) i).from t has));
     }

@@ -3,7 +3,9 @@ mod Numbers
 mod Times
 mod Meanings
 mod Alike
+mod Targets
 mod Tops
 mod Keeping
+mod Exchanging
 mod Gathered
 mod Existing

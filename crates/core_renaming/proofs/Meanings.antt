@@ -1,5 +1,5 @@
 -- In a lasso that shows the relations of another renamed, expressions have its tuples renamed, and formulas hold alike.
-use Rattle.std.proofs.Common.{◌≡◌, ◌⊎◌, inl, inr, ◌↔◌, ℕ, zero, suc, ◌+◌, ◌-◌, List, [], ◌∷◌, ◌++◌, map, length, eqb, slice_get, Option, Some, None, ℤ, sym, subst}
+use Rattle.std.proofs.Common.{inl, inr, ◌↔◌, ℕ, zero, suc, ◌+◌, ◌-◌, List, [], ◌∷◌, ◌++◌, map, length, eqb, slice_get, Option, Some, None, ℤ, sym, subst}
 use Rattle.core_tree.specs.Trees.{Term, Terms, Variables, Claim, Claims, sig, field, name, univ, iden, empty, int, combine, product, unary, prime, choose_term, comprehension, number, count, arithmetic, sum_over, let_term, call_term, no_terms, more_terms, no_variables, more_variables, inside, equal, within, test, compare, negation, every, connect, choose_claim, for_all, counted, temporal, temporal_pair, let_claim, call_claim, no_claims, more_claims, term_of, claim_of}
 use Rattle.core_tree.specs.declared.operators.UnaryRelation.{UnaryRelation}
 use Rattle.core_tree.specs.declared.operators.UnaryRelation.TheVariants.{Transpose, Closure, ReflexiveClosure}
@@ -17,7 +17,7 @@ use Rattle.core_meaning.specs.Kept.{world_of}
 use Rattle.core_window.specs.Same.{both_same, not_same, connects_same, chooses_same}
 use Rattle.core_window.specs.Windows.{Binding, atom_names}
 use Rattle.core_renaming.specs.Renamings.{Renaming, KeepsIntegers, ShowsRenamed, renamed_names, FormulasKeepTruth, TermsKeepTuples}
-use Rattle.core_renaming.proofs.Moves.{inverse, Moved, MovedAtoms, alike, moved_by, all_atoms, all_tuples, implied, combined_moved, product_moved, closure_moved, transpose_moved, pairs_moved, atoms_moved, atom_moved, either_moved, where_moved, one_moved, inside_moved, equal_moved, quantity_moved, multiplicity_moved, quantified_moved, after_moved, before_moved, apart_moved, split_moved, empty_moved, nothing_moved}
+use Rattle.core_renaming.proofs.Moves.{Moved, MovedAtoms, alike, moved_by, all_atoms, all_tuples, implied, combined_moved, product_moved, closure_moved, transpose_moved, pairs_moved, atoms_moved, atom_moved, either_moved, where_moved, one_moved, inside_moved, equal_moved, quantity_moved, multiplicity_moved, quantified_moved, after_moved, before_moved, apart_moved, split_moved, empty_moved, nothing_moved}
 use Rattle.core_renaming.proofs.Numbers.{inverse_stays, count_moved, sum_moved, number_moved, compares_moved, integer_moved, integers_moved, arithmetic_moved}
 use Rattle.core_renaming.proofs.Times.{happens_same, happen_both_same}
 

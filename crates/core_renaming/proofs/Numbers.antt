@@ -1,5 +1,5 @@
 -- Numbers of tuples, and what sets stand for as integers, go with a renaming that leaves integers as they are.
-use Rattle.std.proofs.Common.{◌≡◌, ◌≢◌, ◌↔◌, ℕ, zero, suc, ◌+◌, ◌≤◌, List, [], ◌∷◌, map, All, length, get_or, ℤ, pos, ◌<ℤ◌, refl, sym, ap, ◌∙◌, subst, arith}
+use Rattle.std.proofs.Common.{◌≡◌, ◌↔◌, ℕ, zero, suc, ◌≤◌, List, [], ◌∷◌, map, get_or, ℤ, pos, refl, sym, ap, ◌∙◌, subst, arith}
 use Rattle.std.proofs.lemmas.List.{length-map}
 use Rattle.std.proofs.lemmas.List.Elements.{All-map}
 use Rattle.core_tree.specs.declared.operators.Comparison.{Comparison}
@@ -8,8 +8,8 @@ use Rattle.core_meaning.specs.Integers.{wrap, sum_of}
 use Rattle.core_meaning.specs.World.{World, atom_of, IsInteger}
 use Rattle.core_meaning.specs.Operators.{Tuples, IsListOf, IsCount, IsNumber, IsSumOver, IsLess, Compares}
 use Rattle.core_window.specs.Same.{not_same}
-use Rattle.core_renaming.specs.Renamings.{Renaming}
-use Rattle.core_renaming.proofs.Moves.{inverse, renamed_back, Moved, turn, back}
+use Rattle.core_renaming.specs.Renamings.{Renaming, inverse}
+use Rattle.core_renaming.proofs.Moves.{renamed_back, Moved, turn}
 
 -- ---- lists without repeats
 

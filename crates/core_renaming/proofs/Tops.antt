@@ -1,5 +1,5 @@
 -- Each sig that stands in the type of a sig has a top-level sig above it.
-use Rattle.std.proofs.Common.{◌≡◌, ◌⊎◌, inl, inr, ℕ, zero, suc, ◌+◌, ◌<◌, ◌≤◌, Bool, true, false, eqb, if◌then◌else◌, List, [], ◌∷◌, ◌++◌, length, Contains, All, get_or, Option, Some, None, slice_get, refl, sym, ap, ◌∙◌, subst, arith}
+use Rattle.std.proofs.Common.{◌≡◌, ◌⊎◌, inl, inr, ℕ, zero, suc, ◌+◌, ◌<◌, ◌≤◌, Bool, true, false, eqb, if◌then◌else◌, List, [], ◌∷◌, length, Contains, All, Option, Some, None, slice_get, refl, sym, ap, ◌∙◌, subst, arith}
 use Rattle.std.specs.List.{AllByRecursion, IsDistinct, list_any, flat_map}
 use Rattle.std.proofs.lemmas.Bool.{or_cases, cases_Bool, eqb-true}
 use Rattle.std.proofs.lemmas.List.Elements.{Contains-append_cases}
@@ -10,13 +10,12 @@ use Rattle.core_tree.specs.declared.model.SigKind.{SigKind}
 use Rattle.core_tree.specs.declared.model.SigKind.TheVariants.{Top, Extends, Subset}
 use Rattle.core_tree.specs.declared.model.Column.{Column}
 use Rattle.core_tree.specs.declared.model.Column.TheVariants.{Sig as SigColumn, Int as IntColumn}
-use Rattle.core_tree.specs.Models.{IsModel, IsAncestor, parent, above, IsParent, IsRightSig, parents_of}
-use Rattle.core_tree.specs.Types.{TypeRow, TypeRows, by_parent, by_sig, standing, parent_rows, kind_rows, sig_rows}
+use Rattle.core_tree.specs.Models.{IsAncestor, parent, above, IsParent, IsRightSig, parents_of}
+use Rattle.core_tree.specs.Types.{TypeRows, by_parent, by_sig, standing, parent_rows, kind_rows, sig_rows}
 use Rattle.core_meaning.specs.declared.scopes.SigScope.{SigScope}
 use Rattle.core_meaning.specs.declared.scopes.Scopes.{Scopes}
 use Rattle.core_meaning.specs.Kept.{top_above}
-use Rattle.core_laws.specs.Typed.{ExtendsPlain, AreScopesOf}
-use Rattle.core_renaming.specs.Sigs.{IsRightly}
+use Rattle.core_renaming.specs.Sigs.{IsWellFormed}
 
 -- ---- lists
 
@@ -160,7 +159,7 @@ module _ (model : Model) (scopes : Scopes) where
   IsMarked IntColumn = Unit {0}
   IsMarked (SigColumn s) = (e : SigScope) × (slice_get scopes.numbers (top_above model.sigs (length model.sigs) s) ≡ Some e) × (e.top ≡ true)
 
-  parents_there : IsRightly model scopes → (s p : ℕ) (d : Sig) → slice_get model.sigs s ≡ Some d → d.kind ≡ Extends p → IsPlain model.sigs p
+  parents_there : IsWellFormed model scopes → (s p : ℕ) (d : Sig) → slice_get model.sigs s ≡ Some d → d.kind ≡ Extends p → IsPlain model.sigs p
   parents_there right s p d get is =
       let theirs = (item_of model.sigs s d (IsRightSig model) right.kept.sigs get).parents in
       let at_kind : All (IsParent (length model.sigs)) (parents_of (Extends p)) = subst (λ (k : SigKind). All (IsParent (length model.sigs)) (parents_of k)) is theirs in
@@ -168,7 +167,7 @@ module _ (model : Model) (scopes : Scopes) where
       let (e, there) = get_there model.sigs p within in
       (e, there, plain_kind e.kind (λ ps k. right.plain s p d e ps get is there k))
 
-  pub columns_marked : IsRightly model scopes → (s : ℕ) (c : Column) → Contains (sig_rows model.sigs (length model.sigs) s) (c ∷ []) → IsMarked c
+  pub columns_marked : IsWellFormed model scopes → (s : ℕ) (c : Column) → Contains (sig_rows model.sigs (length model.sigs) s) (c ∷ []) → IsMarked c
   columns_marked right s c among =
       of_rows model.sigs right.kept.hierarchy (parents_there right) IsMarked tt (λ t plain.
       let stood : ℕ = standing model.sigs (length model.sigs) t in

@@ -4,7 +4,7 @@ use Rattle.core_tree.specs.declared.model.Body.{Body}
 use Rattle.core_tree.specs.Trees.{Term, Claim}
 use Rattle.core_meaning.specs.declared.scopes.Scopes.{Scopes}
 use Rattle.core_meaning.specs.Sequence.{LassoValue}
-use Rattle.core_meaning.specs.World.{World, InRelation}
+use Rattle.core_meaning.specs.World.{InRelation}
 use Rattle.core_meaning.specs.Meaning.{InTerm, Holds}
 use Rattle.core_meaning.specs.Called.{bodies_of}
 use Rattle.core_meaning.specs.Kept.{world_of, atom_count}
@@ -16,6 +16,10 @@ pub record Renaming : Type 0 where
   pub from : ℕ → ℕ
   pub from_to : (a : ℕ) → from (to a) ≡ a
   pub to_from : (a : ℕ) → to (from a) ≡ a
+
+-- the renaming taken back
+abbrev pub inverse : Renaming → Renaming
+inverse r = record { to = r.from; from = r.to; from_to = r.to_from; to_from = r.from_to }
 
 -- a tuple with each of its atoms renamed
 abbrev pub renamed : Renaming → List ℕ → List ℕ

@@ -31,7 +31,7 @@ DeclarationsKeepTruth =
     (i : ℕ) → DeclaresAt model scopes one i ↔ DeclaresAt model scopes two i
 
 -- what is asked of a model and its scopes
-pub record IsRightly (model : Model) (scopes : Scopes) : Type 0 where
+pub record IsWellFormed (model : Model) (scopes : Scopes) : Type 0 where
   pub kept : IsModel model
   pub plain : ExtendsPlain model.sigs
   pub rightly : AreScopesOf model scopes
@@ -39,11 +39,11 @@ pub record IsRightly (model : Model) (scopes : Scopes) : Type 0 where
 -- A lasso keeps the scopes of a model exactly where the renamed one does.
 abbrev pub ScopesAreKept : Type 0
 ScopesAreKept =
-    (model : Model) (scopes : Scopes) (r : Renaming) (one two : LassoValue) → IsRightly model scopes → KeepsSigs model scopes r → ShowsRenamed scopes r one two →
+    (model : Model) (scopes : Scopes) (r : Renaming) (one two : LassoValue) → IsWellFormed model scopes → KeepsSigs model scopes r → ShowsRenamed scopes r one two →
     Keeps model scopes one ↔ Keeps model scopes two
 
 -- A lasso satisfies a model with some facts, and a command's formula, exactly where the renamed one does.
 abbrev pub SatisfactionIsKept : Type 0
 SatisfactionIsKept =
-    (model : Model) (scopes : Scopes) (r : Renaming) (one two : LassoValue) → IsRightly model scopes → KeepsSigs model scopes r → ShowsRenamed scopes r one two →
+    (model : Model) (scopes : Scopes) (r : Renaming) (one two : LassoValue) → IsWellFormed model scopes → KeepsSigs model scopes r → ShowsRenamed scopes r one two →
     (facts : List Fact) (command : Claim) → SatisfiesWith model scopes one facts command ↔ SatisfiesWith model scopes two facts command
