@@ -1,0 +1,11 @@
+mod Moves
+mod Numbers
+mod Times
+mod Meanings
+mod Alike
+mod Targets
+mod Tops
+mod Keeping
+mod Exchanging
+mod Gathered
+mod Existing
