@@ -5,7 +5,7 @@ Each crate is proved as `rt ci` proves it, from nothing and once, without its te
 alone, which is all that the crates above load. So each takes 1 to 2 GB. As many are at work as there are processors, as
 far as 8 GB hold them, or what is free of memory where that is less; where fewer are ready, one gets up to four processors.
 A crate that an earlier start built of the same text over the same libraries is left as it is, and one that `rt ci` passed
-on this machine is taken from what it kept.
+on this machine is taken from what it kept, as `rt ci` later takes what is built here.
 
 What is made lies in crates/NAME/out: of a library out/rlib, of a program out/NAME; the log is out/build.log. Standard
 error says which crate it is at. It ends with 0 once all are built, and else with 1; a new start goes on behind the crates
@@ -81,12 +81,14 @@ def build_one(name, jobs):
     kept, seen = rt.Kept([*below, crate]), {}
     for it in below:
         kept.is_built(it)
-    text = rt.stamp_of(crate, seen)
+    key, text = kept.key(crate), rt.stamp_of(crate, seen)
     if os.path.isfile(stamp_file(crate)):
         os.remove(stamp_file(crate))
     status = 0
-    if not kept.give(crate, False, kept.key(crate)):
+    if not kept.give(crate, False, key):
         status = crate.ci(["--jobs", jobs], tests=False)
+        if not status:
+            kept.keep(crate, False, key)
     # (a text that changed meanwhile is built by the next start)
     if not status and text == rt.stamp_of(crate, {}):
         with open(stamp_file(crate), "w", encoding="utf-8") as it:

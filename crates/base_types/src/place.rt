@@ -1,4 +1,4 @@
-// The static rules, and the places at which a source breaks them.
+//! The static rules, and the places at which a source breaks them.
 ghost use Rattle.std.specs.Prelude.{◌≡◌};
 ghost use Rattle.base_types.specs.Place.{number_of};
 
