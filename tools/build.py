@@ -1,5 +1,5 @@
 #!/usr/bin/env python3
-"""Proves and builds a crate and those below it, side by side: tools/build.py [CRATE] (alloyc, if no other is named)
+"""Proves and builds crates and those below them, side by side: tools/build.py [CRATE ..] (alloyc, if no other is named)
 
 Each crate is proved as `rt ci` proves it, from nothing and once, without its tests and edits: a library as its statements
 alone, which is all that the crates above load. So each takes 1 to 2 GB. As many are at work as there are processors, as
@@ -45,12 +45,15 @@ def load_kit():
     return rt
 
 
-def crates_of(rt, name):
-    """Returns the crate of this name behind those below it, lowest first."""
-    for crate in rt.rtlib.crates_below(TOP):
-        if crate.name == name:
-            return [*crate.below(), crate]
-    sys.exit(f"run: crates.txt names no crate {name}")
+def crates_of(rt, names):
+    """Returns the crates of these names, each behind those below it, lowest first."""
+    crates, found = {it.name: it for it in rt.rtlib.crates_below(TOP)}, {}
+    for name in names:
+        if name not in crates:
+            sys.exit(f"run: crates.txt names no crate {name}")
+        for crate in [*crates[name].below(), crates[name]]:
+            found.setdefault(crate.name, crate)
+    return list(found.values())
 
 
 def made_of(crate):
@@ -77,7 +80,7 @@ def build_one(name, jobs):
     """Proves and builds one crate over those below it, which are built. This is a process of its own, which writes to the log."""
     rt = load_kit()
     rt.rtlib.guarded()
-    *below, crate = crates_of(rt, name)
+    *below, crate = crates_of(rt, [name])
     kept, seen = rt.Kept([*below, crate]), {}
     for it in below:
         kept.is_built(it)
@@ -202,11 +205,11 @@ class Builds:
             child.kill()
 
 
-def main(name):
+def main(names):
     rt = load_kit()
     # (its first call sets a signal's handler)
     rt.rtlib.guarded()
-    crates = crates_of(rt, name)
+    crates = crates_of(rt, names)
     # (no other command of rt, and no other start, works in these folders meanwhile)
     held = rt.rtlib.lock(crates)
     builds, begun = Builds(rt, crates), time.monotonic()
@@ -232,6 +235,6 @@ if __name__ == "__main__":
     words = sys.argv[1:]
     if len(words) == 3 and words[0] == "--one":
         sys.exit(build_one(*words[1:]))
-    if len(words) > 1 or (words and words[0].startswith("-")):
+    if any(it.startswith("-") for it in words):
         sys.exit(__doc__)
-    sys.exit(main(words[0] if words else "alloyc"))
+    sys.exit(main(words or ["alloyc"]))
