@@ -81,7 +81,7 @@ rightly_of model scopes are = record {
   only = λ s d e get there top. top_kind d.kind e (sig_scope model scopes are s d e get there) top;
 }
 
-right_of : (prepared : Prepared) → AreScopes prepared.model prepared.scopes → IsUsual prepared.model → IsRight prepared.model prepared.scopes
+pub right_of : (prepared : Prepared) → AreScopes prepared.model prepared.scopes → IsUsual prepared.model → IsRight prepared.model prepared.scopes
 right_of prepared are usual = record {
   kept = usual.kept;
   plain = usual.plain;
@@ -92,7 +92,7 @@ right_of prepared are usual = record {
 
 none_within : (number : ℕ) (prepared : Prepared) → IsReady number prepared → (bounds : Bounds) → AreBoundsOf prepared.model prepared.scopes bounds → IsTable bounds → IsRuledOut prepared.target bounds → SatisfyingAreCandidates → NoneWithin prepared bounds.states
 none_within number prepared ready bounds are table ruled law covered usual lasso over few trace =
-    let (other, same, candidate, satisfied) = law prepared.model prepared.scopes bounds lasso (claim_of trace.command.formula) (right_of prepared ready.scopes_are usual) are over few trace.satisfies in
+    let (r, other, renaming, renamed, candidate, satisfied) = law prepared.model prepared.scopes bounds lasso prepared.model.facts (claim_of trace.command.formula) (right_of prepared ready.scopes_are usual) are over few trace.satisfies in
     let shown : IsTraceOf prepared other = record { facts = trace.facts; command = trace.command; parts_are = trace.parts_are; satisfies = satisfied } in
     ruled table covered other candidate (meets number prepared ready other shown)
 
@@ -105,4 +105,4 @@ none_satisfies number prepared ready ruled law = record {
 pub ruled_out : SatisfyingAreCandidates → RuledOutMeansNone
 ruled_out law number prepared states ready out =
     let uppers = subst (λ (scopes : Scopes). AreUppers prepared.model scopes out.bounds.relations) ready.scoped out.uppers in
-    subst (NoneWithin prepared) out.count (none_within number prepared ready out.bounds (record { uppers = uppers; fixed = out.fixed }) out.table out.ruled law)
+    subst (NoneWithin prepared) out.count (none_within number prepared ready out.bounds (record { most = ready.bounds_are.most; origins = ready.bounds_are.origins; uppers = uppers; fixed = out.fixed }) out.table out.ruled law)

@@ -1,9 +1,11 @@
 //! A model made ready for a search: its scopes, bounds and target.
 
-ghost use Rattle.std.specs.Prelude.{◌≡◌, ◌<◌, map, IfOk, IfErr, length};
+ghost use Rattle.std.specs.Prelude.{◌≡◌, ◌<◌, ◌≤◌, map, IfOk, IfErr, length};
 ghost use Rattle.bound_uppers.specs.declared.table.Bound.{Bound};
 ghost use Rattle.bound_uppers.specs.Table.{IsTable, are_fixed};
+ghost use Rattle.bound_uppers.specs.Own.{HasOrigins};
 ghost use Rattle.bound_uppers.specs.Uppers.{AreUppers};
+ghost use Rattle.core_meaning.specs.Kept.{universe_size};
 ghost use Rattle.answer_analysis.specs.Found.{IsLoadedFault, IsReady};
 ghost use Rattle.resolve_check.specs.Kept.{IsModelButTypes};
 ghost use Rattle.bound_scopes.specs.Limits.{AreScopes};
@@ -84,6 +86,8 @@ fn bounds_of(
     keyword: Position,
 ) -> Result<Bounds, AnalyseFault>
     ensures table { IfOk result IsTable }
+    ensures most { IfOk result (λ b. universe_size scopes.now ≤ 16384) }
+    ensures origins { IfOk result (λ b. HasOrigins model.now.sigs) }
     ensures uppers { IfOk result (λ b. AreUppers model.now scopes.now b.relations) }
     ensures fixed { IfOk result (λ b. map (λ (c : Bound). c.fixed) b.relations ≡ are_fixed model.now) }
     ensures states { IfOk result (λ b. 0 < scopes.now.states → b.states ≡ scopes.now.states) }

@@ -18,7 +18,10 @@ use Rattle.core_meaning.specs.Kept.{world_of, KeepsNumbers}
 use Rattle.core_meaning.specs.Meaning.{no_names, Holds}
 use Rattle.core_meaning.specs.Sequence.{LassoValue}
 use Rattle.core_meaning.specs.World.{World}
+use Rattle.bound_uppers.specs.Candidates.{IsCandidate}
 use Rattle.bound_uppers.specs.Table.{IsTable}
+use Rattle.bound_uppers.specs.Uppers.{AreUppers}
+use Rattle.bound_laws.specs.Satisfying.{AreBoundsOf, IsLassoOver, SatisfyingAreCandidates}
 use Rattle.form_target.specs.declared.target.Part.{Part}
 use Rattle.form_target.specs.Targets.{IsWrittenOut, Adds, none_added, one_added, fact_claims, always_claims}
 use Rattle.core_tree.specs.Past.{no_depths, past_of}
@@ -27,7 +30,8 @@ use Rattle.bmc_translate.specs.Forms.{IsPlain}
 use Rattle.answer_search.specs.Clauses.{IsCovered, HoldsFirst, Meets}
 use Rattle.answer_certificates.specs.Parts.{is_out, stays, staying, IsPartOf, RuleOut}
 use Rattle.answer_analysis.specs.declared.ready.Prepared.{Prepared}
-use Rattle.answer_analysis.specs.Found.{IsReady}
+use Rattle.answer_analysis.specs.Found.{IsReady, IsUsual}
+use Rattle.answer_analysis.proofs.NoneLaw.{right_of}
 use Rattle.answer_certificates.specs.Kept.{before, facts_at, KeepsFacts, KeptFactsRuleOut}
 
 -- ---- lists
@@ -251,9 +255,36 @@ part_covered target first dropped part is covered =
     each_claim IsCoveredClaim claim_of part.formulas
     (subst (All IsCoveredClaim) (sym is.formulas) (stay_holds IsCoveredClaim (stays first dropped) target.formulas 0 (λ k m f at there e. at_place IsCovered target.formulas k f covered there)))
 
-pub kept_law : KeptFactsRuleOut
-kept_law number prepared kept clauses ready out covered lasso candidate keeps =
-    let some = ready.scopes_are.states.0 in
-    let more : 0 < out.limits.states = omega (arith, some, out.states, ap (λ (s : Scopes). s.states) ready.scoped) in
-    let table : IsTable out.limits = out.limits_are.table out.limits.states more in
-    out.refuted.ruled table (part_covered prepared.target prepared.first_fact out.dropped out.refuted.part out.refuted.is_part covered) lasso candidate (part_meets number prepared kept clauses ready out lasso keeps)
+module _ (number : ℕ) (prepared : Prepared) (kept : List ℕ) (clauses : List (List ℤ)) (ready : IsReady number prepared)
+    (out : RuleOut prepared.model prepared.target prepared.first_fact (length prepared.parts - 1) kept clauses) where
+  no_candidate : All IsCovered prepared.target.formulas → (lasso : LassoValue) → IsCandidate out.limits lasso → KeepsFacts prepared kept lasso → ⊥
+  no_candidate covered lasso candidate keeps =
+      let some = ready.scopes_are.states.0 in
+      let more : 0 < out.limits.states = omega (arith, some, out.states, ap (λ (s : Scopes). s.states) ready.scoped) in
+      let table : IsTable out.limits = out.limits_are.table out.limits.states more in
+      let part = out.refuted in
+      let plain = part_covered prepared.target prepared.first_fact out.dropped part.part part.is_part covered in
+      part.ruled table plain lasso candidate (part_meets number prepared kept clauses ready out lasso keeps)
+
+  limits_are : AreBoundsOf prepared.model prepared.scopes out.limits
+  limits_are = record {
+    most = ready.bounds_are.most;
+    origins = ready.bounds_are.origins;
+    uppers = subst (λ (scopes : Scopes). AreUppers prepared.model scopes out.limits.relations) ready.scoped out.limits_are.uppers;
+    fixed = out.limits_are.fixed;
+  }
+
+  -- a lasso that keeps the facts has a renaming that is a candidate and keeps them too
+  no_lasso : SatisfyingAreCandidates → All IsCovered prepared.target.formulas → IsUsual prepared.model →
+    (lasso : LassoValue) → IsLassoOver prepared.model prepared.scopes lasso → length lasso.states ≤ out.limits.states → KeepsFacts prepared kept lasso → ⊥
+  no_lasso law covered usual lasso over few keeps =
+      let right = right_of prepared ready.scopes_are usual in
+      let (r, other, renaming, renamed, candidate, satisfied) = law prepared.model prepared.scopes out.limits lasso (facts_at prepared.model.facts kept) (claim_of keeps.command.formula) right limits_are over few keeps.satisfies in
+      let also : KeepsFacts prepared kept other = record { facts = keeps.facts; command = keeps.command; parts_are = keeps.parts_are; satisfies = satisfied } in
+      no_candidate covered other candidate also
+
+pub kept_law : SatisfyingAreCandidates → KeptFactsRuleOut
+kept_law law number prepared kept clauses ready out = record {
+  candidates = no_candidate number prepared kept clauses ready out;
+  lassos = no_lasso number prepared kept clauses ready out law;
+}

@@ -1,16 +1,17 @@
 -- What a model means with some of its facts alone.
-use Rattle.std.specs.Prelude.{◌≡◌, ◌-◌, ℕ, ℤ, List, [], ◌∷◌, ◌++◌, length, All, Option, Some, None, slice_get}
+use Rattle.std.specs.Prelude.{◌≡◌, ◌-◌, ℕ, ℤ, List, [], ◌∷◌, ◌++◌, ◌≤◌, length, All, Option, Some, None, slice_get}
 use Rattle.core_tree.specs.declared.model.Fact.{Fact}
 use Rattle.core_tree.specs.Trees.{claim_of}
 use Rattle.core_meaning.specs.Satisfied.{SatisfiesWith}
 use Rattle.core_meaning.specs.Sequence.{LassoValue}
 use Rattle.bound_uppers.specs.declared.table.Bounds.{Bounds}
 use Rattle.bound_uppers.specs.Candidates.{IsCandidate}
+use Rattle.bound_laws.specs.Satisfying.{IsLassoOver}
 use Rattle.form_target.specs.declared.target.Part.{Part}
 use Rattle.answer_search.specs.Clauses.{IsCovered}
 use Rattle.answer_certificates.specs.Parts.{RuleOut}
 use Rattle.answer_analysis.specs.declared.ready.Prepared.{Prepared}
-use Rattle.answer_analysis.specs.Found.{IsReady}
+use Rattle.answer_analysis.specs.Found.{IsReady, IsUsual}
 
 abbrev pub before : Option Fact → List Fact → List Fact
 before None facts = facts
@@ -29,9 +30,15 @@ pub record KeepsFacts (prepared : Prepared) (kept : List ℕ) (lasso : LassoValu
   pub parts_are : prepared.parts ≡ facts ++ command ∷ []
   pub satisfies : SatisfiesWith prepared.model prepared.scopes lasso (facts_at prepared.model.facts kept) (claim_of command.formula)
 
--- where all formulas that are searched have plain forms, no lasso within the bounds does, of as many states as they have
-abbrev pub NoneKeeps : Prepared → Bounds → List ℕ → Type 0
-NoneKeeps prepared bounds kept = All IsCovered prepared.target.formulas → (lasso : LassoValue) → IsCandidate bounds lasso → KeepsFacts prepared kept lasso → ⊥
+-- where all formulas that are searched have plain forms
+pub record NoneKeeps (prepared : Prepared) (bounds : Bounds) (kept : List ℕ) : Type 0 where
+  -- no lasso within the bounds does, of as many states as they have
+  pub candidates : All IsCovered prepared.target.formulas → (lasso : LassoValue) → IsCandidate bounds lasso → KeepsFacts prepared kept lasso → ⊥
+  -- and none at all of at most as many states, where the model is usual
+  pub lassos :
+    All IsCovered prepared.target.formulas → IsUsual prepared.model →
+    (lasso : LassoValue) → IsLassoOver prepared.model prepared.scopes lasso → length lasso.states ≤ bounds.states →
+    KeepsFacts prepared kept lasso → ⊥
 
 -- what clauses rule out with some facts alone
 abbrev pub KeptFactsRuleOut : Type 0

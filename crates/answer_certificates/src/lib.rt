@@ -24,11 +24,16 @@ ghost use Rattle.answer_certificates.specs.Kept.{KeptFactsRuleOut};
 pub use facts::{Core, NumberList};
 pub use shrink::find_core;
 
-/// A law: where clauses rule out what a target does with some of a model's facts alone, no lasso within the bounds satisfies the
-/// declarations, these facts and the command, if all formulas of the target have plain forms. The model was made ready.
+use bound_laws::satisfying_lassos_are_candidates;
+
+/// A law: where clauses rule out what a target does with some of a model's facts alone, no lasso of
+/// at most as many states as the bounds satisfies the declarations, these facts and the command, if
+/// all formulas of the target have plain forms and the model is usual. The model was made ready.
 pub fn kept_facts_rule_out()
     ensures { KeptFactsRuleOut }
-{}
+{
+    satisfying_lassos_are_candidates();
+}
 
 mod certificate;
 mod kept;

@@ -19,9 +19,14 @@ use Rattle.bound_uppers.specs.Table.{is_fixed, are_fixed}
 use Rattle.bound_uppers.specs.Candidates.{IsWithinBound, IsCandidate}
 use Rattle.bound_uppers.specs.Shortest.{IsLasso, Unrolls}
 use Rattle.core_laws.specs.Sequences.{ShowSame, SameSatisfied}
-use Rattle.core_laws.specs.Typed.{FieldsLieInBounds}
+use Rattle.core_laws.specs.Typed.{IsTypedLasso, ColumnsHaveAtoms, SigsHaveRows, FieldsHaveRows, SigsOfOneAtom}
+use Rattle.core_renaming.specs.Renamings.{Renaming, ShowsRenamed}
+use Rattle.core_renaming.specs.Sigs.{IsRightly, SatisfactionIsKept}
+use Rattle.core_renaming.specs.Renamed.{LassosHaveRenamed}
 use Rattle.bound_laws.specs.Satisfying.{AreBoundsOf, IsRight, IsLassoOver, SatisfyingAreCandidates}
+use Rattle.bound_laws.specs.Owning.{OwnersHave, OwnersCanHave, OwningAreCandidates}
 use Rattle.bound_laws.proofs.Sorted.{sorted_same}
+use Rattle.bound_laws.proofs.Owning.{row_given}
 
 some_same : {X : Type 0} (o : Option X) (x y : X) → o ≡ Some x → o ≡ Some y → x ≡ y
 some_same o x y e f = cc
@@ -123,8 +128,20 @@ which model r lt = elim (cases_lt r (length model.sigs)) [
       (r - length model.sigs, f, get, omega (arith, more)))
 ]
 
-module _ (model : Model) (scopes : Scopes) (bounds : Bounds) (lasso : LassoValue) (command : Claim) (typed : FieldsLieInBounds)
-    (right : IsRight model scopes) (are : AreBoundsOf model scopes bounds) (over : IsLassoOver model scopes lasso) (long : length lasso.states ≡ bounds.states) (satisfied : Satisfies model scopes lasso command) where
+module _ (model : Model) (scopes : Scopes) (bounds : Bounds) (lasso : LassoValue) (command : Claim) (atoms : ColumnsHaveAtoms) (sig_rows_are : SigsHaveRows) (field_rows_are : FieldsHaveRows) (one_atom : SigsOfOneAtom)
+    (right : IsRight model scopes) (are : AreBoundsOf model scopes bounds) (over : IsLassoOver model scopes lasso) (long : length lasso.states ≡ bounds.states) (satisfied : Satisfies model scopes lasso command) (have : OwnersHave model scopes lasso) where
+  typed : IsTypedLasso model scopes lasso
+  typed = record {
+    kept = right.kept;
+    plain = right.plain;
+    named = right.named;
+    rightly = right.rightly;
+    fits = over.fits;
+    sets = over.sets;
+    keeps = satisfied.keeps;
+    declared = satisfied.declared;
+  }
+
   count : length bounds.relations ≡ length model.sigs + length model.fields
   count = let all = map_count (λ (b : Bound). b.fixed) bounds.relations in let same = ap length are.fixed in let fixed = fixed_count model in omega (arith, all, same, fixed)
 
@@ -171,7 +188,9 @@ module _ (model : Model) (scopes : Scopes) (bounds : Bounds) (lasso : LassoValue
             let (a, is) = one_of_list t (long_t ∙ arity) in
             let one : In (a ∷ []) set = subst (λ u. In u set) is among in
             let low = small s r state set (a ∷ []) get at one in
-            (a, is, satisfied.keeps.bounded r d sig s a (in_relation s r state set (a ∷ []) get at one), low 0 a (omega arith))),
+            let held = in_relation s r state set (a ∷ []) get at one in
+            let (q, among_rows, row) = sig_rows_are model scopes lasso typed r d sig s a held in
+            (a, is, record { typed = (q, among_rows, row_given model scopes lasso typed atoms one_atom have q (a ∷ []) row); literal = (satisfied.keeps.bounded r d sig s a held).literal }, low 0 a (omega arith))),
       )
 
   field_within : (s r : ℕ) (state : List TupleList) (set : TupleList) (b : Bound) → slice_get lasso.states s ≡ Some state → slice_get state r ≡ Some set → slice_get bounds.relations r ≡ Some b → IsFieldAt model r → IsWithinBound b set
@@ -185,8 +204,8 @@ module _ (model : Model) (scopes : Scopes) (bounds : Bounds) (lasso : LassoValue
         set_is,
         arity ∙ sym just.columns,
         λ t among. (just.just t).1 (
-          typed model scopes lasso right.kept right.plain right.named right.rightly over.fits over.sets satisfied.keeps satisfied.declared g f field (right.owned g f field) s t
-              (subst (λ k. InRelation (world_of scopes lasso) k s t) (sym place) (in_relation s r state set t get at among)),
+          (let (q, among_rows, row) = field_rows_are model scopes lasso typed g f field (right.owned g f field) s t (subst (λ k. InRelation (world_of scopes lasso) k s t) (sym place) (in_relation s r state set t get at among)) in
+              (q, among_rows, row_given model scopes lasso typed atoms one_atom have q t row)),
           small s r state set t get at among,
         ),
       )
@@ -254,8 +273,27 @@ over_same model scopes lasso other over loop same = record {
         let lt = slice_get_within other.states s state get in
         same s ∙ (ap (slice_get other.states) (sym (cond_below s (length other.states) s _ lt)) ∙ get)
 
-pub candidates_of : Unrolls → SameSatisfied → FieldsLieInBounds → SatisfyingAreCandidates
-candidates_of unrolls same_satisfied typed model scopes bounds lasso command right are over few satisfied =
-    let (other, loop, long, same) = unrolls lasso bounds.states over.loop few in
-    let satisfied_too = (same_satisfied model scopes lasso other command same).0 satisfied in
-    (other, same, is_candidate model scopes bounds other command typed right are (over_same model scopes lasso other over loop same) long satisfied_too, satisfied_too)
+pub owning_are_candidates : ColumnsHaveAtoms → SigsHaveRows → FieldsHaveRows → SigsOfOneAtom → OwningAreCandidates
+owning_are_candidates atoms sigs fields one_atom model scopes bounds lasso command right are over long satisfied have =
+    is_candidate model scopes bounds lasso command atoms sigs fields one_atom right are over long satisfied have
+
+-- a lasso that shows the same shows the relations renamed alike
+shows_both : (scopes : Scopes) (r : Renaming) (one two three : LassoValue) → ShowSame one two → ShowsRenamed scopes r two three → ShowsRenamed scopes r one three
+shows_both scopes r one two three same shows relation i t = (
+  (λ (state, set, shown, at, among). (shows relation i t).0 (state, set, sym (same i) ∙ shown, at, among)),
+  (λ h. let (state, set, shown, at, among) = (shows relation i t).1 h in (state, set, same i ∙ shown, at, among)),
+)
+
+pub candidates_of : Unrolls → SameSatisfied → OwnersCanHave → LassosHaveRenamed → SatisfactionIsKept → OwningAreCandidates → SatisfyingAreCandidates
+candidates_of unrolls same_satisfied can_have renamings kept_satisfied owning model scopes bounds lasso command right are over few satisfied =
+    let (mid, loop, long, same) = unrolls lasso bounds.states over.loop few in
+    let mid_over = over_same model scopes lasso mid over loop same in
+    let mid_satisfied = (same_satisfied model scopes lasso mid command same).0 satisfied in
+    let (r, keeps, gives) = can_have model scopes mid command right are.origins mid_over mid_satisfied in
+    let most = are.most in
+    let (other, shows, fits, sets, count, start) = renamings model scopes r mid keeps.integers (omega (arith, most)) mid_over.fits mid_over.sets in
+    let loop_in = mid_over.loop in
+    let other_over : IsLassoOver model scopes other = record { loop = omega (arith, loop_in, count, start); fits = fits; sets = sets } in
+    let rightly : IsRightly model scopes = record { kept = right.kept; plain = right.plain; rightly = right.rightly } in
+    let other_satisfied = (kept_satisfied model scopes r mid other rightly keeps shows model.facts command).0 mid_satisfied in
+    (r, other, keeps, shows_both scopes r lasso mid other same shows, owning model scopes bounds other command right are other_over (count ∙ long) other_satisfied (gives other shows), other_satisfied)

@@ -1,2 +1,5 @@
-mod Candidates
 mod Sorted
+mod Moving
+mod Renaming
+mod Owning
+mod Candidates

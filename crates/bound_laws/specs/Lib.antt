@@ -1,1 +1,2 @@
 pub mod Satisfying
+pub mod Owning

@@ -1,17 +1,20 @@
-//! A law: the lassos that satisfy a model and a command are among those of the search.
+//! A law: each lasso that satisfies a model and a command has a renaming among those of the search.
 #![tactic(auto)]
 
 ghost use Rattle.bound_laws.specs.Satisfying.{SatisfyingAreCandidates};
 
 use bound_uppers::lassos_unroll;
-use core_laws::{fields_lie_in_their_bounds, same_sequences_satisfy_the_same};
+use core_laws::{relations_have_rows, same_sequences_satisfy_the_same};
+use core_renaming::{lassos_have_renamed, renaming_keeps_models};
 
-/// A law: a lasso of at most as many states as the bounds that satisfies a model and a command shows the sequence of a candidate
-/// that satisfies them.
+/// A law: a lasso of at most as many states as the bounds that satisfies a model and a command has a renaming that is a candidate
+/// and satisfies them.
 pub fn satisfying_lassos_are_candidates()
     ensures { SatisfyingAreCandidates }
 {
     lassos_unroll();
     same_sequences_satisfy_the_same();
-    fields_lie_in_their_bounds();
+    relations_have_rows();
+    lassos_have_renamed();
+    renaming_keeps_models();
 }

@@ -1,10 +1,10 @@
 -- Going up from a sig to those that it extends.
-use Rattle.std.proofs.Common.{◌≡◌, ℕ, zero, suc, ◌+◌, ◌-◌, ◌<◌, ◌≤◌, Bool, true, false, if◌then◌else◌, List, length, Option, Some, None, slice_get, refl, ap, sym, ◌∙◌, subst, arith, ◌++◌, ◌∷◌, [], get_or, length-append, inl, inr}
-use Rattle.std.proofs.lemmas.Bool.{cases_lt}
+use Rattle.std.proofs.Common.{◌≡◌, ℕ, zero, suc, ◌+◌, ◌-◌, ◌<◌, ◌≤◌, Bool, true, false, if◌then◌else◌, eqb, List, length, Option, Some, None, slice_get, refl, ap, sym, ◌∙◌, subst, arith, ◌++◌, ◌∷◌, [], get_or, length-append, inl, inr}
+use Rattle.std.proofs.lemmas.Bool.{cases_lt, eq-eqb, ne_eqb}
 use Rattle.core_tree.specs.declared.model.Sig.{Sig}
 use Rattle.core_tree.specs.declared.model.SigKind.{SigKind}
 use Rattle.core_tree.specs.declared.model.SigKind.TheVariants.{Top, Extends, Subset}
-use Rattle.core_tree.specs.Types.{by_parent, by_sig, standing}
+use Rattle.core_tree.specs.Types.{by_parent, by_sig, standing, is_under}
 use Rattle.core_meaning.specs.Kept.{top_above}
 use Rattle.bound_uppers.specs.Kinds.{parent_at, moving_parent_at, top_at, HasTops, AreTops}
 
@@ -131,3 +131,56 @@ tops_all sigs n ups low high are s = elim (cases_lt s n) [
   | inl less ↦ are.each s less
   | inr far ↦ let own = are.count in outside ups s s (omega (arith, own, far)) ∙ sym (top_stays sigs (length sigs) s (no_parent_at sigs s (omega (arith, far, low))))
 ]
+
+-- ---- one sig under another
+
+under_by_sig : (sigs : List Sig) (m p high : ℕ) (o : Option Sig) → by_sig None (λ d. by_parent None (λ q. Some q) d.kind) o ≡ Some p → by_sig false (λ d. by_parent false (λ q. is_under sigs m q high) d.kind) o ≡ is_under sigs m p high
+under_by_sig sigs m p high None e = cc
+under_by_sig sigs m p high (Some d) e = by_kind d.kind e
+  where
+    by_kind : (kind : SigKind) → by_parent None (λ q. Some q) kind ≡ Some p → by_parent false (λ q. is_under sigs m q high) kind ≡ is_under sigs m p high
+    by_kind Top f = cc
+    by_kind (Extends q) f = let is : q ≡ p = cc in ap (λ (k : ℕ). is_under sigs m k high) is
+    by_kind (Subset ps) f = cc
+
+under_by_none : (sigs : List Sig) (m high : ℕ) (o : Option Sig) → by_sig {X = Option ℕ} None (λ d. by_parent None (λ q. Some q) d.kind) o ≡ None → by_sig false (λ d. by_parent false (λ q. is_under sigs m q high) d.kind) o ≡ false
+under_by_none sigs m high None e = refl
+under_by_none sigs m high (Some d) e = by_kind d.kind e
+  where
+    by_kind : (kind : SigKind) → by_parent {X = Option ℕ} None (λ q. Some q) kind ≡ None → by_parent false (λ q. is_under sigs m q high) kind ≡ false
+    by_kind Top f = refl
+    by_kind (Extends q) f = cc
+    by_kind (Subset ps) f = refl
+
+under_up : (sigs : List Sig) (m low p high : ℕ) (r : Bool) → eqb low high ≡ false → is_under sigs (suc m) low high ≡ r → parent_at sigs low ≡ Some p → is_under sigs m p high ≡ r
+under_up sigs m low p high r other e parent =
+    sym (under_by_sig sigs m p high (slice_get sigs low) parent)
+    ∙ (sym (ap (λ (b : Bool). if b then true else by_sig false (λ d. by_parent false (λ q. is_under sigs m q high) d.kind) (slice_get sigs low)) other) ∙ e)
+
+pub under_step : (sigs : List Sig) (n k low p high : ℕ) (r : Bool) → k < n → (low ≡ high → ⊥) → is_under sigs (n - k) low high ≡ r → parent_at sigs low ≡ Some p → is_under sigs (n - (k + 1)) p high ≡ r
+under_step sigs n k low p high r lt other e parent =
+    let more : n - k ≡ suc (n - (k + 1)) = omega arith in
+    under_up sigs (n - (k + 1)) low p high r (ne_eqb low high other) (ap (λ (m : ℕ). is_under sigs m low high) (sym more) ∙ e) parent
+
+-- a sig is under itself, at any depth
+under_same : (sigs : List Sig) (m low high : ℕ) → low ≡ high → is_under sigs m low high ≡ true
+under_same sigs zero low high same = eq-eqb low high same
+under_same sigs (suc m) low high same = ap (λ (b : Bool). if b then true else by_sig false (λ d. by_parent false (λ q. is_under sigs m q high) d.kind) (slice_get sigs low)) (eq-eqb low high same)
+
+-- one without a parent is under no other
+under_none : (sigs : List Sig) (m low high : ℕ) → (low ≡ high → ⊥) → parent_at sigs low ≡ None → is_under sigs m low high ≡ false
+under_none sigs zero low high other none = ne_eqb low high other
+under_none sigs (suc m) low high other none =
+    ap (λ (b : Bool). if b then true else by_sig false (λ d. by_parent false (λ q. is_under sigs m q high) d.kind) (slice_get sigs low)) (ne_eqb low high other)
+    ∙ under_by_none sigs m high (slice_get sigs low) none
+
+pub under_here : (sigs : List Sig) (n k low high : ℕ) (r : Bool) → low ≡ high → is_under sigs (n - k) low high ≡ r → true ≡ r
+under_here sigs n k low high r same e = sym (under_same sigs (n - k) low high same) ∙ e
+
+pub under_end : (sigs : List Sig) (n k low high : ℕ) (r : Bool) → (low ≡ high → ⊥) → is_under sigs (n - k) low high ≡ r → parent_at sigs low ≡ None → false ≡ r
+under_end sigs n k low high r other e none = sym (under_none sigs (n - k) low high other none) ∙ e
+
+pub under_last : (sigs : List Sig) (n k low high : ℕ) (r b : Bool) → n ≤ k → is_under sigs (n - k) low high ≡ r → b ≡ eqb low high → b ≡ r
+under_last sigs n k low high r b le e is =
+    let less : n - k ≡ 0 = omega arith in
+    is ∙ subst (λ (m : ℕ). is_under sigs m low high ≡ r) less e

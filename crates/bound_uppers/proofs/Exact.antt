@@ -3,7 +3,7 @@ use Rattle.std.proofs.Common.{◌≡◌, ◌⊎◌, ◌↔◌, inl, inr, ℕ, su
 use Rattle.std.proofs.lemmas.Bool.{eqb-true, ltb-true, ltb-false}
 use Rattle.std.proofs.lemmas.List.Elements.{All-nil, All-cons, All-head, All-tail, All-contains}
 use Rattle.std.proofs.lemmas.Option.{slice_get_past, slice_get_within, get_or_from_slice_get}
-use Rattle.core_tuples.specs.Sets.{TupleList, HasJust}
+use Rattle.core_tuples.specs.Sets.{TupleList, In, HasJust}
 use Rattle.core_tree.specs.declared.model.Model.{Model}
 use Rattle.core_tree.specs.declared.model.Origin.{Origin}
 use Rattle.core_tree.specs.declared.model.Sig.{Sig}
@@ -16,12 +16,16 @@ use Rattle.core_tree.specs.Types.{TypeRow, TypeRows, by_parent, sig_rows}
 use Rattle.core_tree.specs.Columns.{or_zero}
 use Rattle.core_meaning.specs.declared.scopes.SigScope.{SigScope}
 use Rattle.core_meaning.specs.declared.scopes.Scopes.{Scopes}
-use Rattle.core_meaning.specs.Kept.{atom_count, first_atom, universe_size, or_zero_number, InColumnBound, InRowBound, IsLiteral, InSigBound}
+use Rattle.core_meaning.specs.Kept.{atom_count, first_atom, universe_size, or_zero_number, IsLiteral}
 use Rattle.bound_uppers.specs.declared.table.Bound.{Bound}
 use Rattle.bound_uppers.specs.declared.numbers.AtomRange.{AtomRange}
 use Rattle.bound_uppers.specs.declared.numbers.AtomRanges.{AtomRanges}
 use Rattle.bound_uppers.specs.declared.uppers.Sketch.{Sketch}
-use Rattle.bound_uppers.specs.Kinds.{HasTops, top_at, kind_at, sig_kind, row_kinds_of, rows_kinds_of, HasRows, no_span, span_at, span_in, InSpan, InKinds, InRows, HasSpans, FitSpans}
+use Rattle.bound_uppers.specs.Kinds.{kind_at, sig_kind, row_kinds_of, rows_kinds_of, HasRows, no_span, span_in, InSpan, HasSpans}
+use Rattle.bound_uppers.specs.declared.given.AtomSets.{AtomSets}
+use Rattle.bound_uppers.specs.Owned.{HasStanding}
+use Rattle.bound_uppers.specs.Given.{IsGiven, InColumnTable, InRowTable, InSigTable}
+use Rattle.bound_uppers.specs.AtomSets.{set_at, InKinds, InRows, AreGiven}
 use Rattle.bound_uppers.specs.Sketches.{first_in, literal_in, IsRightSketch, InSketch, IsSigSketch, IsFieldSketch, AreSketches, HasUppers}
 use Rattle.bound_uppers.specs.Uppers.{InSigUpper, InFieldUpper, AreUppers}
 use Rattle.bound_uppers.proofs.Spanning.{first_most, span_at_place, span_lacks, all_before}
@@ -43,24 +47,24 @@ in_span limit f n a = (
   (λ h. (h.0.0, (span_case limit f n a (nat_lt n (limit - f)) refl h.0.0).1 (h.0.1, h.1))),
 )
 
-nobody : (a : ℕ) → InSpan no_span a → ⊥
+pub nobody : (a : ℕ) → InSpan no_span a → ⊥
 nobody a h = let high = h.1 in absurd (omega (arith, high))
 
-option_cases : {X : Type 0} (o : Option X) → (o ≡ None) ⊎ ((x : X) × (o ≡ Some x))
+pub option_cases : {X : Type 0} (o : Option X) → (o ≡ None) ⊎ ((x : X) × (o ≡ Some x))
 option_cases None = inl refl
 option_cases (Some x) = inr (x, refl)
 
 -- ---- the numbers of a kind
 
 module _ (scopes : Scopes) (spans : AtomRanges) (has : HasSpans scopes spans) where
-  sig_span : (top : ℕ) (d : AtomRange) → (s : SigScope) → slice_get scopes.numbers top ≡ Some s → get_or spans.sigs.items top d ≡ span_in (universe_size scopes) (first_atom scopes.numbers top) (or_zero s.number)
+  pub sig_span : (top : ℕ) (d : AtomRange) → (s : SigScope) → slice_get scopes.numbers top ≡ Some s → get_or spans.sigs.items top d ≡ span_in (universe_size scopes) (first_atom scopes.numbers top) (or_zero s.number)
   sig_span top d s e = ap (λ (xs : List AtomRange). get_or xs top d) has.sigs ∙ span_at_place (universe_size scopes) scopes.numbers top s d e
 
-  lacks_span : (top : ℕ) (d : AtomRange) → slice_get scopes.numbers top ≡ None → get_or spans.sigs.items top d ≡ d
+  pub lacks_span : (top : ℕ) (d : AtomRange) → slice_get scopes.numbers top ≡ None → get_or spans.sigs.items top d ≡ d
   lacks_span top d e = ap (λ (xs : List AtomRange). get_or xs top d) has.sigs ∙ span_lacks (universe_size scopes) 0 scopes.numbers top d e
 
   -- so many numbers, or none where there is no such sig
-  those : (top a : ℕ) → InSpan (get_or spans.sigs.items top no_span) a ↔ (((first_atom scopes.numbers top ≤ a) × (a < first_atom scopes.numbers top + or_zero_number (slice_get scopes.numbers top))) × (a < universe_size scopes))
+  pub those : (top a : ℕ) → InSpan (get_or spans.sigs.items top no_span) a ↔ (((first_atom scopes.numbers top ≤ a) × (a < first_atom scopes.numbers top + or_zero_number (slice_get scopes.numbers top))) × (a < universe_size scopes))
   those top a = elim (option_cases (slice_get scopes.numbers top)) [
     | inl none ↦
         subst (λ (o : Option SigScope). InSpan (get_or spans.sigs.items top no_span) a ↔ (((first_atom scopes.numbers top ≤ a) × (a < first_atom scopes.numbers top + or_zero_number o)) × (a < universe_size scopes))) (sym none) (
@@ -72,32 +76,14 @@ module _ (scopes : Scopes) (spans : AtomRanges) (has : HasSpans scopes spans) wh
         (subst (λ (z : AtomRange). InSpan z a ↔ (((first_atom scopes.numbers top ≤ a) × (a < first_atom scopes.numbers top + or_zero s.number)) × (a < universe_size scopes))) (sym (sig_span top no_span s some)) (in_span (universe_size scopes) (first_atom scopes.numbers top) (or_zero s.number) a))
   ]
 
-  far_sig : (k : ℕ) → 4294967294 ≤ k → slice_get scopes.numbers k ≡ None
-  far_sig k far = let few = has.few in slice_get_past scopes.numbers k (omega (arith, few, far))
-
-  kind_case : (top a : ℕ) (b : Bool) → eqb top 4294967295 ≡ b → InSpan (span_at spans (if b then 4294967294 else top)) a ↔ InSpan (get_or spans.sigs.items top no_span) a
-  kind_case top a true e =
-      let is : top ≡ 4294967295 = eqb-true top 4294967295 e in
-      let far : 4294967294 ≤ top = omega (arith, is) in
-      let first = lacks_span 4294967294 no_span (far_sig 4294967294 (omega arith)) in
-      let second = lacks_span top no_span (far_sig top far) in
-      ((λ h. absurd (nobody a (subst (λ (s : AtomRange). InSpan s a) first h))), (λ h. absurd (nobody a (subst (λ (s : AtomRange). InSpan s a) second h))))
-  kind_case top a false e = subst (λ (c : Bool). InSpan (if c then spans.integers else get_or spans.sigs.items top no_span) a ↔ InSpan (get_or spans.sigs.items top no_span) a) (sym e) ((λ h. h), (λ h. h))
-
-  of_sig : (top a : ℕ) → InSpan (span_at spans (sig_kind top)) a ↔ (((first_atom scopes.numbers top ≤ a) × (a < first_atom scopes.numbers top + or_zero_number (slice_get scopes.numbers top))) × (a < universe_size scopes))
-  of_sig top a =
-      let first = kind_case top a (eqb top 4294967295) refl in
-      let second = those top a in
-      ((λ h. second.0 (first.0 h)), (λ h. first.1 (second.1 h)))
-
-  of_integers : (a : ℕ) → InSpan spans.integers a ↔ (((atom_count scopes.numbers ≤ a) × (a < universe_size scopes)) × (a < universe_size scopes))
+  pub of_integers : (a : ℕ) → InSpan spans.integers a ↔ (((atom_count scopes.numbers ≤ a) × (a < universe_size scopes)) × (a < universe_size scopes))
   of_integers a = subst (λ (s : AtomRange). InSpan s a ↔ (((atom_count scopes.numbers ≤ a) × (a < universe_size scopes)) × (a < universe_size scopes))) (sym has.integers) ((λ h. (h, h.1)), (λ h. h.0))
 
   fit_case : (f n : ℕ) (b : Bool) → f ≤ universe_size scopes → nat_lt n (universe_size scopes - f) ≡ b → f + (if b then n else universe_size scopes - f) ≤ 16384
   fit_case f n true le e = let most = has.most in let less : n < universe_size scopes - f = ltb-true n (universe_size scopes - f) e in omega (arith, most, le, less)
   fit_case f n false le e = let most = has.most in omega (arith, most, le)
 
-  fits_sig : (k : ℕ) → (get_or spans.sigs.items k no_span).first + (get_or spans.sigs.items k no_span).count ≤ 16384
+  pub fits_sig : (k : ℕ) → (get_or spans.sigs.items k no_span).first + (get_or spans.sigs.items k no_span).count ≤ 16384
   fits_sig k = elim (option_cases (slice_get scopes.numbers k)) [
     | inl none ↦ subst (λ (s : AtomRange). s.first + s.count ≤ 16384) (sym (lacks_span k no_span none)) (omega arith)
     | inr (s, some) ↦
@@ -105,12 +91,8 @@ module _ (scopes : Scopes) (spans : AtomRanges) (has : HasSpans scopes spans) wh
         subst (λ (z : AtomRange). z.first + z.count ≤ 16384) (sym (sig_span k no_span s some)) (fit_case (first_atom scopes.numbers k) (or_zero s.number) (nat_lt (or_zero s.number) (universe_size scopes - first_atom scopes.numbers k)) (omega (arith, most)) refl)
   ]
 
-  fits_kind : (k : ℕ) (b : Bool) → (if b then spans.integers else get_or spans.sigs.items k no_span).first + (if b then spans.integers else get_or spans.sigs.items k no_span).count ≤ 16384
-  fits_kind k true = subst (λ (s : AtomRange). s.first + s.count ≤ 16384) (sym has.integers) has.most
-  fits_kind k false = fits_sig k
-
-  pub spans_fit : FitSpans spans
-  spans_fit k = fits_kind k (eqb k 4294967295)
+  pub fits_integers : spans.integers.first + spans.integers.count ≤ 16384
+  fits_integers = subst (λ (s : AtomRange). s.first + s.count ≤ 16384) (sym has.integers) has.most
 
   -- where the atoms of a literal's parent begin
   pub first_is : (p : ℕ) → first_in spans p ≡ first_atom scopes.numbers p
@@ -124,12 +106,12 @@ right_in all n k right at = subst (λ (s : Sketch). IsRightSketch s) (get_or_fro
 
 -- ---- rows of a type
 
-module _ (model : Model) (scopes : Scopes) (spans : AtomRanges) (ups : List ℕ) (has : HasSpans scopes spans) (tops : HasTops model.sigs ups) where
-  column_is : (c : Column) (a : ℕ) → InSpan (span_at spans (kind_at ups c)) a ↔ (InColumnBound model scopes c a × (a < universe_size scopes))
-  column_is IntColumn a = of_integers scopes spans has a
-  column_is (SigColumn s) a = subst (λ (top : ℕ). InSpan (span_at spans (sig_kind (top_at ups s))) a ↔ (((first_atom scopes.numbers top ≤ a) × (a < first_atom scopes.numbers top + or_zero_number (slice_get scopes.numbers top))) × (a < universe_size scopes))) (tops s) (of_sig scopes spans has (top_at ups s) a)
+module _ (model : Model) (scopes : Scopes) (spans : AtomRanges) (standing : List ℕ) (sets : AtomSets) (has : HasSpans scopes spans) (stands : HasStanding model.sigs scopes.numbers standing) (given : AreGiven model scopes sets) where
+  column_is : (c : Column) (a : ℕ) → In (a ∷ []) (set_at sets (kind_at standing c)) ↔ (InColumnTable model scopes c a × (a < universe_size scopes))
+  column_is IntColumn a = given.integers a
+  column_is (SigColumn s) a = subst (λ (n : ℕ). In (a ∷ []) (set_at sets (sig_kind n)) ↔ (IsGiven model scopes s a × (a < universe_size scopes))) (sym (stands s)) (given.sigs s a)
 
-  row_is : (r : TypeRow) (t : List ℕ) → InKinds spans (row_kinds_of ups r) t ↔ (InRowBound model scopes r t × All (λ a. a < universe_size scopes) t)
+  row_is : (r : TypeRow) (t : List ℕ) → InKinds sets (row_kinds_of standing r) t ↔ (InRowTable model scopes r t × All (λ a. a < universe_size scopes) t)
   row_is [] [] = ((λ h. (tt, All-nil (λ a. a < universe_size scopes))), (λ h. tt))
   row_is [] (a ∷ t) = ((λ h. absurd h), (λ h. absurd h.0))
   row_is (c ∷ r) [] = ((λ h. absurd h), (λ h. absurd h.0))
@@ -140,15 +122,15 @@ module _ (model : Model) (scopes : Scopes) (spans : AtomRanges) (ups : List ℕ)
         (λ h. (first.1 (h.0.0, All-head (λ a. a < universe_size scopes) a t h.1), rest.1 (h.0.1, All-tail (λ a. a < universe_size scopes) a t h.1))),
       )
 
-  rows_are : (kinds : List (List ℕ)) (rows : TypeRows) (t : List ℕ) → HasRows kinds (rows_kinds_of ups rows) → InRows spans kinds t ↔ (((r : TypeRow) × Contains rows r × InRowBound model scopes r t) × All (λ a. a < universe_size scopes) t)
+  rows_are : (kinds : List (List ℕ)) (rows : TypeRows) (t : List ℕ) → HasRows kinds (rows_kinds_of standing rows) → InRows sets kinds t ↔ (((r : TypeRow) × Contains rows r × InRowTable model scopes r t) × All (λ a. a < universe_size scopes) t)
   rows_are kinds rows t same = (
     (λ h.
-        let f = map_member (row_kinds_of ups) rows h.0 ((same h.0).0 h.1) in
-        let g = (row_is f.0 t).0 (subst (λ (ks : List ℕ). InKinds spans ks t) f.2 h.2) in
+        let f = map_member (row_kinds_of standing) rows h.0 ((same h.0).0 h.1) in
+        let g = (row_is f.0 t).0 (subst (λ (ks : List ℕ). InKinds sets ks t) f.2 h.2) in
         ((f.0, f.1, g.0), g.1)),
     (λ h.
         let r = h.0.0 in
-        (row_kinds_of ups r, (same (row_kinds_of ups r)).1 (member_map (row_kinds_of ups) rows r h.0.1), (row_is r t).1 (h.0.2, h.1))),
+        (row_kinds_of standing r, (same (row_kinds_of standing r)).1 (member_map (row_kinds_of standing) rows r h.0.1), (row_is r t).1 (h.0.2, h.1))),
   )
 
   no_limit : (o : Option ℕ) (P : ℕ → Type 0) → o ≡ None → IfSome o P
@@ -156,7 +138,7 @@ module _ (model : Model) (scopes : Scopes) (spans : AtomRanges) (ups : List ℕ)
   no_limit (Some a) P e = absurd cc
 
   -- the bound of a field
-  pub field_upper : (f : Field) (k : Sketch) (set : TupleList) → IsFieldSketch ups f k → HasJust set k.arity (InSketch spans k) → HasJust set f.columns (InFieldUpper model scopes f)
+  pub field_upper : (f : Field) (k : Sketch) (set : TupleList) → IsFieldSketch standing f k → HasJust set k.arity (InSketch sets k) → HasJust set f.columns (InFieldUpper model scopes f)
   field_upper f k set its is = record {
     columns = is.columns ∙ its.columns;
     just = λ t.
@@ -195,13 +177,13 @@ module _ (model : Model) (scopes : Scopes) (spans : AtomRanges) (ups : List ℕ)
   one_column rows (a ∷ []) set e = (a, refl)
   one_column rows (a ∷ b ∷ t) set e = absurd (omega (arith, e))
 
-  kinds_length : (row t : List ℕ) → InKinds spans row t → length t ≡ length row
+  kinds_length : (row t : List ℕ) → InKinds sets row t → length t ≡ length row
   kinds_length [] [] h = refl
   kinds_length [] (a ∷ t) h = absurd h
   kinds_length (k ∷ ks) [] h = absurd h
   kinds_length (k ∷ ks) (a ∷ t) h = ap (λ (n : ℕ). suc n) (kinds_length ks t h.1)
 
-  sig_of : (s : ℕ) (d : Sig) (k : Sketch) → IsSigSketch model.sigs ups spans s d k → (a : ℕ) → InSketch spans k (a ∷ []) ↔ (InSigBound model scopes s d a × (a < universe_size scopes))
+  sig_of : (s : ℕ) (d : Sig) (k : Sketch) → IsSigSketch model.sigs standing spans s d k → (a : ℕ) → InSketch sets k (a ∷ []) ↔ (InSigTable model scopes s d a × (a < universe_size scopes))
   sig_of s d k its a =
       let own = rows_are k.rows.items (sig_rows model.sigs (length model.sigs) s) (a ∷ []) its.rows in
       let word = literal_is s d a in (
@@ -212,7 +194,7 @@ module _ (model : Model) (scopes : Scopes) (spans : AtomRanges) (ups : List ℕ)
       )
 
   -- the bound of a sig
-  pub sig_upper : (s : ℕ) (d : Sig) (k : Sketch) (set : TupleList) → IsRightSketch k → IsSigSketch model.sigs ups spans s d k → HasJust set k.arity (InSketch spans k) → HasJust set 1 (InSigUpper model scopes s d)
+  pub sig_upper : (s : ℕ) (d : Sig) (k : Sketch) (set : TupleList) → IsRightSketch k → IsSigSketch model.sigs standing spans s d k → HasJust set k.arity (InSketch sets k) → HasJust set 1 (InSigUpper model scopes s d)
   sig_upper s d k set right its is = record {
     columns = is.columns ∙ its.columns;
     just = λ t. (
@@ -221,13 +203,13 @@ module _ (model : Model) (scopes : Scopes) (spans : AtomRanges) (ups : List ℕ)
           let row = f.0 in
           let long : length row.0 ≡ k.arity = All-contains (λ r. length r ≡ k.arity) k.rows.items row.0 right.rows row.1 in
           let a = one_column [] t set (kinds_length row.0 t row.2 ∙ (long ∙ its.columns)) in
-          let g = (sig_of s d k its a.0).0 (subst (InSketch spans k) a.1 f) in
+          let g = (sig_of s d k its a.0).0 (subst (InSketch sets k) a.1 f) in
           (a.0, a.1, g.0, g.1)),
-      (λ h. (is.just t).1 (subst (InSketch spans k) (sym h.1) ((sig_of s d k its h.0).1 (h.2, h.3)))),
+      (λ h. (is.just t).1 (subst (InSketch sets k) (sym h.1) ((sig_of s d k its h.0).1 (h.2, h.3)))),
     );
   }
 
-  pub uppers_are : (all : List Sketch) (relations : List Bound) → AreSketches model ups spans all → HasUppers spans all relations → AreUppers model scopes relations
+  pub uppers_are : (all : List Sketch) (relations : List Bound) → AreSketches model standing spans all → HasUppers sets all relations → AreUppers model scopes relations
   uppers_are all relations are have = record {
     sigs = λ s d at.
         let f = are.sigs s d (slice_get_within model.sigs s d at) at in

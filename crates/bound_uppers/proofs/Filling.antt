@@ -2,13 +2,14 @@
 use Rattle.std.proofs.Common.{◌≡◌, ◌⊎◌, ◌↔◌, inl, inr, ℕ, ◌+◌, ◌<◌, ◌≤◌, Bool, true, false, IsTrue, List, [], ◌∷◌, ◌++◌, length, take, drop, get_or, slice_index, slice_index_or, All, Contains, refl, ap, sym, ◌∙◌, subst, arith}
 use Rattle.std.proofs.lemmas.Bool.{cases_lt, false≢true, iff_false}
 use Rattle.std.proofs.lemmas.List.{take_more}
-use Rattle.std.proofs.lemmas.List.Elements.{All-nil, All-cons, All-take, All-drop, Contains-get_or, Contains-push_cases, Contains-append_left, Contains-append_right, Contains-append_cases}
+use Rattle.std.proofs.lemmas.List.Elements.{All-nil, All-cons, All-contains, All-take, All-drop, Contains-get_or, Contains-push_cases, Contains-append_left, Contains-append_right, Contains-append_cases}
 use Rattle.core_tuples.specs.Sets.{TupleList, In, HasJust, IsPaired}
 use Rattle.core_tuples.specs.Index.{IsNumber}
 use Rattle.core_tuples.specs.Order.{cons_cases, cons_here, no_members, take_all}
 use Rattle.bound_uppers.specs.declared.numbers.AtomRange.{AtomRange}
-use Rattle.bound_uppers.specs.declared.numbers.AtomRanges.{AtomRanges}
-use Rattle.bound_uppers.specs.Kinds.{span_at, InSpan, InKinds, InRows}
+use Rattle.bound_uppers.specs.declared.given.AtomSets.{AtomSets}
+use Rattle.bound_uppers.specs.Kinds.{InSpan}
+use Rattle.bound_uppers.specs.AtomSets.{set_at, InKinds, InRows, IsColumn, AreColumns}
 
 -- a tuple of one number
 pub number_fits : (a : ℕ) (tuple : List ℕ) → a < 16384 → tuple ≡ a ∷ [] → All IsNumber tuple
@@ -54,39 +55,52 @@ span_just span set count low high was = record {
 
 -- ---- column by column
 
-one_kind : (spans : AtomRanges) (k : ℕ) (t : List ℕ) → InKinds spans (k ∷ []) t → (a : ℕ) × InSpan (span_at spans k) a × (t ≡ a ∷ [])
-one_kind spans k [] h = absurd h
-one_kind spans k (a ∷ []) h = (a, h.0, refl)
-one_kind spans k (a ∷ b ∷ t) h = absurd h.1
+one_of : (t : List ℕ) → length t ≡ 1 → (a : ℕ) × (t ≡ a ∷ [])
+one_of [] e = absurd (omega (arith, e))
+one_of (a ∷ []) e = (a, refl)
+one_of (a ∷ b ∷ t) e = absurd (omega (arith, e))
+
+-- a tuple of a set of one column has one number
+pub member_one : (set : TupleList) (t : List ℕ) → IsColumn set → In t set → (a : ℕ) × (t ≡ a ∷ [])
+member_one set t is h = one_of t (All-contains (λ (u : List ℕ). length u ≡ set.arity) set.tuples t is.0.columns h ∙ is.1)
+
+kind_back : (sets : AtomSets) (k : ℕ) (t : List ℕ) → InKinds sets (k ∷ []) t → In t (set_at sets k)
+kind_back sets k [] h = absurd h
+kind_back sets k (a ∷ []) h = h.0
+kind_back sets k (a ∷ b ∷ t) h = absurd h.1
 
 -- the tuples of one column of a kind
-pub kind_just : (spans : AtomRanges) (k : ℕ) (span : AtomRange) (set : TupleList) → span ≡ span_at spans k → HasJust set 1 (λ t. (a : ℕ) × InSpan span a × (t ≡ a ∷ [])) → HasJust set 1 (InKinds spans (k ∷ []))
-kind_just spans k span set e made =
-    let is : HasJust set 1 (λ t. (a : ℕ) × InSpan (span_at spans k) a × (t ≡ a ∷ [])) = subst (λ (s : AtomRange). HasJust set 1 (λ t. (a : ℕ) × InSpan s a × (t ≡ a ∷ []))) e made in
-    record {
-      columns = is.columns;
+pub kind_of_set : (sets : AtomSets) (k : ℕ) (found : TupleList) → AreColumns sets → found ≡ set_at sets k → HasJust found 1 (InKinds sets (k ∷ []))
+kind_of_set sets k found columns e =
+    subst (λ (set : TupleList). HasJust set 1 (InKinds sets (k ∷ []))) (sym e) (record {
+      columns = (columns k).1;
       just = λ t. (
-        (λ h. let f = (is.just t).0 h in subst (InKinds spans (k ∷ [])) (sym f.2) (f.1, tt)),
-        (λ h. (is.just t).1 (one_kind spans k t h)),
+        (λ h.
+            let f = member_one (set_at sets k) t (columns k) h in
+            subst (InKinds sets (k ∷ [])) (sym f.1) (subst (λ (u : List ℕ). In u (set_at sets k)) f.1 h, tt)),
+        (λ h. kind_back sets k t h),
       );
-    }
+    })
 
-split_kinds : (spans : AtomRanges) (ks : List ℕ) (k : ℕ) (t : List ℕ) → InKinds spans (ks ++ k ∷ []) t → (s u : List ℕ) × InKinds spans ks s × InKinds spans (k ∷ []) u × (t ≡ s ++ u)
-split_kinds spans [] k t h = ([], t, tt, h, refl)
-split_kinds spans (j ∷ ks) k [] h = absurd h
-split_kinds spans (j ∷ ks) k (a ∷ t) h =
-    let rest = split_kinds spans ks k t h.1 in
+pub kind_just : (sets : AtomSets) (k : ℕ) (found set : TupleList) → AreColumns sets → found ≡ set_at sets k → set ≡ found → HasJust set 1 (InKinds sets (k ∷ []))
+kind_just sets k found set columns e same = kind_of_set sets k set columns (same ∙ e)
+
+split_kinds : (sets : AtomSets) (ks : List ℕ) (k : ℕ) (t : List ℕ) → InKinds sets (ks ++ k ∷ []) t → (s u : List ℕ) × InKinds sets ks s × InKinds sets (k ∷ []) u × (t ≡ s ++ u)
+split_kinds sets [] k t h = ([], t, tt, h, refl)
+split_kinds sets (j ∷ ks) k [] h = absurd h
+split_kinds sets (j ∷ ks) k (a ∷ t) h =
+    let rest = split_kinds sets ks k t h.1 in
     (a ∷ rest.0, rest.1, (h.0, rest.2), rest.3, ap (λ (u : List ℕ). a ∷ u) rest.4)
 
-join_kinds : (spans : AtomRanges) (ks : List ℕ) (k : ℕ) (s u : List ℕ) → InKinds spans ks s → InKinds spans (k ∷ []) u → InKinds spans (ks ++ k ∷ []) (s ++ u)
-join_kinds spans [] k [] u h g = g
-join_kinds spans [] k (a ∷ s) u h g = absurd h
-join_kinds spans (j ∷ ks) k [] u h g = absurd h
-join_kinds spans (j ∷ ks) k (a ∷ s) u h g = (h.0, join_kinds spans ks k s u h.1 g)
+join_kinds : (sets : AtomSets) (ks : List ℕ) (k : ℕ) (s u : List ℕ) → InKinds sets ks s → InKinds sets (k ∷ []) u → InKinds sets (ks ++ k ∷ []) (s ++ u)
+join_kinds sets [] k [] u h g = g
+join_kinds sets [] k (a ∷ s) u h g = absurd h
+join_kinds sets (j ∷ ks) k [] u h g = absurd h
+join_kinds sets (j ∷ ks) k (a ∷ s) u h g = (h.0, join_kinds sets ks k s u h.1 g)
 
 -- one column more
-pub kinds_more : (spans : AtomRanges) (row : List ℕ) (n k : ℕ) (old column new : TupleList) → n < length row → k ≡ slice_index row n → HasJust old n (InKinds spans (take n row)) → HasJust column 1 (InKinds spans (k ∷ [])) → HasJust new (old.arity + column.arity) (IsPaired old column) → HasJust new (n + 1) (InKinds spans (take (n + 1) row))
-kinds_more spans row n k old column new lt is was one paired =
+pub kinds_more : (sets : AtomSets) (row : List ℕ) (n k : ℕ) (old column new : TupleList) → n < length row → k ≡ slice_index row n → HasJust old n (InKinds sets (take n row)) → HasJust column 1 (InKinds sets (k ∷ [])) → HasJust new (old.arity + column.arity) (IsPaired old column) → HasJust new (n + 1) (InKinds sets (take (n + 1) row))
+kinds_more sets row n k old column new lt is was one paired =
     let longer : take (n + 1) row ≡ take n row ++ k ∷ [] = take_more row n 0 lt ∙ ap (λ (c : ℕ). take n row ++ c ∷ []) (sym is) in
     let first = was.columns in
     let second = one.columns in
@@ -96,52 +110,52 @@ kinds_more spans row n k old column new lt is was one paired =
       just = λ t. (
         (λ h.
             let f = (paired.just t).0 h in
-            let whole : InKinds spans (take n row ++ k ∷ []) (f.0 ++ f.1) = join_kinds spans (take n row) k f.0 f.1 ((was.just f.0).0 f.2) ((one.just f.1).0 f.3) in
-            subst (λ (ks : List ℕ). InKinds spans ks t) (sym longer) (subst (InKinds spans (take n row ++ k ∷ [])) (sym f.4) whole)),
+            let whole : InKinds sets (take n row ++ k ∷ []) (f.0 ++ f.1) = join_kinds sets (take n row) k f.0 f.1 ((was.just f.0).0 f.2) ((one.just f.1).0 f.3) in
+            subst (λ (ks : List ℕ). InKinds sets ks t) (sym longer) (subst (InKinds sets (take n row ++ k ∷ [])) (sym f.4) whole)),
         (λ h.
-            let f = split_kinds spans (take n row) k t (subst (λ (ks : List ℕ). InKinds spans ks t) longer h) in
+            let f = split_kinds sets (take n row) k t (subst (λ (ks : List ℕ). InKinds sets ks t) longer h) in
             (paired.just t).1 (f.0, f.1, (was.just f.0).1 f.2, (one.just f.1).1 f.3, f.4)),
       );
     }
 
-pub first_kind : (spans : AtomRanges) (row : List ℕ) (k : ℕ) (set : TupleList) → 1 ≤ length row → k ≡ slice_index row 0 → HasJust set 1 (InKinds spans (k ∷ [])) → HasJust set 1 (InKinds spans (take 1 row))
-first_kind spans [] k set le e is = absurd (omega arith)
-first_kind spans (j ∷ []) k set le e is = subst (λ (n : ℕ). HasJust set 1 (InKinds spans (n ∷ []))) e is
-first_kind spans (j ∷ i ∷ row) k set le e is = subst (λ (n : ℕ). HasJust set 1 (InKinds spans (n ∷ []))) e is
+pub first_kind : (sets : AtomSets) (row : List ℕ) (k : ℕ) (set : TupleList) → 1 ≤ length row → k ≡ slice_index row 0 → HasJust set 1 (InKinds sets (k ∷ [])) → HasJust set 1 (InKinds sets (take 1 row))
+first_kind sets [] k set le e is = absurd (omega arith)
+first_kind sets (j ∷ []) k set le e is = subst (λ (n : ℕ). HasJust set 1 (InKinds sets (n ∷ []))) e is
+first_kind sets (j ∷ i ∷ row) k set le e is = subst (λ (n : ℕ). HasJust set 1 (InKinds sets (n ∷ []))) e is
 
-pub whole_row : (spans : AtomRanges) (row : List ℕ) (n : ℕ) (set : TupleList) → length row ≤ n → n ≤ length row → HasJust set n (InKinds spans (take n row)) → HasJust set (length row) (InKinds spans row)
-whole_row spans row n set low high is =
+pub whole_row : (sets : AtomSets) (row : List ℕ) (n : ℕ) (set : TupleList) → length row ≤ n → n ≤ length row → HasJust set n (InKinds sets (take n row)) → HasJust set (length row) (InKinds sets row)
+whole_row sets row n set low high is =
     let same : n ≡ length row = omega (arith, low, high) in
-    subst (λ (m : ℕ). HasJust set m (InKinds spans row)) same (subst (λ (ks : List ℕ). HasJust set n (InKinds spans ks)) (take_all row n low) is)
+    subst (λ (m : ℕ). HasJust set m (InKinds sets row)) same (subst (λ (ks : List ℕ). HasJust set n (InKinds sets ks)) (take_all row n low) is)
 
 -- ---- row by row
 
-pub rows_none : (spans : AtomRanges) (arity : ℕ) (rows : List (List ℕ)) (set : TupleList) → length rows ≡ 0 → set ≡ record { arity = arity; tuples = [] } → HasJust set arity (InRows spans rows)
-rows_none spans arity [] set none e = subst (λ (s : TupleList). HasJust s arity (InRows spans [])) (sym e) (record {
+pub rows_none : (sets : AtomSets) (arity : ℕ) (rows : List (List ℕ)) (set : TupleList) → length rows ≡ 0 → set ≡ record { arity = arity; tuples = [] } → HasJust set arity (InRows sets rows)
+rows_none sets arity [] set none e = subst (λ (s : TupleList). HasJust s arity (InRows sets [])) (sym e) (record {
   columns = refl;
   just = λ t. ((λ h. absurd (no_members t h)), (λ h. absurd (no_members h.0 h.1)));
 })
-rows_none spans arity (row ∷ rows) set none e = absurd (omega (arith, none))
+rows_none sets arity (row ∷ rows) set none e = absurd (omega (arith, none))
 
-only_row : (spans : AtomRanges) (row t : List ℕ) → InRows spans (row ∷ []) t → InKinds spans row t
-only_row spans row t h = elim (cons_cases row [] h.0 h.1) [ inl is ↦ subst (λ (ks : List ℕ). InKinds spans ks t) is h.2 | inr none ↦ absurd (no_members h.0 none) ]
+only_row : (sets : AtomSets) (row t : List ℕ) → InRows sets (row ∷ []) t → InKinds sets row t
+only_row sets row t h = elim (cons_cases row [] h.0 h.1) [ inl is ↦ subst (λ (ks : List ℕ). InKinds sets ks t) is h.2 | inr none ↦ absurd (no_members h.0 none) ]
 
-pub rows_one : (spans : AtomRanges) (arity : ℕ) (rows : List (List ℕ)) (row : List ℕ) (set : TupleList) → length rows ≡ 1 → row ≡ get_or rows 0 row → length row ≡ arity → HasJust set (length row) (InKinds spans row) → HasJust set arity (InRows spans rows)
-rows_one spans arity [] row set one e columns is = absurd (omega (arith, one))
-rows_one spans arity (r ∷ []) row set one e columns is =
+pub rows_one : (sets : AtomSets) (arity : ℕ) (rows : List (List ℕ)) (row : List ℕ) (set : TupleList) → length rows ≡ 1 → row ≡ get_or rows 0 row → length row ≡ arity → HasJust set (length row) (InKinds sets row) → HasJust set arity (InRows sets rows)
+rows_one sets arity [] row set one e columns is = absurd (omega (arith, one))
+rows_one sets arity (r ∷ []) row set one e columns is =
     let same : row ≡ r = e in
-    subst (λ (n : ℕ). HasJust set n (InRows spans (r ∷ []))) columns (record {
+    subst (λ (n : ℕ). HasJust set n (InRows sets (r ∷ []))) columns (record {
       columns = is.columns;
       just = λ t. (
-        (λ h. (r, cons_here r [] r refl, subst (λ (ks : List ℕ). InKinds spans ks t) same ((is.just t).0 h))),
-        (λ h. (is.just t).1 (subst (λ (ks : List ℕ). InKinds spans ks t) (sym same) (only_row spans r t h))),
+        (λ h. (r, cons_here r [] r refl, subst (λ (ks : List ℕ). InKinds sets ks t) same ((is.just t).0 h))),
+        (λ h. (is.just t).1 (subst (λ (ks : List ℕ). InKinds sets ks t) (sym same) (only_row sets r t h))),
       );
     })
-rows_one spans arity (r ∷ q ∷ rows) row set one e columns is = absurd (omega (arith, one))
+rows_one sets arity (r ∷ q ∷ rows) row set one e columns is = absurd (omega (arith, one))
 
-pub rows_both : (spans : AtomRanges) (arity : ℕ) (rows left right : List (List ℕ)) (a b set : TupleList) → left ++ right ≡ rows → HasJust a arity (InRows spans left) → HasJust b arity (InRows spans right) → HasJust set a.arity (λ t. In t a ⊎ In t b) → HasJust set arity (InRows spans rows)
-rows_both spans arity rows left right a b set e first second both =
-    subst (λ (rs : List (List ℕ)). HasJust set arity (InRows spans rs)) e (record {
+pub rows_both : (sets : AtomSets) (arity : ℕ) (rows left right : List (List ℕ)) (a b set : TupleList) → left ++ right ≡ rows → HasJust a arity (InRows sets left) → HasJust b arity (InRows sets right) → HasJust set a.arity (λ t. In t a ⊎ In t b) → HasJust set arity (InRows sets rows)
+rows_both sets arity rows left right a b set e first second both =
+    subst (λ (rs : List (List ℕ)). HasJust set arity (InRows sets rs)) e (record {
       columns = both.columns ∙ first.columns;
       just = λ t. (
         (λ h. elim ((both.just t).0 h) [
@@ -166,37 +180,37 @@ row_columns arity k rows row lt e all = ap length e ∙ all k row lt
 
 -- ---- rows of one column
 
-pub row_holds_just : (spans : AtomRanges) (row : List ℕ) (span : AtomRange) (b : Bool) (a : ℕ) → length row ≡ 1 → span ≡ span_at spans (slice_index row 0) → (IsTrue b ↔ InSpan span a) → IsTrue b ↔ InKinds spans row (a ∷ [])
-row_holds_just spans [] span b a one e is = absurd (omega (arith, one))
-row_holds_just spans (k ∷ []) span b a one e is =
-    let its : IsTrue b ↔ InSpan (span_at spans k) a = subst (λ (s : AtomRange). IsTrue b ↔ InSpan s a) e is in
-    ((λ h. (its.0 h, tt)), (λ h. its.1 h.0))
-row_holds_just spans (k ∷ j ∷ row) span b a one e is = absurd (omega (arith, one))
+pub row_holds_just : (sets : AtomSets) (row t : List ℕ) (set : TupleList) (b : Bool) → AreColumns sets → length row ≡ 1 → set ≡ set_at sets (slice_index row 0) → (IsTrue b ↔ In t set) → IsTrue b ↔ InKinds sets row t
+row_holds_just sets [] t set b columns one e its = absurd (omega (arith, one))
+row_holds_just sets (k ∷ []) t set b columns one e its =
+    let is = (kind_of_set sets k set columns e).just t in
+    ((λ h. is.0 (its.0 h)), (λ h. its.1 (is.1 h)))
+row_holds_just sets (k ∷ j ∷ row) t set b columns one e its = absurd (omega (arith, one))
 
--- none of the first rows has the number
-abbrev pub HoldsNone : AtomRanges → List (List ℕ) → ℕ → Type 0
-HoldsNone spans rows a = ¬ (InRows spans rows (a ∷ []))
+-- none of the first rows has the tuple
+abbrev pub HoldsNone : AtomSets → List (List ℕ) → List ℕ → Type 0
+HoldsNone sets rows t = ¬ (InRows sets rows t)
 
-pub holds_none : (spans : AtomRanges) (rows : List (List ℕ)) (a : ℕ) → HoldsNone spans (take 0 rows) a
-holds_none spans [] a = λ h. no_members h.0 h.1
-holds_none spans (row ∷ rows) a = λ h. no_members h.0 h.1
+pub holds_none : (sets : AtomSets) (rows : List (List ℕ)) (t : List ℕ) → HoldsNone sets (take 0 rows) t
+holds_none sets [] t = λ h. no_members h.0 h.1
+holds_none sets (row ∷ rows) t = λ h. no_members h.0 h.1
 
-pub holds_one : (spans : AtomRanges) (rows : List (List ℕ)) (k : ℕ) (row : List ℕ) (a : ℕ) → k < length rows → row ≡ slice_index_or rows k row → InKinds spans row (a ∷ []) → InRows spans rows (a ∷ [])
-holds_one spans rows k row a lt e is = (row, subst (λ (r : List ℕ). Contains rows r) (sym e) (Contains-get_or rows k row lt), is)
+pub holds_one : (sets : AtomSets) (rows : List (List ℕ)) (k : ℕ) (row t : List ℕ) → k < length rows → row ≡ slice_index_or rows k row → InKinds sets row t → InRows sets rows t
+holds_one sets rows k row t lt e is = (row, subst (λ (r : List ℕ). Contains rows r) (sym e) (Contains-get_or rows k row lt), is)
 
-pub holds_yes : (spans : AtomRanges) (rows : List (List ℕ)) (k : ℕ) (row : List ℕ) (a : ℕ) (b : Bool) → k < length rows → row ≡ get_or rows k row → b ≡ true → IsTrue b ↔ InKinds spans row (a ∷ []) → IsTrue true ↔ InRows spans rows (a ∷ [])
-holds_yes spans rows k row a b lt e on its = ((λ h. holds_one spans rows k row a lt e (its.0 on)), (λ h. refl))
+pub holds_yes : (sets : AtomSets) (rows : List (List ℕ)) (k : ℕ) (row t : List ℕ) (b : Bool) → k < length rows → row ≡ get_or rows k row → b ≡ true → IsTrue b ↔ InKinds sets row t → IsTrue true ↔ InRows sets rows t
+holds_yes sets rows k row t b lt e on its = ((λ h. holds_one sets rows k row t lt e (its.0 on)), (λ h. refl))
 
-pub holds_more : (spans : AtomRanges) (rows : List (List ℕ)) (k : ℕ) (row : List ℕ) (a : ℕ) (b : Bool) → k < length rows → row ≡ get_or rows k row → b ≡ false → IsTrue b ↔ InKinds spans row (a ∷ []) → HoldsNone spans (take k rows) a → HoldsNone spans (take (k + 1) rows) a
-holds_more spans rows k row a b lt e off its was =
+pub holds_more : (sets : AtomSets) (rows : List (List ℕ)) (k : ℕ) (row t : List ℕ) (b : Bool) → k < length rows → row ≡ get_or rows k row → b ≡ false → IsTrue b ↔ InKinds sets row t → HoldsNone sets (take k rows) t → HoldsNone sets (take (k + 1) rows) t
+holds_more sets rows k row t b lt e off its was =
     let not = iff_false its off in
     let longer : take (k + 1) rows ≡ take k rows ++ row ∷ [] = take_more rows k row lt ∙ ap (λ (c : List ℕ). take k rows ++ c ∷ []) (sym e) in
-    subst (λ (rs : List (List ℕ)). HoldsNone spans rs a) (sym longer) (λ h. elim (Contains-push_cases (take k rows) row h.0 h.1) [
+    subst (λ (rs : List (List ℕ)). HoldsNone sets rs t) (sym longer) (λ h. elim (Contains-push_cases (take k rows) row h.0 h.1) [
       | inl before ↦ was (h.0, before, h.2)
-      | inr is ↦ not (subst (λ (r : List ℕ). InKinds spans r (a ∷ [])) (sym is) h.2)
+      | inr is ↦ not (subst (λ (r : List ℕ). InKinds sets r t) (sym is) h.2)
     ])
 
-pub holds_not : (spans : AtomRanges) (rows : List (List ℕ)) (k a : ℕ) → length rows ≤ k → HoldsNone spans (take k rows) a → IsTrue false ↔ InRows spans rows (a ∷ [])
-holds_not spans rows k a le was =
-    let none : HoldsNone spans rows a = subst (λ (rs : List (List ℕ)). HoldsNone spans rs a) (take_all rows k le) was in
+pub holds_not : (sets : AtomSets) (rows : List (List ℕ)) (k : ℕ) (t : List ℕ) → length rows ≤ k → HoldsNone sets (take k rows) t → IsTrue false ↔ InRows sets rows t
+holds_not sets rows k t le was =
+    let none : HoldsNone sets rows t = subst (λ (rs : List (List ℕ)). HoldsNone sets rs t) (take_all rows k le) was in
     ((λ h. absurd (false≢true h)), (λ h. absurd (none h)))

@@ -14,7 +14,7 @@ use Rattle.bound_uppers.specs.Order.{with_owner, standings, order_in, one_at}
 use Rattle.bound_uppers.proofs.Weighing.{sum_more, before_place_cons}
 
 -- lists that grow
-range_at : (a n : ℕ) → range_with_len a (suc n) ≡ range_with_len a n ++ (a + n) ∷ []
+pub range_at : (a n : ℕ) → range_with_len a (suc n) ≡ range_with_len a n ++ (a + n) ∷ []
 range_at a zero = let same : a ≡ a + 0 = omega arith in ap (λ (m : ℕ). m ∷ []) same
 range_at a (suc n) =
     let same : a + 1 + n ≡ a + suc n = omega arith in

@@ -4,7 +4,7 @@ use Rattle.std.specs.List.{flat_map}
 use Rattle.std.proofs.lemmas.Bool.{cases_lt, false≢true, iff_false}
 use Rattle.std.proofs.lemmas.List.{length-map}
 use Rattle.std.proofs.lemmas.List.Concat.{flat_map-cons}
-use Rattle.std.proofs.lemmas.List.Elements.{All-nil, All-push, All-more, All-contains, Contains-get_or, Contains-append_cases}
+use Rattle.std.proofs.lemmas.List.Elements.{All-nil, All-head, All-push, All-more, All-contains, Contains-get_or, Contains-append_cases}
 use Rattle.std.proofs.lemmas.Option.{get_or_from_slice_get, slice_get_within}
 use Rattle.core_tuples.specs.Sets.{TupleList, HasJust}
 use Rattle.core_tuples.specs.Order.{cons_cases, cons_here, cons_later, no_members, take_all}
@@ -21,7 +21,10 @@ use Rattle.bound_uppers.specs.declared.table.Bound.{Bound}
 use Rattle.bound_uppers.specs.declared.numbers.AtomRange.{AtomRange}
 use Rattle.bound_uppers.specs.declared.numbers.AtomRanges.{AtomRanges}
 use Rattle.bound_uppers.specs.declared.uppers.Sketch.{Sketch}
-use Rattle.bound_uppers.specs.Kinds.{kind_at, row_kinds_of, rows_kinds_of, sig_kinds_of, HasRows, InSpan, InKinds, InRows, FitSpans}
+use Rattle.bound_uppers.specs.Kinds.{kind_at, row_kinds_of, rows_kinds_of, sig_kinds_of, HasRows, InSpan}
+use Rattle.bound_uppers.specs.declared.given.AtomSets.{AtomSets}
+use Rattle.bound_uppers.specs.AtomSets.{set_at, InKinds, InRows, AreColumns}
+use Rattle.core_tuples.specs.Index.{IsNumber}
 use Rattle.bound_uppers.specs.Sketches.{IsRightSketch, InSketch, IsSigSketch, MayField, AreSigSketches, AreFieldSketches, AreSketches, IsBoundOf, HasUppers}
 use Rattle.bound_uppers.specs.Table.{is_fixed}
 use Rattle.bound_uppers.proofs.Sizes.{map_more, map_end}
@@ -50,7 +53,7 @@ get_end : {X : Type 0} (xs : List X) (x : X) → slice_get (xs ++ x ∷ []) (len
 get_end [] x = refl
 get_end (y ∷ xs) x = get_end xs x
 
-get_early : {X : Type 0} (xs : List X) (x : X) (k : ℕ) → k < length xs → slice_get (xs ++ x ∷ []) k ≡ slice_get xs k
+pub get_early : {X : Type 0} (xs : List X) (x : X) (k : ℕ) → k < length xs → slice_get (xs ++ x ∷ []) k ≡ slice_get xs k
 get_early [] x k lt = absurd (omega arith)
 get_early (y ∷ xs) x zero lt = refl
 get_early (y ∷ xs) x (suc k) lt = get_early xs x k (omega arith)
@@ -220,8 +223,8 @@ sketches_are model ups spans sigs fields first all e f fixed were right theirs k
 just_one : (atom a : ℕ) → atom ≤ a → a < atom + 1 → a ≡ atom
 just_one atom a low high = omega (arith, low, high)
 
-pub atom_just : (spans : AtomRanges) (rows : List (List ℕ)) (atom : ℕ) (span : AtomRange) (set : TupleList) → span ≡ record { first = atom; count = 1 } → (b : Bool) → b ≡ true → IsTrue b ↔ InRows spans rows (atom ∷ []) → HasJust set 1 (λ t. (a : ℕ) × InSpan span a × (t ≡ a ∷ [])) → HasJust set 1 (λ t. InRows spans rows t × (t ≡ atom ∷ []))
-atom_just spans rows atom span set e b on its made =
+pub atom_just : (sets : AtomSets) (rows : List (List ℕ)) (atom : ℕ) (span : AtomRange) (set : TupleList) → span ≡ record { first = atom; count = 1 } → (b : Bool) → b ≡ true → IsTrue b ↔ InRows sets rows (atom ∷ []) → HasJust set 1 (λ t. (a : ℕ) × InSpan span a × (t ≡ a ∷ [])) → HasJust set 1 (λ t. InRows sets rows t × (t ≡ atom ∷ []))
+atom_just sets rows atom span set e b on its made =
     let among = its.0 on in
     let is = subst (λ (s : AtomRange). HasJust set 1 (λ t. (a : ℕ) × InSpan s a × (t ≡ a ∷ []))) e made in
     record {
@@ -230,26 +233,26 @@ atom_just spans rows atom span set e b on its made =
         (λ h.
             let f = (is.just t).0 h in
             let same : t ≡ atom ∷ [] = f.2 ∙ ap (λ (n : ℕ). n ∷ []) (just_one atom f.0 f.1.0 f.1.1) in
-            (subst (λ (u : List ℕ). InRows spans rows u) (sym same) among, same)),
+            (subst (λ (u : List ℕ). InRows sets rows u) (sym same) among, same)),
         (λ h. (is.just t).1 (atom, (omega arith, omega arith), h.1)),
       );
     }
 
-pub atom_none : (spans : AtomRanges) (rows : List (List ℕ)) (atom : ℕ) (set : TupleList) → set ≡ record { arity = 1; tuples = [] } → (¬ (InRows spans rows (atom ∷ []))) → HasJust set 1 (λ t. InRows spans rows t × (t ≡ atom ∷ []))
-atom_none spans rows atom set e not = subst (λ (s : TupleList). HasJust s 1 (λ t. InRows spans rows t × (t ≡ atom ∷ []))) (sym e) (record {
+pub atom_none : (sets : AtomSets) (rows : List (List ℕ)) (atom : ℕ) (set : TupleList) → set ≡ record { arity = 1; tuples = [] } → (¬ (InRows sets rows (atom ∷ []))) → HasJust set 1 (λ t. InRows sets rows t × (t ≡ atom ∷ []))
+atom_none sets rows atom set e not = subst (λ (s : TupleList). HasJust s 1 (λ t. InRows sets rows t × (t ≡ atom ∷ []))) (sym e) (record {
   columns = refl;
-  just = λ t. ((λ h. absurd (no_members t h)), (λ h. absurd (not (subst (λ (u : List ℕ). InRows spans rows u) h.1 h.0))));
+  just = λ t. ((λ h. absurd (no_members t h)), (λ h. absurd (not (subst (λ (u : List ℕ). InRows sets rows u) h.1 h.0))));
 })
 
-first_fits : (spans : AtomRanges) (row : List ℕ) (a : ℕ) → FitSpans spans → InKinds spans row (a ∷ []) → a < 16384
-first_fits spans [] a fit h = absurd h
-first_fits spans (k ∷ ks) a fit h = let most = fit k in let high = h.0.1 in omega (arith, most, high)
+first_fits : (sets : AtomSets) (row : List ℕ) (a : ℕ) → AreColumns sets → InKinds sets row (a ∷ []) → a < 16384
+first_fits sets [] a columns h = absurd h
+first_fits sets (k ∷ ks) a columns h = All-head IsNumber a [] (All-contains (λ (t : List ℕ). All IsNumber t) (set_at sets k).tuples (a ∷ []) (columns k).0.numbers h.0)
 
-pub atom_off : (spans : AtomRanges) (rows : List (List ℕ)) (atom : ℕ) (set : TupleList) (b : Bool) → set ≡ record { arity = 1; tuples = [] } → b ≡ false → IsTrue b ↔ InRows spans rows (atom ∷ []) → HasJust set 1 (λ t. InRows spans rows t × (t ≡ atom ∷ []))
-atom_off spans rows atom set b e off its = atom_none spans rows atom set e (iff_false its off)
+pub atom_off : (sets : AtomSets) (rows : List (List ℕ)) (atom : ℕ) (set : TupleList) (b : Bool) → set ≡ record { arity = 1; tuples = [] } → b ≡ false → IsTrue b ↔ InRows sets rows (atom ∷ []) → HasJust set 1 (λ t. InRows sets rows t × (t ≡ atom ∷ []))
+atom_off sets rows atom set b e off its = atom_none sets rows atom set e (iff_false its off)
 
-pub atom_far : (spans : AtomRanges) (rows : List (List ℕ)) (atom : ℕ) (set : TupleList) → FitSpans spans → 16384 ≤ atom → set ≡ record { arity = 1; tuples = [] } → HasJust set 1 (λ t. InRows spans rows t × (t ≡ atom ∷ []))
-atom_far spans rows atom set fit far e = atom_none spans rows atom set e (λ h. let less = first_fits spans h.0 atom fit h.2 in absurd (omega (arith, less, far)))
+pub atom_far : (sets : AtomSets) (rows : List (List ℕ)) (atom : ℕ) (set : TupleList) → AreColumns sets → 16384 ≤ atom → set ≡ record { arity = 1; tuples = [] } → HasJust set 1 (λ t. InRows sets rows t × (t ≡ atom ∷ []))
+atom_far sets rows atom set columns far e = atom_none sets rows atom set e (λ h. let less = first_fits sets h.0 atom columns h.2 in absurd (omega (arith, less, far)))
 
 atom_is : (o : Option ℕ) (atom : ℕ) (P : ℕ → Type 0) → o ≡ Some atom → IfSome o P ↔ P atom
 atom_is None atom P e = absurd cc
@@ -262,8 +265,8 @@ atom_lacks (Some a) P e = absurd cc
 pub single : (k : Sketch) (atom : ℕ) → IsRightSketch k → k.atom ≡ Some atom → All (λ r. length r ≡ 1) k.rows.items
 single k atom right e = subst (λ (n : ℕ). All (λ (r : List ℕ). length r ≡ n) k.rows.items) ((atom_is k.atom atom (λ a. k.arity ≡ 1) e).0 right.atom) right.rows
 
-pub by_atom : (spans : AtomRanges) (k : Sketch) (atom : ℕ) (set : TupleList) → IsRightSketch k → k.atom ≡ Some atom → HasJust set 1 (λ t. InRows spans k.rows.items t × (t ≡ atom ∷ [])) → HasJust set k.arity (InSketch spans k)
-by_atom spans k atom set right e is =
+pub by_atom : (sets : AtomSets) (k : Sketch) (atom : ℕ) (set : TupleList) → IsRightSketch k → k.atom ≡ Some atom → HasJust set 1 (λ t. InRows sets k.rows.items t × (t ≡ atom ∷ [])) → HasJust set k.arity (InSketch sets k)
+by_atom sets k atom set right e is =
     let one : k.arity ≡ 1 = (atom_is k.atom atom (λ a. k.arity ≡ 1) e).0 right.atom in
     record {
       columns = is.columns ∙ sym one;
@@ -274,8 +277,8 @@ by_atom spans k atom set right e is =
           );
     }
 
-pub by_rows : (spans : AtomRanges) (k : Sketch) (set : TupleList) → k.atom ≡ None → HasJust set k.arity (InRows spans k.rows.items) → HasJust set k.arity (InSketch spans k)
-by_rows spans k set e is = record {
+pub by_rows : (sets : AtomSets) (k : Sketch) (set : TupleList) → k.atom ≡ None → HasJust set k.arity (InRows sets k.rows.items) → HasJust set k.arity (InSketch sets k)
+by_rows sets k set e is = record {
   columns = is.columns;
   just = λ t. ((λ h. ((is.just t).0 h, atom_lacks k.atom (λ a. t ≡ a ∷ []) e)), (λ h. (is.just t).1 h.0));
 }
@@ -286,42 +289,42 @@ pub right_at : (all : List Sketch) (n : ℕ) (k : Sketch) → All IsRightSketch 
 right_at all n k right lt e = subst (λ (s : Sketch). IsRightSketch s) (sym e) (right n k lt)
 
 -- the bounds of the first sketches
-abbrev pub HasUppersTo : AtomRanges → List Sketch → ℕ → List Bound → Type 0
-HasUppersTo spans all n relations = (r : ℕ) (k : Sketch) → r < n → slice_get all r ≡ Some k → (b : Bound) × (slice_get relations r ≡ Some b) × HasJust b.upper k.arity (InSketch spans k)
+abbrev pub HasUppersTo : AtomSets → List Sketch → ℕ → List Bound → Type 0
+HasUppersTo sets all n relations = (r : ℕ) (k : Sketch) → r < n → slice_get all r ≡ Some k → (b : Bound) × (slice_get relations r ≡ Some b) × HasJust b.upper k.arity (InSketch sets k)
 
-pub uppers_none : (spans : AtomRanges) (all : List Sketch) → HasUppersTo spans all 0 []
-uppers_none spans all r k lt at = absurd (omega arith)
+pub uppers_none : (sets : AtomSets) (all : List Sketch) → HasUppersTo sets all 0 []
+uppers_none sets all r k lt at = absurd (omega arith)
 
 -- the bounds of the first relations
-pub record AreBoundsTo (spans : AtomRanges) (all : List Sketch) (places : List ℕ) (n : ℕ) (list : List Bound) : Type 0 where
+pub record AreBoundsTo (sets : AtomSets) (all : List Sketch) (places : List ℕ) (n : ℕ) (list : List Bound) : Type 0 where
   pub count : length list ≡ n
   pub orders : map (λ (b : Bound). b.order) list ≡ take n places
   pub fixed : map (λ (b : Bound). b.fixed) list ≡ map (λ (s : Sketch). s.fixed) (take n all)
-  pub uppers : HasUppersTo spans all n list
+  pub uppers : HasUppersTo sets all n list
 
 take_none : {X : Type 0} (xs : List X) → take 0 xs ≡ []
 take_none [] = refl
 take_none (x ∷ xs) = refl
 
-pub bounds_none : (spans : AtomRanges) (all : List Sketch) (places : List ℕ) (list : List Bound) → list ≡ [] → AreBoundsTo spans all places 0 list
-bounds_none spans all places list e = subst (λ (bs : List Bound). AreBoundsTo spans all places 0 bs) (sym e) (record {
+pub bounds_none : (sets : AtomSets) (all : List Sketch) (places : List ℕ) (list : List Bound) → list ≡ [] → AreBoundsTo sets all places 0 list
+bounds_none sets all places list e = subst (λ (bs : List Bound). AreBoundsTo sets all places 0 bs) (sym e) (record {
   count = refl;
   orders = sym (take_none places);
   fixed = ap (λ (ks : List Sketch). map (λ (s : Sketch). s.fixed) ks) (sym (take_none all));
-  uppers = uppers_none spans all;
+  uppers = uppers_none sets all;
 })
 
-pub uppers_more : (spans : AtomRanges) (all : List Sketch) (n : ℕ) (k : Sketch) (b : Bound) (old new : List Bound) → k ≡ get_or all n k → length old ≡ n → HasUppersTo spans all n old → HasJust b.upper k.arity (InSketch spans k) → new ≡ old ++ b ∷ [] → HasUppersTo spans all (n + 1) new
-uppers_more spans all n k b old new is count was its e r c lt at = elim (last_or r n lt) [
+pub uppers_more : (sets : AtomSets) (all : List Sketch) (n : ℕ) (k : Sketch) (b : Bound) (old new : List Bound) → k ≡ get_or all n k → length old ≡ n → HasUppersTo sets all n old → HasJust b.upper k.arity (InSketch sets k) → new ≡ old ++ b ∷ [] → HasUppersTo sets all (n + 1) new
+uppers_more sets all n k b old new is count was its e r c lt at = elim (last_or r n lt) [
   | inl less ↦ let f = was r c less at in (f.0, get_kept old new b f.0 r e f.1, f.2)
   | inr same ↦
       let here : slice_get all n ≡ Some c = subst (λ (m : ℕ). slice_get all m ≡ Some c) same at in
       let it : k ≡ c = is ∙ get_or_from_slice_get all n c k here in
-      (b, subst (λ (m : ℕ). slice_get new m ≡ Some b) (sym same) (get_new old new b n e count), subst (λ (s : Sketch). HasJust b.upper s.arity (InSketch spans s)) it its)
+      (b, subst (λ (m : ℕ). slice_get new m ≡ Some b) (sym same) (get_new old new b n e count), subst (λ (s : Sketch). HasJust b.upper s.arity (InSketch sets s)) it its)
 ]
 
-pub bounds_more : (spans : AtomRanges) (all : List Sketch) (places : List ℕ) (n : ℕ) (b : Bound) (old new : List Bound) → n < length all → length places ≡ length all → b.order ≡ slice_index places n → ((k : Sketch) → slice_get all n ≡ Some k → IsBoundOf spans k b) → AreBoundsTo spans all places n old → new ≡ old ++ b ∷ [] → AreBoundsTo spans all places (n + 1) new
-bounds_more spans all places n b old new lt counted order its was e =
+pub bounds_more : (sets : AtomSets) (all : List Sketch) (places : List ℕ) (n : ℕ) (b : Bound) (old new : List Bound) → n < length all → length places ≡ length all → b.order ≡ slice_index places n → ((k : Sketch) → slice_get all n ≡ Some k → IsBoundOf sets k b) → AreBoundsTo sets all places n old → new ≡ old ++ b ∷ [] → AreBoundsTo sets all places (n + 1) new
+bounds_more sets all places n b old new lt counted order its was e =
     let k = some_at all n lt in
     let here : k.0 ≡ get_or all n k.0 = sym (get_or_from_slice_get all n k.0 k.0 k.1) in
     let is = its k.0 k.1 in
@@ -330,8 +333,8 @@ bounds_more spans all places n b old new lt counted order its was e =
       count = count_more old new b n was.count e;
       orders = ap (λ (bs : List Bound). map (λ (b : Bound). b.order) bs) e ∙ (map_end (λ (b : Bound). b.order) old b ∙ (ap (λ (os : List ℕ). os ++ b.order ∷ []) was.orders ∙ (ap (λ (o : ℕ). take n places ++ o ∷ []) order ∙ sym (take_next places n in_places))));
       fixed = maps_more (λ (b : Bound). b.fixed) (λ (s : Sketch). s.fixed) [] old new b all n k.0 lt here was.fixed is.fixed e;
-      uppers = uppers_more spans all n k.0 b old new here was.count was.uppers is.upper e;
+      uppers = uppers_more sets all n k.0 b old new here was.count was.uppers is.upper e;
     }
 
-pub uppers_all : (spans : AtomRanges) (all : List Sketch) (n : ℕ) (list : List Bound) → length all ≤ n → HasUppersTo spans all n list → HasUppers spans all list
-uppers_all spans all n list le was r k at = let within = slice_get_within all r k at in was r k (omega (arith, within, le)) at
+pub uppers_all : (sets : AtomSets) (all : List Sketch) (n : ℕ) (list : List Bound) → length all ≤ n → HasUppersTo sets all n list → HasUppers sets all list
+uppers_all sets all n list le was r k at = let within = slice_get_within all r k at in was r k (omega (arith, within, le)) at

@@ -22,12 +22,12 @@ moving_parent_at sigs s = by_sig None (λ d. if d.is_var then by_parent None (λ
 abbrev pub integers_kind : ℕ
 integers_kind = 4294967295
 
--- the kind of a column: of a sig the number of the top-level sig above it. There are fewer sigs
--- than the number before that of the integers
+-- the kind of a column: of a sig the number of a sig as which it stands, as the top-level sig above it.
+-- There are fewer sigs than the number before that of the integers
 abbrev pub sig_kind : ℕ → ℕ
 sig_kind top = if eqb top integers_kind then 4294967294 else top
 
--- the top-level sig above a sig, as it is kept for each sig of the model
+-- as which sig a sig stands, as it is kept for each sig of the model
 abbrev pub top_at : List ℕ → ℕ → ℕ
 top_at ups s = get_or ups s s
 
@@ -68,17 +68,6 @@ no_span = record { first = 0; count = 0 }
 abbrev pub span_at : AtomRanges → ℕ → AtomRange
 span_at spans kind = if eqb kind integers_kind then spans.integers else get_or spans.sigs.items kind no_span
 
--- the numbers of a tuple are in turn of these kinds
-abbrev pub InKinds : AtomRanges → List ℕ → List ℕ → Type 0
-InKinds spans [] [] = Unit {0}
-InKinds spans (k ∷ ks) (a ∷ t) = InSpan (span_at spans k) a × InKinds spans ks t
-InKinds spans [] (a ∷ t) = ⊥
-InKinds spans (k ∷ ks) [] = ⊥
-
--- they are of the kinds of one of the rows
-abbrev pub InRows : AtomRanges → List (List ℕ) → List ℕ → Type 0
-InRows spans rows t = (row : List ℕ) × Contains rows row × InKinds spans row t
-
 -- so many numbers from one on, as far as they are below a limit
 abbrev pub span_in : ℕ → ℕ → ℕ → AtomRange
 span_in limit first n = record { first = first; count = if nat_lt n (limit - first) then n else limit - first }
@@ -94,7 +83,3 @@ pub record HasSpans (scopes : Scopes) (spans : AtomRanges) : Type 0 where
   pub most : universe_size scopes ≤ 16384
   pub sigs : spans.sigs.items ≡ spans_from (universe_size scopes) 0 scopes.numbers
   pub integers : spans.integers ≡ record { first = atom_count scopes.numbers; count = 2 ^ scopes.bits }
-
--- no span goes beyond the numbers of a universe
-abbrev pub FitSpans : AtomRanges → Type 0
-FitSpans spans = (k : ℕ) → (span_at spans k).first + (span_at spans k).count ≤ 16384

@@ -9,7 +9,9 @@ use Rattle.core_tuples.specs.Sets.{HasJust}
 use Rattle.bound_uppers.specs.declared.table.Bound.{Bound}
 use Rattle.bound_uppers.specs.declared.numbers.AtomRanges.{AtomRanges}
 use Rattle.bound_uppers.specs.declared.uppers.Sketch.{Sketch}
-use Rattle.bound_uppers.specs.Kinds.{InRows, HasRows, rows_kinds_of, sig_kinds_of}
+use Rattle.bound_uppers.specs.Kinds.{HasRows, rows_kinds_of, sig_kinds_of}
+use Rattle.bound_uppers.specs.declared.given.AtomSets.{AtomSets}
+use Rattle.bound_uppers.specs.AtomSets.{InRows}
 
 -- where the numbers of a sig begin; behind all atoms where there is none
 abbrev pub first_in : AtomRanges → ℕ → ℕ
@@ -27,8 +29,8 @@ pub record IsRightSketch (k : Sketch) : Type 0 where
   pub atom : IfSome k.atom (λ a. k.arity ≡ 1)
 
 -- a tuple of one of its rows, and of its atom where it has one
-abbrev pub InSketch : AtomRanges → Sketch → List ℕ → Type 0
-InSketch spans k t = InRows spans k.rows.items t × IfSome k.atom (λ a. t ≡ a ∷ [])
+abbrev pub InSketch : AtomSets → Sketch → List ℕ → Type 0
+InSketch sets k t = InRows sets k.rows.items t × IfSome k.atom (λ a. t ≡ a ∷ [])
 
 -- the sketch of a sig, which has this number
 pub record IsSigSketch (sigs : List Sig) (ups : List ℕ) (spans : AtomRanges) (s : ℕ) (d : Sig) (k : Sketch) : Type 0 where
@@ -60,10 +62,10 @@ pub record AreSketches (model : Model) (ups : List ℕ) (spans : AtomRanges) (al
   pub fields : AreFieldSketches ups model.fields (length model.sigs) (length model.fields) all
 
 -- the bound of a sketch
-pub record IsBoundOf (spans : AtomRanges) (k : Sketch) (b : Bound) : Type 0 where
+pub record IsBoundOf (sets : AtomSets) (k : Sketch) (b : Bound) : Type 0 where
   pub fixed : b.fixed ≡ k.fixed
-  pub upper : HasJust b.upper k.arity (InSketch spans k)
+  pub upper : HasJust b.upper k.arity (InSketch sets k)
 
 -- the bound of each sketch has its tuples
-abbrev pub HasUppers : AtomRanges → List Sketch → List Bound → Type 0
-HasUppers spans all relations = (r : ℕ) (k : Sketch) → slice_get all r ≡ Some k → (b : Bound) × (slice_get relations r ≡ Some b) × HasJust b.upper k.arity (InSketch spans k)
+abbrev pub HasUppers : AtomSets → List Sketch → List Bound → Type 0
+HasUppers sets all relations = (r : ℕ) (k : Sketch) → slice_get all r ≡ Some k → (b : Bound) × (slice_get relations r ≡ Some b) × HasJust b.upper k.arity (InSketch sets k)

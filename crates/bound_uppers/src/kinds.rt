@@ -1,7 +1,7 @@
 //! Of which kinds the members of a relation are, column by column.
 //!
-//! A kind is the number of a top-level sig, or the greatest number for the integers. Kinds that
-//! differ share no member.
+//! A kind is the number of a sig, or the greatest number for the integers: by the top-level sigs
+//! that of a top-level sig, in the table that of the sig as which a sig stands there.
 
 ghost use Rattle.std.specs.Prelude.{◌≡◌, ◌↔◌, ◌∷◌, ◌++◌, [], ℕ, suc, List, Contains, IfOk, OnOk, IsTrue, Some, ◌<◌, slice_get, slice_index, length};
 ghost use Rattle.core_tree.specs.declared.model.Sig.{Sig};
@@ -19,15 +19,15 @@ use std::alloc::{AllocError, Global};
 /// The kind of the integers.
 pub const INTEGERS: u32 = u32::MAX;
 
-/// The kind of the members of a top-level sig.
+/// The kind of the members of a sig as which others stand.
 fn kind_of_top(top: u32) -> u32
     ensures { result ≡ sig_kind top }
 {
     if top == INTEGERS { INTEGERS - 1 } else { top }
 }
 
-/// The top-level sig above a sig, where those of all sigs are known.
-fn top_of(ups: &[u32], sig: u32) -> u32
+/// As which sig a sig stands, where this is known of all sigs, as the top-level sig above it.
+pub fn top_of(ups: &[u32], sig: u32) -> u32
     ensures { result ≡ top_at ups.now sig }
 {
     if (sig as usize) < ups.len() {

@@ -3,11 +3,13 @@
 #![tactic(auto)]
 
 pub mod decoding;
+pub mod given;
 pub mod kinds;
 pub mod laws;
 pub mod numbering;
 pub mod numbers;
 pub mod order;
+pub mod own;
 pub mod places;
 pub mod rows;
 pub mod shortening;

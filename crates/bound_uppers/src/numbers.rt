@@ -3,7 +3,7 @@
 ghost use Rattle.std.specs.Prelude.{◌≡◌, ◌+◌, ◌<◌, ◌≤◌, ◌^◌, IfOk, IfSome, Some, length, slice_get};
 ghost use Rattle.core_tree.specs.Columns.{or_zero};
 ghost use Rattle.core_meaning.specs.Kept.{atoms_of_sig, atom_count, universe_size};
-ghost use Rattle.bound_uppers.specs.Kinds.{span_in, spans_from, HasSpans, FitSpans};
+ghost use Rattle.bound_uppers.specs.Kinds.{span_in, spans_from, HasSpans};
 
 use core_meaning::{Scopes, SigScope};
 use std::alloc::{AllocError, Global};

@@ -9,7 +9,7 @@ use core_tree::{Sig, SigKind};
 use std::alloc::{AllocError, Global};
 
 /// The sig that a sig extends.
-fn parent_of(sigs: &[Sig], sig: u32) -> Option<u32>
+pub fn parent_of(sigs: &[Sig], sig: u32) -> Option<u32>
     ensures { result ≡ parent_at sigs.now sig }
 {
     match sigs.get(sig as usize) {

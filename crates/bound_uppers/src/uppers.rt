@@ -1,21 +1,26 @@
-//! The upper bounds of the relations of a model, from its types, literals and scopes.
+//! The upper bounds of the relations of a model, from its types, literals, scopes and own atoms.
 
 ghost use Rattle.std.specs.Prelude.{◌≡◌, ◌<◌, ◌≤◌, ◌+◌, ◌++◌, ◌∷◌, [], ◌↔◌, ℕ, All, map, IfOk, OnOk, IsTrue, length, slice_get, slice_index, Some};
 ghost use Rattle.core_tuples.specs.Sets.{HasJust};
 ghost use Rattle.core_tree.specs.declared.model.Sig.{Sig};
 ghost use Rattle.core_tree.specs.declared.model.Field.{Field};
 ghost use Rattle.core_tree.specs.Columns.{IsFew};
+ghost use Rattle.core_meaning.specs.Kept.{universe_size};
 ghost use Rattle.bound_uppers.specs.declared.table.Bound.{Bound};
 ghost use Rattle.bound_uppers.specs.declared.uppers.Sketch.{Sketch};
-ghost use Rattle.bound_uppers.specs.Kinds.{FitSpans, HasRows, InRows, rows_kinds_of};
+ghost use Rattle.bound_uppers.specs.Kinds.{HasRows, HasSpans, HasTops, rows_kinds_of};
+ghost use Rattle.bound_uppers.specs.AtomSets.{InRows, AreColumns};
 ghost use Rattle.bound_uppers.specs.Order.{order_of};
+ghost use Rattle.bound_uppers.specs.Own.{HasOrigins};
 ghost use Rattle.bound_uppers.specs.Sketches.{first_in, literal_in, IsRightSketch, InSketch, HasUppers, IsBoundOf, IsSigSketch, MayField, AreSigSketches, AreFieldSketches, AreSketches};
 ghost use Rattle.bound_uppers.specs.Table.{IsTable, is_fixed, are_fixed};
 ghost use Rattle.bound_uppers.specs.Uppers.{AreUppers};
 
+use crate::given::{AtomSets, are_tops, atom_sets};
 use crate::kinds::{sig_kinds, type_kinds};
 use crate::numbers::{AtomRange, AtomRanges, spans_of};
 use crate::order::orders;
+use crate::own::{constants_of, have_origins, table_standing};
 use crate::rows::{rows_hold, rows_set, rows_size, span_set};
 use crate::table::{Bound, BoundList, Bounds, BoundsFault};
 use crate::tops::tops;
@@ -228,26 +233,16 @@ fn sketches(
     Ok(all)
 }
 
-/// How many tuples the upper bound has.
-fn sketch_size(spans: &AtomRanges, sketch: &Sketch) -> u64
-    requires { IsRightSketch sketch.now }
-{
+/// How many tuples the rows of a relation have by the top-level sigs; one of a literal's sig.
+fn sketch_size(spans: &AtomRanges, sketch: &Sketch) -> u64 {
     match sketch.atom {
-        Some(atom) => {
-            if rows_hold(spans, &sketch.rows, atom) {
-                1
-            } else {
-                0
-            }
-        }
+        Some(_) => 1,
         None => rows_size(spans, &sketch.rows),
     }
 }
 
-/// How many variables the table has, or the greatest number where there are more.
-fn cells(spans: &AtomRanges, all: &[Sketch], states: u32) -> u64
-    requires { All IsRightSketch all.now }
-{
+/// How many variables a table by the top-level sigs has, or the greatest number where there are more.
+fn cells(spans: &AtomRanges, all: &[Sketch], states: u32) -> u64 {
     let mut fixed = 0u64;
     let mut moving = 0u64;
     for sketch in all {
@@ -268,20 +263,21 @@ fn cells(spans: &AtomRanges, all: &[Sketch], states: u32) -> u64
 #[tactic(auto, using(crate::proofs::Sketching::atom_just, crate::proofs::Sketching::atom_off, crate::proofs::Sketching::atom_far))]
 fn atom_set(
     alloc: Global,
-    spans: &AtomRanges,
+    sets: &AtomSets,
     rows: &[Tuple],
     atom: u64,
 ) -> Result<TupleSet, AllocError>
-    requires fit { FitSpans spans.now }
+    requires sets { AreColumns sets.now }
     requires columns { All (λ r. length r ≡ 1) rows.now }
-    ensures { IfOk result (λ s. HasJust s 1 (λ t. InRows spans.now rows.now t × (t ≡ atom ∷ []))) }
+    ensures { IfOk result (λ s. HasJust s 1 (λ t. InRows sets.now rows.now t × (t ≡ atom ∷ []))) }
 {
     // Atoms, S66: there are at most 16,384 atoms and integers.
     if atom >= 16384 {
         let none = TupleSet::empty(alloc, 1);
         return Ok(none);
     }
-    if rows_hold(spans, rows, atom) {
+    let tuple = Tuple::of(alloc, &[atom as u32])?;
+    if rows_hold(sets, rows, &tuple) {
         let span = AtomRange {
             first: atom as u32,
             count: 1,
@@ -295,18 +291,18 @@ fn atom_set(
 
 /// The upper bound.
 #[tactic(auto, using(crate::proofs::Sketching::by_atom, crate::proofs::Sketching::by_rows))]
-fn upper_of(alloc: Global, spans: &AtomRanges, sketch: &Sketch) -> Result<TupleSet, AllocError>
-    requires fit { FitSpans spans.now }
+fn upper_of(alloc: Global, sets: &AtomSets, sketch: &Sketch) -> Result<TupleSet, AllocError>
+    requires sets { AreColumns sets.now }
     requires right { IsRightSketch sketch.now }
-    ensures { IfOk result (λ s. HasJust s sketch.now.arity (InSketch spans.now sketch.now)) }
+    ensures { IfOk result (λ s. HasJust s sketch.now.arity (InSketch sets.now sketch.now)) }
 {
     match sketch.atom {
         Some(atom) => {
-            let set = atom_set(alloc, spans, &sketch.rows, atom)?;
+            let set = atom_set(alloc, sets, &sketch.rows, atom)?;
             Ok(set)
         }
         None => {
-            let set = rows_set(alloc, sketch.arity, spans, &sketch.rows)?;
+            let set = rows_set(alloc, sketch.arity, sets, &sketch.rows)?;
             Ok(set)
         }
     }
@@ -316,20 +312,20 @@ fn upper_of(alloc: Global, spans: &AtomRanges, sketch: &Sketch) -> Result<TupleS
 #[tactic(auto, using(crate::proofs::Sketching::right_at))]
 fn bound_at(
     alloc: Global,
-    spans: &AtomRanges,
+    sets: &AtomSets,
     all: &[Sketch],
     places: &[u64],
     relation: usize,
 ) -> Result<Bound, AllocError>
     requires within { relation < length all.now }
     requires counted { length places.now ≡ length all.now }
-    requires fit { FitSpans spans.now }
+    requires sets { AreColumns sets.now }
     requires right { All IsRightSketch all.now }
     ensures order { IfOk result (λ b. b.order ≡ slice_index places.now relation) }
-    ensures its { IfOk result (λ b. (k : Sketch) → slice_get all.now relation ≡ Some k → IsBoundOf spans.now k b) }
+    ensures its { IfOk result (λ b. (k : Sketch) → slice_get all.now relation ≡ Some k → IsBoundOf sets.now k b) }
 {
     let sketch = &all[relation];
-    let upper = upper_of(alloc, spans, sketch)?;
+    let upper = upper_of(alloc, sets, sketch)?;
     Ok(Bound {
         upper,
         fixed: sketch.fixed,
@@ -340,20 +336,20 @@ fn bound_at(
 /// The bounds of the relations, in order.
 fn bound_list(
     alloc: Global,
-    spans: &AtomRanges,
+    sets: &AtomSets,
     all: &[Sketch],
     places: &[u64],
 ) -> Result<BoundList, AllocError>
     requires counted { length places.now ≡ length all.now }
-    requires fit { FitSpans spans.now }
+    requires sets { AreColumns sets.now }
     requires right { All IsRightSketch all.now }
     ensures orders { IfOk result (λ l. map (λ (b : Bound). b.order) l ≡ places.now) }
     ensures fixed { IfOk result (λ l. map (λ (b : Bound). b.fixed) l ≡ map (λ (s : Sketch). s.fixed) all.now) }
-    ensures uppers { IfOk result (λ l. HasUppers spans.now all.now l) }
+    ensures uppers { IfOk result (λ l. HasUppers sets.now all.now l) }
 {
     let mut list = BoundList::new(alloc);
     for relation in 0..all.len() {
-        let bound = bound_at(alloc, spans, all, places, relation)?;
+        let bound = bound_at(alloc, sets, all, places, relation)?;
         list.push(bound)?;
     }
     Ok(list)
@@ -375,33 +371,87 @@ fn states_of(states: u32) -> u32
 fn table_of(
     alloc: Global,
     model: &Model,
-    spans: &AtomRanges,
+    sets: &AtomSets,
     all: &[Sketch],
     states: u32,
 ) -> Result<Bounds, AllocError>
     requires fixed { map (λ (s : Sketch). s.fixed) all.now ≡ are_fixed model.now }
     requires some { 0 < states }
-    requires fit { FitSpans spans.now }
+    requires sets { AreColumns sets.now }
     requires right { All IsRightSketch all.now }
     ensures table { IfOk result IsTable }
     ensures order { IfOk result (λ b. (r : ℕ) (c : Bound) → slice_get b.relations r ≡ Some c → c.order ≡ order_of model.now r) }
     ensures fixed { IfOk result (λ b. map (λ (c : Bound). c.fixed) b.relations ≡ are_fixed model.now) }
     ensures states { IfOk result (λ b. b.states ≡ states) }
-    ensures uppers { IfOk result (λ b. HasUppers spans.now all.now b.relations) }
+    ensures uppers { IfOk result (λ b. HasUppers sets.now all.now b.relations) }
 {
     let count = model.sigs.len();
     let fields = model.fields.as_slice();
     let places = orders(alloc, count as u64, fields)?;
-    let relations = bound_list(alloc, spans, all, &places)?;
+    let relations = bound_list(alloc, sets, all, &places)?;
     Ok(Bounds { relations, states })
 }
 
-/// The upper bounds that the types give, with `var` sigs counted as their nearest ancestor that
-/// isn't `var`: of each sig, and of each field whose rows have its columns, just the tuples of the
-/// universe that the definition gives. They are refused at `keyword` where the table would have more
-/// than 1,000,000 variables, which are counted before any tuple is made. Scopes of more than 16,384
-/// numbers, which no command has, are answered as if memory were wanting.
-#[tactic(auto, using(crate::proofs::Exact::spans_fit))]
+/// Whether the table would have more than 1,000,000 variables, where the relations have the products
+/// of the top-level sigs of their types. They are counted before any tuple is made.
+fn is_large(
+    alloc: Global,
+    model: &Model,
+    ups: &[u32],
+    spans: &AtomRanges,
+    states: u32,
+) -> Result<bool, AllocError> {
+    let all = sketches(alloc, model, ups, spans)?;
+    Ok(cells(spans, &all, states) > MOST_CELLS)
+}
+
+/// The table of the model's sigs and fields, where the top-level sig above each sig is known. Scopes
+/// of other sigs than the model's, a sig without a top-level sig above it, and a literal's sig that
+/// extends another than `String`, which no model has, are answered as if memory were wanting.
+#[tactic(auto, using(crate::proofs::Exact::given_columns))]
+fn given_table(
+    alloc: Global,
+    model: &Model,
+    scopes: &Scopes,
+    ups: &[u32],
+    spans: &AtomRanges,
+    states: u32,
+) -> Result<Bounds, AllocError>
+    requires tops { HasTops model.now.sigs ups.now }
+    requires spans { HasSpans scopes.now spans.now }
+    requires some { 0 < states }
+    ensures table { IfOk result IsTable }
+    ensures order { IfOk result (λ b. (r : ℕ) (c : Bound) → slice_get b.relations r ≡ Some c → c.order ≡ order_of model.now r) }
+    ensures fixed { IfOk result (λ b. map (λ (c : Bound). c.fixed) b.relations ≡ are_fixed model.now) }
+    ensures states { IfOk result (λ b. b.states ≡ states) }
+    ensures uppers { IfOk result (λ b. AreUppers model.now scopes.now b.relations) }
+    ensures origins { IfOk result (λ b. HasOrigins model.now.sigs) }
+{
+    let sigs = model.sigs.as_slice();
+    let numbers = scopes.numbers.as_slice();
+    if numbers.len() != sigs.len() {
+        return Err(AllocError);
+    }
+    if !are_tops(ups) {
+        return Err(AllocError);
+    }
+    if !have_origins(sigs) {
+        return Err(AllocError);
+    }
+    let constants = constants_of(alloc, sigs, ups)?;
+    let standing = table_standing(alloc, sigs, numbers, ups, &constants)?;
+    let sets = atom_sets(alloc, model, scopes, ups, spans, &constants, &standing)?;
+    let all = sketches(alloc, model, &standing, spans)?;
+    let found = table_of(alloc, model, &sets, &all, states)?;
+    Ok(found)
+}
+
+/// The upper bounds of the table: of each sig, and of each field whose rows have its columns, just
+/// the tuples of the universe that the definition gives, by the rows of its type, in which `var` sigs
+/// count as their nearest ancestor that isn't `var`. They are refused at `keyword` where a table by
+/// the top-level sigs of the types would have more than 1,000,000 variables. Scopes of more than
+/// 16,384 numbers, or of other sigs than the model's, and a hierarchy that no model has, are answered
+/// as if memory were wanting.
 pub fn bounds(
     alloc: Global,
     model: &Model,
@@ -413,18 +463,18 @@ pub fn bounds(
     ensures fixed { IfOk result (λ b. map (λ (c : Bound). c.fixed) b.relations ≡ are_fixed model.now) }
     ensures states { IfOk result (λ b. 0 < scopes.now.states → b.states ≡ scopes.now.states) }
     ensures uppers { IfOk result (λ b. AreUppers model.now scopes.now b.relations) }
+    ensures origins { IfOk result (λ b. HasOrigins model.now.sigs) }
+    ensures most { IfOk result (λ b. universe_size scopes.now ≤ 16384) }
 {
     let spans = spans_of(alloc, scopes)?;
-    let sigs = model.sigs.as_slice();
-    let ups = tops(alloc, sigs)?;
-    let all = sketches(alloc, model, &ups, &spans)?;
+    let ups = tops(alloc, model.sigs.as_slice())?;
     let states = states_of(scopes.states);
-    if cells(&spans, &all, states) > MOST_CELLS {
+    if is_large(alloc, model, &ups, &spans, states)? {
         return Err(BoundsFault::Refused(Refusal {
             rule: Rule::Cells,
             place: keyword,
         }));
     }
-    let found = table_of(alloc, model, &spans, &all, states)?;
+    let found = given_table(alloc, model, scopes, &ups, &spans, states)?;
     Ok(found)
 }

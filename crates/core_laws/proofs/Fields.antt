@@ -13,10 +13,10 @@ use Rattle.core_meaning.specs.Meaning.{no_names, atom}
 use Rattle.core_meaning.specs.Declarations.{FieldDeclared, this_is}
 use Rattle.core_meaning.specs.Called.{bodies_of}
 use Rattle.core_meaning.specs.Kept.{world_of}
-use Rattle.core_laws.specs.Typed.{IsOwned, BoundsNameOwned, FieldsLieInBounds}
+use Rattle.core_laws.specs.Typed.{IsOwned, BoundsNameOwned, FieldsLieInBounds, IsTypedLasso, ColumnsHaveAtoms, SigsHaveRows, FieldsHaveRows, SigsOfOneAtom}
 use Rattle.core_laws.proofs.Members.{of_contains, to_contains}
 use Rattle.core_laws.proofs.Climbs.{IsTree, get_there, item_of}
-use Rattle.core_laws.proofs.Held.{IsGiven, row_bound}
+use Rattle.core_laws.proofs.Held.{IsGiven, atom_in, row_bound, under_ever}
 use Rattle.core_laws.proofs.Rows.{InRows, rows_pair}
 use Rattle.core_laws.proofs.Terms.{IsTyped, NamesHave, names_more, atom_rows, sig_rows_have, term_typed}
 
@@ -53,6 +53,36 @@ module _ (model : Model) (scopes : Scopes) (lasso : LassoValue) (right : IsModel
       let typed = if_some f.declared d (λ b. (q : TypeRow) → Contains f.rows q ↔ Contains (declared_rows model s (term_of b.bound.expr)) q) (if_some f.owner s (λ o. IfSome f.declared (λ b. (q : TypeRow) → Contains f.rows q ↔ Contains (declared_rows model o (term_of b.bound.expr)) q)) at.typed owner) declared in
       let listed = (typed r).1 (to_contains (declared_rows model s (term_of d.bound.expr)) r among) in
       subst (InRows model scopes lasso f.rows) (sym is) (r, of_contains f.rows r listed, row)
+
+pub given_of : (model : Model) (scopes : Scopes) (lasso : LassoValue) → IsTypedLasso model scopes lasso → IsGiven model scopes lasso
+given_of model scopes lasso typed = record {
+  tree = record {
+    above = typed.kept.hierarchy;
+    parents = λ s d there. (item_of model.sigs s d (IsRightSig model) typed.kept.sigs there).parents;
+    plain = typed.plain;
+  };
+  rightly = typed.rightly;
+  fits = typed.fits;
+  sets = typed.sets;
+  keeps = typed.keeps;
+  declared = typed.declared;
+}
+
+pub columns_have_atoms : ColumnsHaveAtoms
+columns_have_atoms model scopes lasso typed s a has = atom_in model scopes lasso (given_of model scopes lasso typed) s a has
+
+pub sigs_have_rows : SigsHaveRows
+sigs_have_rows model scopes lasso typed s d get i a has =
+    let (r, among, row) = sig_rows_have model scopes lasso (given_of model scopes lasso typed) i s a d get has in
+    (r, to_contains (sig_rows model.sigs (length model.sigs) s) r among, row)
+
+pub fields_have_rows : FieldsHaveRows
+fields_have_rows model scopes lasso typed k f get own i t has =
+    let (r, among, row) = field_known model scopes lasso typed.kept typed.named (given_of model scopes lasso typed) (suc (typed.kept.order k)) k (omega arith) (f, get, own) f get i t has in
+    (r, to_contains f.rows r among, row)
+
+pub sigs_of_one_atom : SigsOfOneAtom
+sigs_of_one_atom model scopes lasso typed a c d one two = under_ever model scopes lasso (given_of model scopes lasso typed) a c d one two
 
 pub fields_lie : FieldsLieInBounds
 fields_lie model scopes lasso right plain owned rightly fits sets keeps declared k f get own i t has =

@@ -16,10 +16,11 @@ use Rattle.core_meaning.specs.Declarations.{IsPlaced, SigDeclared}
 use Rattle.core_meaning.specs.Called.{bodies_of}
 use Rattle.core_meaning.specs.Kept.{FitsModel, Keeps, world_of, IsEverIn, IsAtomOf, InColumnBound, InRowBound, InSigBound, atom_count, universe_size, top_above}
 use Rattle.core_meaning.specs.Satisfied.{DeclaresAt}
-use Rattle.core_laws.specs.Typed.{AreScopesOf, HasSets}
+use Rattle.core_laws.specs.Typed.{AreScopesOf, HasSets, IsStanding}
+use Rattle.core_laws.specs.Typed as typed
 use Rattle.core_laws.proofs.Members.{Member, of_contains}
 use Rattle.core_laws.proofs.Climbs.{Climb, IsTree, get_there, get_within, Extending, last_step, parent_within, climb_parents, few_steps}
-use Rattle.core_laws.proofs.Standing.{IsPlainKind, IsStanding, top_of, top_itself, stands_itself, plain_rows, lies_under}
+use Rattle.core_laws.proofs.Standing.{IsPlainKind, top_of, top_itself, stands_itself, plain_rows, lies_under}
 use Rattle.core_laws.proofs.Ranges.{IsTopAtom, one_top, among_atoms}
 
 -- a lasso that keeps the scopes, where the declarations hold at each position
@@ -32,18 +33,14 @@ pub record IsGiven (model : Model) (scopes : Scopes) (lasso : LassoValue) : Type
   pub declared : (i : ℕ) → DeclaresAt model scopes lasso i
 
 module _ (model : Model) (scopes : Scopes) (lasso : LassoValue) where
-  abbrev pub InSigAt : ℕ → ℕ → ℕ → Type 0
-  InSigAt i s a = InRelation (world_of scopes lasso) s i (a ∷ [])
-
   abbrev pub HasColumn : Column → ℕ → Type 0
-  HasColumn IntColumn a = (atom_count scopes.numbers ≤ a) × (a < universe_size scopes)
-  HasColumn (SigColumn s) a = (d : Sig) × (slice_get model.sigs s ≡ Some d) × IsStanding d × IsEverIn (world_of scopes lasso) s a
+  HasColumn = typed.HasColumn model scopes lasso
 
   abbrev pub HasRow : TypeRow → List ℕ → Type 0
-  HasRow [] [] = Unit {0}
-  HasRow (c ∷ r) (a ∷ t) = HasColumn c a × HasRow r t
-  HasRow [] (a ∷ t) = ⊥
-  HasRow (c ∷ r) [] = ⊥
+  HasRow = typed.HasRow model scopes lasso
+
+  abbrev pub InSigAt : ℕ → ℕ → ℕ → Type 0
+  InSigAt i s a = InRelation (world_of scopes lasso) s i (a ∷ [])
 
   module _ (given : IsGiven model scopes lasso) where
     pub sig_declared : (i s : ℕ) (d : Sig) → slice_get model.sigs s ≡ Some d → SigDeclared model (world_of scopes lasso) (bodies_of (world_of scopes lasso) model.bodies) i s d
@@ -105,7 +102,7 @@ module _ (model : Model) (scopes : Scopes) (lasso : LassoValue) where
     row_bound [] (a ∷ t) has = elim has [ ]
     row_bound (c ∷ r) [] has = elim has [ ]
 
-    top_there : (t : ℕ) (d : Sig) → slice_get model.sigs t ≡ Some d → d.kind ≡ Top → (e : SigScope) × (slice_get scopes.numbers t ≡ Some e) × (e.top ≡ true)
+    pub top_there : (t : ℕ) (d : Sig) → slice_get model.sigs t ≡ Some d → d.kind ≡ Top → (e : SigScope) × (slice_get scopes.numbers t ≡ Some e) × (e.top ≡ true)
     top_there t d get top =
         let lt = get_within model.sigs t d get in
         let count = given.rightly.count in
@@ -142,7 +139,7 @@ module _ (model : Model) (scopes : Scopes) (lasso : LassoValue) where
     always_in i j s a d get still has = given.keeps.sigs s d get still i j (a ∷ []) has
 
     -- the sigs of one atom, at any positions, lie one under the other
-    under_ever : (a c d : ℕ) → HasColumn (SigColumn c) a → HasColumn (SigColumn d) a → (is_under model.sigs (length model.sigs) c d ≡ true) ⊎ (is_under model.sigs (length model.sigs) d c ≡ true)
+    pub under_ever : (a c d : ℕ) → HasColumn (SigColumn c) a → HasColumn (SigColumn d) a → (is_under model.sigs (length model.sigs) c d ≡ true) ⊎ (is_under model.sigs (length model.sigs) d c ≡ true)
     under_ever a c d (cd, get_c, is_c, (i, in_c)) (dd, get_d, is_d, (j, in_d)) = go cd.is_var dd.is_var refl refl
       where
         tops_same : cd.kind ≡ Top → dd.kind ≡ Top → c ≡ d

@@ -1,12 +1,12 @@
 mod Happening
 mod Meanings
 mod Satisfying
-mod Climbs
+pub mod Climbs
 mod Closed
-mod Fields
-mod Held
+pub mod Fields
+pub mod Held
 mod Members
-mod Ranges
+pub mod Ranges
 mod Rows
-mod Standing
+pub mod Standing
 mod Terms

@@ -8,15 +8,12 @@ use Rattle.core_tree.specs.declared.model.Column.{Column}
 use Rattle.core_tree.specs.declared.model.Column.TheVariants.{Sig as SigColumn}
 use Rattle.core_tree.specs.Types.{TypeRows, by_parent, by_sig, standing, is_under, kind_rows, sig_rows}
 use Rattle.core_meaning.specs.Kept.{top_above}
+use Rattle.core_laws.specs.Typed.{IsStanding}
 use Rattle.core_laws.proofs.Climbs.{Climb, climb_more, one_more, IsTree, get_there, get_within, Extending, climb_parents, parent_within, few_steps}
 
 -- a sig that isn't an `in` sig
 abbrev pub IsPlainKind : SigKind → Type 0
 IsPlainKind k = (k ≡ Top) ⊎ ((p : ℕ) × (k ≡ Extends p))
-
--- a top-level sig, or another that isn't `var`
-abbrev pub IsStanding : Sig → Type 0
-IsStanding d = (d.kind ≡ Top) ⊎ ((p : ℕ) × (d.kind ≡ Extends p) × (d.is_var ≡ false))
 
 plain_kind : (k : SigKind) → ((ps : List Column) → k ≡ Subset ps → ⊥) → IsPlainKind k
 plain_kind Top other = inl refl

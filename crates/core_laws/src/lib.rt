@@ -28,10 +28,19 @@ pub fn same_sequences_satisfy_the_same()
     ensures { SameSatisfied }
 {}
 
-ghost use Rattle.core_laws.specs.Typed.{FieldsLieInBounds};
+ghost use Rattle.core_laws.specs.Typed.{FieldsLieInBounds, ColumnsHaveAtoms, SigsHaveRows, FieldsHaveRows, SigsOfOneAtom};
 
 /// A law: where a lasso keeps the scopes of a model and its declarations hold at each position, each field of a sig has only
 /// tuples of its upper bound.
 pub fn fields_lie_in_their_bounds()
     ensures { FieldsLieInBounds }
+{}
+
+/// A law: under the same premises the atoms of sigs and of fields are those that the sigs of a row of their types have, each at some
+/// position; these are atoms of the top-level sigs above, and two sigs that have an atom lie one under the other.
+pub fn relations_have_rows()
+    ensures atoms { ColumnsHaveAtoms }
+    ensures sigs { SigsHaveRows }
+    ensures fields { FieldsHaveRows }
+    ensures one_atom { SigsOfOneAtom }
 {}

@@ -12,7 +12,7 @@ returns-clause-ready c = record {
   counted = c.in_ok-labels.ensures.counted;
   scopes_are = c.in_ok-scopes.ensures.scopes;
   table = c.in_ok-bounds.ensures.table;
-  bounds_are = record { uppers = c.in_ok-bounds.ensures.uppers; fixed = c.in_ok-bounds.ensures.fixed };
+  bounds_are = record { most = c.in_ok-bounds.ensures.most; origins = c.in_ok-bounds.ensures.origins; uppers = c.in_ok-bounds.ensures.uppers; fixed = c.in_ok-bounds.ensures.fixed };
   states = (let some = c.in_ok-scopes.ensures.scopes.states.0 in c.in_ok-bounds.ensures.states (omega (arith, some)));
   relations_are = c.in_ok-labels.ensures.relations;
   labels_are = c.in_ok-labels.ensures.labels;
