@@ -1,5 +1,7 @@
 mod Sorted
 mod Moving
+mod Places
+mod Keeping
 mod Renaming
 mod Owning
 mod Candidates
