@@ -1,58 +1,22 @@
 -- A renaming that brings some atoms to their places, one after the other.
-use Rattle.std.proofs.Common.{◌≡◌, ◌≢◌, ◌⊎◌, ◌↔◌, inl, inr, ℕ, ◌≤◌, ◌<◌, eqb, Bool, true, false, if◌then◌else◌, List, [], ◌∷◌, Contains, refl, sym, ap, ◌∙◌, subst, arith}
-use Rattle.std.proofs.lemmas.Bool.{cases_eq, eq-eqb, ne_eqb}
+use Rattle.std.proofs.Common.{◌≡◌, ◌≢◌, ◌↔◌, inl, inr, ℕ, List, [], ◌∷◌, Contains, refl, sym, ap, ◌∙◌, subst}
+use Rattle.std.proofs.lemmas.Bool.{cases_eq}
 use Rattle.core_tuples.specs.Order.{cons_cases, cons_here, cons_later, no_members}
 use Rattle.core_renaming.specs.Renamings.{Renaming}
-
-abbrev pub itself : Renaming
-itself = record { to = λ a. a; from = λ a. a; from_to = λ a. refl; to_from = λ a. refl }
-
--- one renaming, and then another
-abbrev pub after : Renaming → Renaming → Renaming
-after r q = record {
-  to = λ a. q.to (r.to a);
-  from = λ a. r.from (q.from a);
-  from_to = λ a. ap r.from (q.from_to (r.to a)) ∙ r.from_to a;
-  to_from = λ a. ap q.to (r.to_from (q.from a)) ∙ q.to_from a;
-}
-
--- two atoms exchanged
-abbrev pub exchanged : ℕ → ℕ → ℕ → ℕ
-exchanged x y a = if eqb a x then y else if eqb a y then x else a
-
-exchanged_first : (x y : ℕ) → exchanged x y x ≡ y
-exchanged_first x y = ap (λ (b : Bool). if b then y else if eqb x y then x else x) (eq-eqb x x refl)
-
-exchanged_second : (x y : ℕ) → exchanged x y y ≡ x
-exchanged_second x y = elim (cases_eq y x) [
-  | inl same ↦ ap (λ (b : Bool). if b then y else if eqb y y then x else y) (eq-eqb y x same) ∙ same
-  | inr other ↦ ap (λ (b : Bool). if b then y else if eqb y y then x else y) (ne_eqb y x other) ∙ ap (λ (b : Bool). if b then x else y) (eq-eqb y y refl)
-]
-
-exchanged_other : (x y a : ℕ) → a ≢ x → a ≢ y → exchanged x y a ≡ a
-exchanged_other x y a one two = ap (λ (b : Bool). if b then y else if eqb a y then x else a) (ne_eqb a x one) ∙ ap (λ (b : Bool). if b then x else a) (ne_eqb a y two)
-
-exchanged_twice : (x y a : ℕ) → exchanged x y (exchanged x y a) ≡ a
-exchanged_twice x y a = elim (cases_eq a x) [
-  | inl is ↦ ap (λ (c : ℕ). exchanged x y (exchanged x y c)) is ∙ (ap (exchanged x y) (exchanged_first x y) ∙ (exchanged_second x y ∙ sym is))
-  | inr one ↦ elim (cases_eq a y) [
-    | inl is ↦ ap (λ (c : ℕ). exchanged x y (exchanged x y c)) is ∙ (ap (exchanged x y) (exchanged_second x y) ∙ (exchanged_first x y ∙ sym is))
-    | inr two ↦ ap (exchanged x y) (exchanged_other x y a one two) ∙ exchanged_other x y a one two
-  ]
-]
-
-abbrev pub exchange : ℕ → ℕ → Renaming
-exchange x y = record { to = exchanged x y; from = exchanged x y; from_to = exchanged_twice x y; to_from = exchanged_twice x y }
+use Rattle.core_renaming.specs.Composed.{composed, exchanged, exchanged_first, exchanged_second, exchanged_other, exchange}
 
 -- an atom, and the place to which it is to be brought
 pub record Move : Type 0 where
   pub atom : ℕ
   pub place : ℕ
 
+abbrev pub itself : Renaming
+itself = record { to = λ a. a; from = λ a. a; from_to = λ a. refl; to_from = λ a. refl }
+
 -- the first is brought to its place by what follows the renaming of the others
 abbrev pub moving : List Move → Renaming
 moving [] = itself
-moving (m ∷ ms) = after (moving ms) (exchange ((moving ms).to m.atom) m.place)
+moving (m ∷ ms) = composed (moving ms) (exchange ((moving ms).to m.atom) m.place)
 
 -- the atoms differ from each other, and so do the places
 abbrev pub AreApart : List Move → Type 0
