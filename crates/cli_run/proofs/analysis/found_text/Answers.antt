@@ -10,27 +10,27 @@ returns-in_ok-text-in-Trace c =
     let found : outcome.IsFoundIn prepared c.args.settings.now.conflicts (Trace c.in-Trace.labels c.in-Trace.lasso) = rw c.in-Trace.is at c.requires.2 in
     (prepared, c.requires.1, c.in_ok-text-in-Trace.ensures prepared found.0 found.1)
 
-pub returns-in_ok-copy-in-Absent : goal.returns-in_ok-copy-in-Absent
-returns-in_ok-copy-in-Absent c =
+pub returns-in_ok-text-in-Absent : goal.returns-in_ok-text-in-Absent
+returns-in_ok-text-in-Absent c =
     let prepared = c.requires.0 in
     let found : outcome.IsFoundIn prepared c.args.settings.now.conflicts (Absent c.in-Absent.table c.in-Absent.states c.in-Absent.cnf c.in-Absent.lines) = rw c.in-Absent.is at c.requires.2 in
-    let shown : ShowsNone (SayAll prepared) prepared.bounds.states c.args.settings.now.part c.in_ok-copy-in-Absent.field-0 = record {
+    let shown : ShowsNone (SayAll prepared) prepared.bounds.states c.args.settings.now.part c.from_vec.result = record {
       cnf = c.in-Absent.cnf;
       says = found.3;
       shows = record {
         table = c.in-Absent.table;
         lines = c.in-Absent.lines;
         refutes = found.1;
-        text_is = cc (c.in_ok-copy-in-Absent.ensures, c.deref.ensures.value, c.in_ok-text-in-Absent.ensures, found.0);
+        text_is = cc (c.from_vec.ensures, c.in_ok-text-in-Absent.ensures, found.0);
       };
     } in
     (prepared, c.requires.1, (shown, found.2 c.args.settings.now.command c.requires.1))
 
-pub returns-in_ok-copy-in-Unknown : goal.returns-in_ok-copy-in-Unknown
-returns-in_ok-copy-in-Unknown c =
+pub returns-in_ok-text-in-Unknown : goal.returns-in_ok-text-in-Unknown
+returns-in_ok-text-in-Unknown c =
     let prepared = c.requires.0 in
     let found : outcome.IsFoundIn prepared c.args.settings.now.conflicts (Unknown c.in-Unknown.table c.in-Unknown.cnf c.in-Unknown.lines) = rw c.in-Unknown.is at c.requires.2 in
-    let shown : ShowsSpent (SayAll prepared) c.args.settings.now.conflicts c.in_ok-copy-in-Unknown.field-0 = record {
+    let shown : ShowsSpent (SayAll prepared) c.args.settings.now.conflicts c.from_vec-in-Unknown.result = record {
       cnf = c.in-Unknown.cnf;
       says = found.3;
       shows = record {
@@ -39,7 +39,7 @@ returns-in_ok-copy-in-Unknown c =
         spent = found.0;
         lemmas = found.1;
         few = found.2;
-        text_is = cc (c.in_ok-copy-in-Unknown.ensures, c.deref-in-Unknown.ensures.value, c.in_ok-text-in-Unknown.ensures (length c.in-Unknown.lines) found.0);
+        text_is = cc (c.from_vec-in-Unknown.ensures, c.in_ok-text-in-Unknown.ensures (length c.in-Unknown.lines) found.0);
       };
     } in
     (prepared, c.requires.1, shown)
