@@ -20,7 +20,7 @@ use Rattle.answer_search.specs.Clauses.{SayTarget}
 use Rattle.answer_trace.specs.Text.{trace_text}
 use Rattle.answer_certificates.specs.Named.{AreNamed}
 use Rattle.answer_certificates.specs.declared.certificate.Certificate.{Certificate}
-use Rattle.answer_certificates.specs.declared.certificate.Certificate.TheVariants.{Trace, Absent, Unknown}
+use Rattle.answer_certificates.specs.declared.certificate.Certificate.TheVariants.{Trace, Refuted, Unknown}
 
 -- the part that is asked for of a trace of a prepared model, which satisfies the model and its command
 pub record ShowsTrace (prepared : Prepared) (part : Part) (text : List ℕ) : Type 0 where
@@ -118,11 +118,11 @@ SayOfSome prepared cnf = SayPart prepared.model prepared.target prepared.first_f
 -- states as the scopes satisfies the model and its command, as `NoneWithin` says it
 abbrev pub IsLeastText : Prepared → Part → Option ℕ → Certificate → Type 0
 IsLeastText prepared part budget (Trace text) = ShowsOne prepared part text ⊎ ShowsAbove prepared part text
-IsLeastText prepared part budget (Absent text) = (states : ℕ) × ShowsNone (SayOverStates prepared states) states part text × ((number : ℕ) → IsReady number prepared → (states ≡ prepared.scopes.states) × NoneWithin prepared states)
+IsLeastText prepared part budget (Refuted text) = (states : ℕ) × ShowsNone (SayOverStates prepared states) states part text × ((number : ℕ) → IsReady number prepared → (states ≡ prepared.scopes.states) × NoneWithin prepared states)
 IsLeastText prepared part budget (Unknown text) = ShowsSpent (SayOverSome prepared) budget text
 
 -- the answer of a search for facts of a prepared model that rule out every trace
 abbrev pub IsCoreText : Prepared → Part → Option ℕ → Certificate → Type 0
 IsCoreText prepared part budget (Trace text) = ShowsTrace prepared part text
-IsCoreText prepared part budget (Absent text) = ShowsCore prepared part text
+IsCoreText prepared part budget (Refuted text) = ShowsCore prepared part text
 IsCoreText prepared part budget (Unknown text) = ShowsSpent (SayOfSome prepared) budget text

@@ -24,7 +24,7 @@ pub enum Certificate {
     /// There is a trace.
     Trace(Bytes),
     /// There is none.
-    Absent(Bytes),
+    Refuted(Bytes),
     /// The budget is spent.
     Unknown(Bytes),
 }

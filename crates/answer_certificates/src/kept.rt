@@ -40,12 +40,12 @@ pub fn core_certificate<C: Chooser>(
             let text = found_shown(alloc, &prepared, &lasso, part)?;
             Ok(Certificate::Trace(text))
         }
-        Core::Facts { kept, proof } => {
+        Core::Refuted { kept, proof } => {
             kept_facts_rule_out();
             let names = kept_names(alloc, &prepared.loaded, &prepared.parts, &kept)?;
             let bounds = prepared.bounds;
             let text = core_shown(alloc, &prepared.labels, bounds, &names, proof, part)?;
-            Ok(Certificate::Absent(text))
+            Ok(Certificate::Refuted(text))
         }
         Core::Unknown(proof) => {
             let bounds = prepared.bounds;

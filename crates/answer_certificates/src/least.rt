@@ -36,10 +36,10 @@ pub fn least_certificate<C: Chooser>(
             let text = least_shown(alloc, prepared, &lasso, below, part)?;
             Ok(Certificate::Trace(text))
         }
-        Least::Absent(proof) => {
+        Least::Refuted(proof) => {
             let bounds = prepared.bounds;
             let text = none_shown(alloc, &prepared.labels, bounds, proof, part)?;
-            Ok(Certificate::Absent(text))
+            Ok(Certificate::Refuted(text))
         }
         Least::Unknown(proof) => {
             let bounds = prepared.bounds;

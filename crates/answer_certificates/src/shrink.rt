@@ -53,7 +53,7 @@ struct Left {
 #[derive(Drop)]
 enum Tried {
     Left(Left),
-    Spent(Proof),
+    Unknown(Proof),
 }
 
 /// What is left where no fact is left out.
@@ -90,8 +90,8 @@ fn trim<C: Chooser>(
             dropped,
             proof: smaller,
         })),
-        Found::Spent(spent) => Ok(Tried::Spent(spent)),
-        Found::Lasso(_) => {
+        Found::Unknown(spent) => Ok(Tried::Unknown(spent)),
+        Found::Trace(_) => {
             // A part that holds all that a refutation is drawn from has none.
             let left = all_kept(alloc, question, proof)?;
             Ok(Tried::Left(left))
@@ -125,8 +125,8 @@ fn leave_out<C: Chooser>(
     let dropped = without(alloc, &left.dropped, fact)?;
     match search(alloc, question, &dropped, chooser)? {
         Found::Refuted(proof) => Ok(Tried::Left(Left { dropped, proof })),
-        Found::Spent(proof) => Ok(Tried::Spent(proof)),
-        Found::Lasso(_) => Ok(Tried::Left(left)),
+        Found::Unknown(proof) => Ok(Tried::Unknown(proof)),
+        Found::Trace(_) => Ok(Tried::Left(left)),
     }
 }
 
@@ -136,7 +136,7 @@ fn facts_of(alloc: Global, question: &Question, left: Left) -> Result<Core, Allo
     ensures { IfOk result (IsShrunk question.now.target.now question.now.first question.now.facts question.now.limits.now question.now.budget) }
 {
     let kept = kept_facts(alloc, question.facts, &left.dropped)?;
-    Ok(Core::Facts {
+    Ok(Core::Refuted {
         kept,
         proof: left.proof,
     })
@@ -156,7 +156,7 @@ fn shrink<C: Chooser>(
     for fact in 0..question.facts as usize {
         match leave_out(alloc, question, rest, fact, chooser)? {
             Tried::Left(smaller) => rest = smaller,
-            Tried::Spent(proof) => return Ok(Core::Unknown(proof)),
+            Tried::Unknown(proof) => return Ok(Core::Unknown(proof)),
         }
     }
     let core = facts_of(alloc, question, rest)?;
@@ -188,8 +188,8 @@ pub fn find_core<C: Chooser>(
         budget,
     };
     match search_target(alloc, target, &limits, chooser, budget)? {
-        Found::Lasso(lasso) => Ok(Core::Trace(lasso)),
-        Found::Spent(proof) => Ok(Core::Unknown(proof)),
+        Found::Trace(lasso) => Ok(Core::Trace(lasso)),
+        Found::Unknown(proof) => Ok(Core::Unknown(proof)),
         Found::Refuted(proof) => {
             let tried = trim(alloc, &question, proof, chooser)?;
             let core = shrunk(alloc, &question, tried, chooser)?;
@@ -213,6 +213,6 @@ fn shrunk<C: Chooser>(
             let core = shrink(alloc, question, left, chooser)?;
             Ok(core)
         }
-        Tried::Spent(proof) => Ok(Core::Unknown(proof)),
+        Tried::Unknown(proof) => Ok(Core::Unknown(proof)),
     }
 }

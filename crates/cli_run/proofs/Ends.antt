@@ -25,7 +25,7 @@ use Rattle.cli_words.specs.declared.named.Mode.{Mode}
 use Rattle.cli_words.specs.declared.named.Mode.TheVariants.{Exec, Commands, Lrat, Make, Replay, Eval, Least, Core}
 use Rattle.sat_verdict.proofs.Verdicts.{one_verdict}
 use Rattle.cli_run.specs.declared.answer.Answer.{Answer}
-use Rattle.cli_run.specs.declared.answer.Answer.TheVariants.{Usage, Refused, ReadFault, Trace, Absent, Unknown, Made, Listed, Checked, Traced}
+use Rattle.cli_run.specs.declared.answer.Answer.TheVariants.{Usage, Refused, ReadFault, Trace, Refuted, Unknown, Made, Listed, Checked, Traced}
 
 verdict_status : (v : Verdict) → (lrat.status_of v ≡ 0) ⊎ (lrat.status_of v ≡ 1) ⊎ (lrat.status_of v ≡ 3)
 verdict_status says.Refuted = inl refl
@@ -156,7 +156,7 @@ not_five Usage is = omega arith
 not_five (Refused refusal name) is = omega arith
 not_five (ReadFault name) is = omega arith
 not_five (Trace text) is = omega arith
-not_five (Absent text) is = omega arith
+not_five (Refuted text) is = omega arith
 not_five (Unknown text) is = omega arith
 not_five (Made text) is = omega arith
 not_five (Listed list) is = omega arith
@@ -168,7 +168,7 @@ not_six Usage is = omega arith
 not_six (Refused refusal name) is = omega arith
 not_six (ReadFault name) is = omega arith
 not_six (Trace text) is = omega arith
-not_six (Absent text) is = omega arith
+not_six (Refuted text) is = omega arith
 not_six (Unknown text) is = omega arith
 not_six (Made text) is = omega arith
 not_six (Listed list) is = omega arith
@@ -184,7 +184,7 @@ answer_status Usage = inr (inr (inl refl))
 answer_status (Refused refusal name) = inr (inr (inr (inl refl)))
 answer_status (ReadFault name) = inr (inr (inr (inr (inl refl))))
 answer_status (Trace text) = inr (inr (inr (inr (inr (inr (inr (inl refl)))))))
-answer_status (Absent text) = inr (inr (inr (inr (inr (inr (inr (inr (inl refl))))))))
+answer_status (Refuted text) = inr (inr (inr (inr (inr (inr (inr (inr (inl refl))))))))
 answer_status (Unknown text) = inr (inr (inr (inr (inr (inr (inr (inr (inr (inl refl)))))))))
 answer_status (Made text) = inl refl
 answer_status (Listed list) = inl refl
@@ -215,7 +215,7 @@ module _ (run : Run) where
   usage_given None (Refused refusal name) allows is = absurd allows
   usage_given None (ReadFault name) allows is = absurd allows
   usage_given None (Trace text) allows is = absurd allows
-  usage_given None (Absent text) allows is = absurd allows
+  usage_given None (Refuted text) allows is = absurd allows
   usage_given None (Unknown text) allows is = absurd allows
   usage_given None (Made text) allows is = absurd allows
   usage_given None (Listed list) allows is = absurd allows
@@ -225,7 +225,7 @@ module _ (run : Run) where
   usage_given (Some settings) (Refused refusal name) allows is = absurd (omega arith)
   usage_given (Some settings) (ReadFault name) allows is = absurd (omega arith)
   usage_given (Some settings) (Trace text) allows is = absurd (omega arith)
-  usage_given (Some settings) (Absent text) allows is = absurd (omega arith)
+  usage_given (Some settings) (Refuted text) allows is = absurd (omega arith)
   usage_given (Some settings) (Unknown text) allows is = absurd (omega arith)
   usage_given (Some settings) (Made text) allows is = absurd (omega arith)
   usage_given (Some settings) (Listed list) allows is = absurd (omega arith)
@@ -237,7 +237,7 @@ module _ (run : Run) where
   usage_where_none (Refused refusal name) allows = absurd allows
   usage_where_none (ReadFault name) allows = absurd allows
   usage_where_none (Trace text) allows = absurd allows
-  usage_where_none (Absent text) allows = absurd allows
+  usage_where_none (Refuted text) allows = absurd allows
   usage_where_none (Unknown text) allows = absurd allows
   usage_where_none (Made text) allows = absurd allows
   usage_where_none (Listed list) allows = absurd allows
@@ -249,7 +249,7 @@ module _ (run : Run) where
   refused_given None (Refused refusal name) fit allows is same line = absurd allows
   refused_given None (ReadFault name) fit allows is same line = absurd allows
   refused_given None (Trace text) fit allows is same line = absurd allows
-  refused_given None (Absent text) fit allows is same line = absurd allows
+  refused_given None (Refuted text) fit allows is same line = absurd allows
   refused_given None (Unknown text) fit allows is same line = absurd allows
   refused_given None (Made text) fit allows is same line = absurd allows
   refused_given None (Listed list) fit allows is same line = absurd allows
@@ -260,7 +260,7 @@ module _ (run : Run) where
       inl (record { settings = settings; refusal = refusal; name = name; fit = fit; cause = allows.1; line = line })
   refused_given (Some settings) (ReadFault name) fit allows is same line = absurd (omega arith)
   refused_given (Some settings) (Trace text) fit allows is same line = absurd (omega arith)
-  refused_given (Some settings) (Absent text) fit allows is same line = absurd (omega arith)
+  refused_given (Some settings) (Refuted text) fit allows is same line = absurd (omega arith)
   refused_given (Some settings) (Unknown text) fit allows is same line = absurd (omega arith)
   refused_given (Some settings) (Made text) fit allows is same line = absurd (omega arith)
   refused_given (Some settings) (Listed list) fit allows is same line = absurd (omega arith)
@@ -275,7 +275,7 @@ module _ (run : Run) where
   checked_given None (Refused refusal name) fit allows same low line = absurd allows
   checked_given None (ReadFault name) fit allows same low line = absurd allows
   checked_given None (Trace text) fit allows same low line = absurd allows
-  checked_given None (Absent text) fit allows same low line = absurd allows
+  checked_given None (Refuted text) fit allows same low line = absurd allows
   checked_given None (Unknown text) fit allows same low line = absurd allows
   checked_given None (Made text) fit allows same low line = absurd allows
   checked_given None (Listed list) fit allows same low line = absurd allows
@@ -285,7 +285,7 @@ module _ (run : Run) where
   checked_given (Some settings) (Refused refusal name) fit allows same low line = elim low [ inl e ↦ absurd (omega arith) | inr e ↦ absurd (omega arith) ]
   checked_given (Some settings) (ReadFault name) fit allows same low line = elim low [ inl e ↦ absurd (omega arith) | inr e ↦ absurd (omega arith) ]
   checked_given (Some settings) (Trace text) fit allows same low line = elim low [ inl e ↦ absurd (omega arith) | inr e ↦ absurd (omega arith) ]
-  checked_given (Some settings) (Absent text) fit allows same low line = elim low [ inl e ↦ absurd (omega arith) | inr e ↦ absurd (omega arith) ]
+  checked_given (Some settings) (Refuted text) fit allows same low line = elim low [ inl e ↦ absurd (omega arith) | inr e ↦ absurd (omega arith) ]
   checked_given (Some settings) (Unknown text) fit allows same low line = elim low [ inl e ↦ absurd (omega arith) | inr e ↦ absurd (omega arith) ]
   checked_given (Some settings) (Made text) fit allows same low line = inr (inr (inr (record { settings = settings; fit = fit; mode = allows.1; has = same })))
   checked_given (Some settings) (Listed list) fit allows same low line =
@@ -307,7 +307,7 @@ module _ (run : Run) where
       ]
   proof_given settings (ReadFault n) told name clauses lines verdict allows tells is = inr (inl refl)
   proof_given settings (Trace text) told name clauses lines verdict allows tells is = absurd (no_lrat_looks settings.mode is.mode allows.1.mode)
-  proof_given settings (Absent text) told name clauses lines verdict allows tells is = absurd (no_lrat_looks settings.mode is.mode allows.1.mode)
+  proof_given settings (Refuted text) told name clauses lines verdict allows tells is = absurd (no_lrat_looks settings.mode is.mode allows.1.mode)
   proof_given settings (Unknown text) told name clauses lines verdict allows tells is = absurd (no_lrat_looks settings.mode is.mode allows.1.mode)
   proof_given settings (Made text) told name clauses lines verdict allows tells is = cc (allows.1, is.mode)
   proof_given settings (Listed list) told name clauses lines verdict allows tells is = cc (allows.1.mode, is.mode)
@@ -324,7 +324,7 @@ module _ (run : Run) where
   read_fault_given None (Refused refusal name) fit allows is line = absurd allows
   read_fault_given None (ReadFault name) fit allows is line = absurd allows
   read_fault_given None (Trace text) fit allows is line = absurd allows
-  read_fault_given None (Absent text) fit allows is line = absurd allows
+  read_fault_given None (Refuted text) fit allows is line = absurd allows
   read_fault_given None (Unknown text) fit allows is line = absurd allows
   read_fault_given None (Made text) fit allows is line = absurd allows
   read_fault_given None (Listed list) fit allows is line = absurd allows
@@ -335,7 +335,7 @@ module _ (run : Run) where
   read_fault_given (Some settings) (ReadFault name) fit allows is line =
       record { settings = settings; name = name; fit = fit; asked_for = allows.0; rose = allows.1; line = line }
   read_fault_given (Some settings) (Trace text) fit allows is line = absurd (omega arith)
-  read_fault_given (Some settings) (Absent text) fit allows is line = absurd (omega arith)
+  read_fault_given (Some settings) (Refuted text) fit allows is line = absurd (omega arith)
   read_fault_given (Some settings) (Unknown text) fit allows is line = absurd (omega arith)
   read_fault_given (Some settings) (Made text) fit allows is line = absurd (omega arith)
   read_fault_given (Some settings) (Listed list) fit allows is line = absurd (omega arith)
@@ -347,7 +347,7 @@ module _ (run : Run) where
   trace_given None (Refused refusal name) fit allows is line = absurd allows
   trace_given None (ReadFault name) fit allows is line = absurd allows
   trace_given None (Trace text) fit allows is line = absurd allows
-  trace_given None (Absent text) fit allows is line = absurd allows
+  trace_given None (Refuted text) fit allows is line = absurd allows
   trace_given None (Unknown text) fit allows is line = absurd allows
   trace_given None (Made text) fit allows is line = absurd allows
   trace_given None (Listed list) fit allows is line = absurd allows
@@ -357,7 +357,7 @@ module _ (run : Run) where
   trace_given (Some settings) (Refused refusal name) fit allows is line = absurd (omega arith)
   trace_given (Some settings) (ReadFault name) fit allows is line = absurd (omega arith)
   trace_given (Some settings) (Trace text) fit allows is line = record { settings = settings; text = text; fit = fit; searched = allows.1; shown = allows.2; line = line }
-  trace_given (Some settings) (Absent text) fit allows is line = absurd (omega arith)
+  trace_given (Some settings) (Refuted text) fit allows is line = absurd (omega arith)
   trace_given (Some settings) (Unknown text) fit allows is line = absurd (omega arith)
   trace_given (Some settings) (Made text) fit allows is line = absurd (omega arith)
   trace_given (Some settings) (Listed list) fit allows is line = absurd (omega arith)
@@ -369,7 +369,7 @@ module _ (run : Run) where
   absent_given None (Refused refusal name) fit allows is line = absurd allows
   absent_given None (ReadFault name) fit allows is line = absurd allows
   absent_given None (Trace text) fit allows is line = absurd allows
-  absent_given None (Absent text) fit allows is line = absurd allows
+  absent_given None (Refuted text) fit allows is line = absurd allows
   absent_given None (Unknown text) fit allows is line = absurd allows
   absent_given None (Made text) fit allows is line = absurd allows
   absent_given None (Listed list) fit allows is line = absurd allows
@@ -379,7 +379,7 @@ module _ (run : Run) where
   absent_given (Some settings) (Refused refusal name) fit allows is line = absurd (omega arith)
   absent_given (Some settings) (ReadFault name) fit allows is line = absurd (omega arith)
   absent_given (Some settings) (Trace text) fit allows is line = absurd (omega arith)
-  absent_given (Some settings) (Absent text) fit allows is line = record { settings = settings; text = text; fit = fit; searched = allows.1; absent = allows.2; line = line }
+  absent_given (Some settings) (Refuted text) fit allows is line = record { settings = settings; text = text; fit = fit; searched = allows.1; absent = allows.2; line = line }
   absent_given (Some settings) (Unknown text) fit allows is line = absurd (omega arith)
   absent_given (Some settings) (Made text) fit allows is line = absurd (omega arith)
   absent_given (Some settings) (Listed list) fit allows is line = absurd (omega arith)
@@ -391,7 +391,7 @@ module _ (run : Run) where
   unknown_given None (Refused refusal name) fit allows is line = absurd allows
   unknown_given None (ReadFault name) fit allows is line = absurd allows
   unknown_given None (Trace text) fit allows is line = absurd allows
-  unknown_given None (Absent text) fit allows is line = absurd allows
+  unknown_given None (Refuted text) fit allows is line = absurd allows
   unknown_given None (Unknown text) fit allows is line = absurd allows
   unknown_given None (Made text) fit allows is line = absurd allows
   unknown_given None (Listed list) fit allows is line = absurd allows
@@ -401,7 +401,7 @@ module _ (run : Run) where
   unknown_given (Some settings) (Refused refusal name) fit allows is line = absurd (omega arith)
   unknown_given (Some settings) (ReadFault name) fit allows is line = absurd (omega arith)
   unknown_given (Some settings) (Trace text) fit allows is line = absurd (omega arith)
-  unknown_given (Some settings) (Absent text) fit allows is line = absurd (omega arith)
+  unknown_given (Some settings) (Refuted text) fit allows is line = absurd (omega arith)
   unknown_given (Some settings) (Unknown text) fit allows is line = record { settings = settings; text = text; fit = fit; searched = allows.1; open_at = allows.2; line = line }
   unknown_given (Some settings) (Made text) fit allows is line = absurd (omega arith)
   unknown_given (Some settings) (Listed list) fit allows is line = absurd (omega arith)
@@ -415,7 +415,7 @@ module _ (run : Run) where
   broken_given settings (Refused refusal name) told broken allows tells breaks = inl refl
   broken_given settings (ReadFault name) told broken allows tells breaks = inr (inl refl)
   broken_given settings (Trace text) told broken allows tells breaks = cc (allows.1.whole told tells, breaks)
-  broken_given settings (Absent text) told broken allows tells breaks = cc (allows.1.whole told tells, breaks)
+  broken_given settings (Refuted text) told broken allows tells breaks = cc (allows.1.whole told tells, breaks)
   broken_given settings (Unknown text) told broken allows tells breaks = cc (allows.1.whole told tells, breaks)
   broken_given settings (Made text) told broken allows tells breaks =
       let none : asked settings ≡ [] = ap (λ m. asked_in m settings.file settings.second) allows.1 in
@@ -431,7 +431,7 @@ module _ (run : Run) where
   second_given settings (Refused refusal name) told second rule allows tells mode named breaks = inl refl
   second_given settings (ReadFault name) told second rule allows tells mode named breaks = inr (inl refl)
   second_given settings (Trace text) told second rule allows tells mode named breaks = absurd (no_trace_looks settings.mode allows.1.mode mode)
-  second_given settings (Absent text) told second rule allows tells mode named breaks = absurd (no_trace_looks settings.mode allows.1.mode mode)
+  second_given settings (Refuted text) told second rule allows tells mode named breaks = absurd (no_trace_looks settings.mode allows.1.mode mode)
   second_given settings (Unknown text) told second rule allows tells mode named breaks = absurd (no_trace_looks settings.mode allows.1.mode mode)
   second_given settings (Made text) told second rule allows tells mode named breaks = let bad : false ≡ true = no_trace_in settings.mode Make allows.1 mode in cc
   second_given settings (Listed list) told second rule allows tells mode named breaks = let bad : false ≡ true = no_trace_in settings.mode Commands allows.1.mode mode in cc
@@ -447,7 +447,7 @@ module _ (run : Run) where
   mode_given settings (Refused refusal name) allows = inr (inl refl)
   mode_given settings (ReadFault name) allows = inr (inr refl)
   mode_given settings (Trace text) allows = inl (ten_of settings.mode allows.1.mode)
-  mode_given settings (Absent text) allows = inl (twenty_of settings.mode allows.1.mode)
+  mode_given settings (Refuted text) allows = inl (twenty_of settings.mode allows.1.mode)
   mode_given settings (Unknown text) allows = inl (thirty_of settings.mode allows.1.mode)
   mode_given settings (Made text) allows = subst (λ m. Among m 0) (sym allows.1) (inl (inl refl))
   mode_given settings (Listed list) allows = subst (λ m. Among m 0) (sym allows.1.mode) (inl (inl refl))
@@ -486,7 +486,7 @@ module _ (run : Run) where
   uncut_given settings (Refused r name) told text refusal allows tells is cut = inl refl
   uncut_given settings (ReadFault name) told text refusal allows tells is cut = inr (inl refl)
   uncut_given settings (Trace bytes) told text refusal allows tells is cut = absurd (uncut (model_of told settings) text refusal is cut (allows.1.spells told tells))
-  uncut_given settings (Absent bytes) told text refusal allows tells is cut = absurd (uncut (model_of told settings) text refusal is cut (allows.1.spells told tells))
+  uncut_given settings (Refuted bytes) told text refusal allows tells is cut = absurd (uncut (model_of told settings) text refusal is cut (allows.1.spells told tells))
   uncut_given settings (Unknown bytes) told text refusal allows tells is cut = absurd (uncut (model_of told settings) text refusal is cut (allows.1.spells told tells))
   uncut_given settings (Made bytes) told text refusal allows tells is cut = absurd (no_model_made settings told text allows.1 is)
   uncut_given settings (Listed list) told text refusal allows tells is cut = absurd (uncut (model_of told settings) text refusal is cut (listed_spells (model_of told settings) list (allows.1.lists told tells)))
@@ -499,7 +499,7 @@ module _ (run : Run) where
   risen_given None (Refused refusal name) allows other = absurd allows
   risen_given None (ReadFault name) allows other = absurd allows
   risen_given None (Trace text) allows other = absurd allows
-  risen_given None (Absent text) allows other = absurd allows
+  risen_given None (Refuted text) allows other = absurd allows
   risen_given None (Unknown text) allows other = absurd allows
   risen_given None (Made text) allows other = absurd allows
   risen_given None (Listed list) allows other = absurd allows
@@ -509,7 +509,7 @@ module _ (run : Run) where
   risen_given (Some settings) (Refused refusal name) allows other = absurd (other allows.0)
   risen_given (Some settings) (ReadFault name) allows other = refl
   risen_given (Some settings) (Trace text) allows other = absurd (other allows.0)
-  risen_given (Some settings) (Absent text) allows other = absurd (other allows.0)
+  risen_given (Some settings) (Refuted text) allows other = absurd (other allows.0)
   risen_given (Some settings) (Unknown text) allows other = absurd (other allows.0)
   risen_given (Some settings) (Made text) allows other = absurd (other allows.0)
   risen_given (Some settings) (Listed list) allows other = absurd (other allows.0)

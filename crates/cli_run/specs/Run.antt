@@ -30,7 +30,7 @@ use Rattle.cli_run.specs.Answer.{text_of, status_of}
 use Rattle.cli_run.specs.Files.{Asked, IsAsked, asked, at_start, file_rule, first_broken}
 use Rattle.cli_run.specs.Root.{SpellsModule, ListsModule, Breaks}
 use Rattle.cli_run.specs.declared.answer.Answer.{Answer}
-use Rattle.cli_run.specs.declared.answer.Answer.TheVariants.{Usage, Refused, ReadFault, Trace, Absent, Unknown, Made, Listed, Checked, Traced}
+use Rattle.cli_run.specs.declared.answer.Answer.TheVariants.{Usage, Refused, ReadFault, Trace, Refuted, Unknown, Made, Listed, Checked, Traced}
 
 -- the text of the model that a mode reads, if it reads one
 abbrev pub model_in : Mode → Option (List ℕ) → Option (List ℕ)
@@ -183,7 +183,7 @@ AllowsFiles files settings held before now Usage = ⊥
 AllowsFiles files settings held before now (Refused refusal name) = (now ≡ before) × IsRefused held files settings refusal name
 AllowsFiles files settings held before now (ReadFault name) = IsSought settings name files × SomeRose before now
 AllowsFiles files settings held before now (Trace text) = (now ≡ before) × IsSearched held files settings × ShownTrace settings.mode settings.command settings.part text
-AllowsFiles files settings held before now (Absent text) = (now ≡ before) × IsSearched held files settings × ShownNone settings.mode settings.command settings.part text
+AllowsFiles files settings held before now (Refuted text) = (now ≡ before) × IsSearched held files settings × ShownNone settings.mode settings.command settings.part text
 AllowsFiles files settings held before now (Unknown text) = (now ≡ before) × IsSearched held files settings × ShownSpent settings.mode settings.command settings.conflicts text
 AllowsFiles files settings held before now (Made text) = (now ≡ before) × (settings.mode ≡ Make)
 AllowsFiles files settings held before now (Listed list) = (now ≡ before) × IsListed held files settings list
@@ -200,7 +200,7 @@ abbrev pub IsOnModel : Settings → List (Option Texts) → List ℕ → List �
 IsOnModel settings held text before now (Refused refusal name) = (now ≡ before) × RefusedIn (Some text) settings refusal name
 IsOnModel settings held text before now (ReadFault name) = IsOpened settings name × SomeRose before now
 IsOnModel settings held text before now (Trace bytes) = (now ≡ before) × IsTrue (looks settings.mode) × SpellsModule (Some text) × ShownTrace settings.mode settings.command settings.part bytes
-IsOnModel settings held text before now (Absent bytes) = (now ≡ before) × IsTrue (looks settings.mode) × SpellsModule (Some text) × ShownNone settings.mode settings.command settings.part bytes
+IsOnModel settings held text before now (Refuted bytes) = (now ≡ before) × IsTrue (looks settings.mode) × SpellsModule (Some text) × ShownNone settings.mode settings.command settings.part bytes
 IsOnModel settings held text before now (Unknown bytes) = (now ≡ before) × IsTrue (looks settings.mode) × SpellsModule (Some text) × ShownSpent settings.mode settings.command settings.conflicts bytes
 IsOnModel settings held text before now (Listed list) = (now ≡ before) × (settings.mode ≡ Commands) × ListsModule (Some text) list
 IsOnModel settings held text before now (Traced said second) = (now ≡ before) × SpellsModule (Some text) × IsReadTrace held settings said second
@@ -216,14 +216,14 @@ pub record IsRefusal (answer : Answer) : Type 0 where
 abbrev pub IsFoundIn : Mode → ℕ → Part → Option ℕ → Answer → Type 0
 IsFoundIn mode number part budget (Refused refusal name) = ⊤
 IsFoundIn mode number part budget (Trace bytes) = ShownTrace mode number part bytes
-IsFoundIn mode number part budget (Absent bytes) = ShownNone mode number part bytes
+IsFoundIn mode number part budget (Refuted bytes) = ShownNone mode number part bytes
 IsFoundIn mode number part budget (Unknown bytes) = ShownSpent mode number budget bytes
 IsFoundIn mode number part budget _ = ⊥
 
 -- the answer that has the text of a certificate
 abbrev pub answer_of : Certificate → Answer
 answer_of (certificate.Trace text) = Trace text
-answer_of (certificate.Absent text) = Absent text
+answer_of (certificate.Refuted text) = Refuted text
 answer_of (certificate.Unknown text) = Unknown text
 
 abbrev pub IsFound : Settings → Answer → Type 0

@@ -161,7 +161,7 @@ fn answer_of(found: Certificate) -> Answer
 {
     match found {
         Certificate::Trace(text) => Answer::Trace(text),
-        Certificate::Absent(text) => Answer::Absent(text),
+        Certificate::Refuted(text) => Answer::Refuted(text),
         Certificate::Unknown(text) => Answer::Unknown(text),
     }
 }
@@ -190,7 +190,7 @@ fn found_text(alloc: Global, settings: &Settings, found: Found) -> Result<Answer
             let text = trace_shown(alloc, &labels, &lasso, settings.part)?;
             Ok(Answer::Trace(text))
         }
-        Found::Absent {
+        Found::Refuted {
             table,
             states,
             cnf,
@@ -198,7 +198,7 @@ fn found_text(alloc: Global, settings: &Settings, found: Found) -> Result<Answer
         } => {
             let part = settings.part;
             let text = absent_text(alloc, part, states, &table, &cnf, &lines)?;
-            Ok(Answer::Absent(Bytes::from_vec(text)))
+            Ok(Answer::Refuted(Bytes::from_vec(text)))
         }
         Found::Unknown { table, cnf, lines } => {
             let text = spent_text(alloc, settings, &table, &cnf, &lines)?;
@@ -310,7 +310,7 @@ fn made_text(
             let line = made_trace(alloc, nodes, lasso.states(), lasso.loop_start())?;
             Ok(Answer::Made(Bytes::copy(alloc, line.as_bytes())?))
         }
-        Found::Absent { states, .. } => {
+        Found::Refuted { states, .. } => {
             let line = made_none(alloc, nodes, states)?;
             Ok(Answer::Made(Bytes::copy(alloc, line.as_bytes())?))
         }

@@ -20,7 +20,7 @@ pub enum Answer {
     /// There is a trace; the text shows it.
     Trace(Bytes),
     /// There is no trace; the text says so.
-    Absent(Bytes),
+    Refuted(Bytes),
     /// The budget of a search is spent; the text shows it.
     Unknown(Bytes),
     /// The text sums up what was found on a model that was made.
@@ -44,7 +44,7 @@ impl Answer {
             Answer::Refused(_, _) => 3,
             Answer::ReadFault(_) => 4,
             Answer::Trace(_) => 10,
-            Answer::Absent(_) => 20,
+            Answer::Refuted(_) => 20,
             Answer::Unknown(_) => 30,
             Answer::Made(_) => 0,
             Answer::Listed(_) => 0,
@@ -66,7 +66,7 @@ impl Answer {
             Answer::Refused(refusal, name) => refused(alloc, &refusal, name.text()),
             Answer::ReadFault(name) => fault(alloc, name.text()),
             Answer::Trace(text) => Ok(text),
-            Answer::Absent(text) => Ok(text),
+            Answer::Refuted(text) => Ok(text),
             Answer::Unknown(text) => Ok(text),
             Answer::Made(text) => Ok(text),
             Answer::Listed(text) => Ok(text),

@@ -1,6 +1,6 @@
 use Rattle.std.proofs.Common.{◌≡◌, Some, length, subst}
 use Rattle.answer_analysis.specs.Found as outcome
-use Rattle.answer_analysis.specs.declared.answer.Answer.TheVariants.{Trace, Absent, Unknown}
+use Rattle.answer_analysis.specs.declared.answer.Answer.TheVariants.{Trace, Refuted, Unknown}
 use Rattle.answer_certificates.specs.Certificate.{ShowsNone, ShowsSpent, SayAll}
 use Rattle.cli_run.proofs.analysis.found_text.Goals as goal
 
@@ -10,18 +10,18 @@ returns-in_ok-text-in-Trace c =
     let found : outcome.IsFoundIn prepared c.args.settings.now.conflicts (Trace c.in-Trace.labels c.in-Trace.lasso) = rw c.in-Trace.is at c.requires.2 in
     (prepared, c.requires.1, c.in_ok-text-in-Trace.ensures prepared found.0 found.1)
 
-pub returns-in_ok-text-in-Absent : goal.returns-in_ok-text-in-Absent
-returns-in_ok-text-in-Absent c =
+pub returns-in_ok-text-in-Refuted : goal.returns-in_ok-text-in-Refuted
+returns-in_ok-text-in-Refuted c =
     let prepared = c.requires.0 in
-    let found : outcome.IsFoundIn prepared c.args.settings.now.conflicts (Absent c.in-Absent.table c.in-Absent.states c.in-Absent.cnf c.in-Absent.lines) = rw c.in-Absent.is at c.requires.2 in
+    let found : outcome.IsFoundIn prepared c.args.settings.now.conflicts (Refuted c.in-Refuted.table c.in-Refuted.states c.in-Refuted.cnf c.in-Refuted.lines) = rw c.in-Refuted.is at c.requires.2 in
     let shown : ShowsNone (SayAll prepared) prepared.bounds.states c.args.settings.now.part c.from_vec.result = record {
-      cnf = c.in-Absent.cnf;
+      cnf = c.in-Refuted.cnf;
       says = found.3;
       shows = record {
-        table = c.in-Absent.table;
-        lines = c.in-Absent.lines;
+        table = c.in-Refuted.table;
+        lines = c.in-Refuted.lines;
         refutes = found.1;
-        text_is = cc (c.from_vec.ensures, c.in_ok-text-in-Absent.ensures, found.0);
+        text_is = cc (c.from_vec.ensures, c.in_ok-text-in-Refuted.ensures, found.0);
       };
     } in
     (prepared, c.requires.1, (shown, found.2 c.args.settings.now.command c.requires.1))
