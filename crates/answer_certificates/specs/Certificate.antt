@@ -6,6 +6,7 @@ use Rattle.answer_analysis.specs.Found.{IsReady, IsTraceOf, NoneWithin}
 use Rattle.answer_analysis.specs.declared.ready.Prepared.{Prepared}
 use Rattle.answer_texts.specs.Answers.{absent_text, unknown_text}
 use Rattle.sat_dimacs.specs.declared.cnf.Cnf.{Cnf}
+use Rattle.bound_uppers.specs.Shortest.{HasFewestStates}
 use Rattle.cli_words.specs.declared.named.Part.{Part}
 use Rattle.answer_certificates.specs.Kept.{NoneKeeps}
 use Rattle.core_meaning.specs.Sequence.{LassoValue}
@@ -22,10 +23,16 @@ use Rattle.answer_certificates.specs.Named.{AreNamed}
 use Rattle.answer_certificates.specs.declared.certificate.Certificate.{Certificate}
 use Rattle.answer_certificates.specs.declared.certificate.Certificate.TheVariants.{Trace, Refuted, Unknown}
 
--- the part that is asked for of a trace of a prepared model, which satisfies the model and its command
+-- a lasso has at most as many states as the scopes say, and the fewest that show its sequence
+pub record IsShort (prepared : Prepared) (lasso : LassoValue) : Type 0 where
+  pub few : (number : ℕ) → IsReady number prepared → length lasso.states ≤ prepared.scopes.states
+  pub fewest : HasFewestStates lasso
+
+-- the part that is asked for of a trace of a prepared model, which satisfies the model and its command, and is short
 pub record ShowsTrace (prepared : Prepared) (part : Part) (text : List ℕ) : Type 0 where
   pub lasso : LassoValue
   pub trace : IsTraceOf prepared lasso
+  pub short : IsShort prepared lasso
   pub text_is : text ≡ trace_part part (trace_text prepared.labels lasso)
 
 -- the part that is asked for of a trace of one state

@@ -5,6 +5,7 @@ use Rattle.std.specs.List.Sorted.{IsStrictlyIncreasing}
 use Rattle.core_tree.specs.declared.model.Model.{Model}
 use Rattle.core_meaning.specs.declared.target.Target.{Target}
 use Rattle.bound_uppers.specs.declared.table.Bounds.{Bounds}
+use Rattle.bound_uppers.specs.Shortest.{HasFewestStates}
 use Rattle.answer_search.specs.Found.{IsRefuted, IsSpent}
 use Rattle.answer_search.specs.declared.found.Found.{Found}
 use Rattle.answer_search.specs.declared.found.Found.TheVariants as found
@@ -19,10 +20,10 @@ use Rattle.answer_certificates.specs.Parts.{AreSaidFor, AreRefutedFor, AreLeftOu
 abbrev pub AreKept : ℕ → List ℕ → Type 0
 AreKept facts kept = IsStrictlyIncreasing kept × All (λ fact. fact < facts) kept
 
--- Under the target's scopes: a lasso of at most so many states; or facts by their numbers, with lines that refute clauses over so
+-- Under the target's scopes: a lasso of at most so many states, the fewest that show its sequence; or facts by their numbers, with lines that refute clauses over so
 -- many, which say what the target does with these facts alone; or a budget that is spent on clauses that say it with some of them.
 abbrev pub IsCore : Model → Target → ℕ → ℕ → Option ℕ → Core → Type 0
-IsCore model target first facts budget (Trace lasso) = length lasso.states ≤ target.scopes.states
+IsCore model target first facts budget (Trace lasso) = (length lasso.states ≤ target.scopes.states) × HasFewestStates lasso
 IsCore model target first facts budget (Refuted kept proof) = AreKept facts kept × IsRefuted target.scopes.states proof × RuleOut model target first facts kept proof.cnf.clauses
 IsCore model target first facts budget (Unknown proof) = IsSpent target.scopes.states budget proof × SayPart model target first proof.cnf.clauses
 

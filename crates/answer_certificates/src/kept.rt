@@ -104,6 +104,6 @@ fn core_shown(
     let names = facts.as_slice();
     let states = proof.states;
     let text = core_part(alloc, part, states, names, &rows, &proof.cnf, &proof.lines)?;
-    let shown = Bytes::copy(alloc, &text)?;
+    let shown = Bytes::from_vec(text);
     Ok(shown)
 }

@@ -104,7 +104,7 @@ fn above_shown(
     bounds.states = proof.states;
     let rows = table(alloc, &prepared.labels, &bounds)?;
     let text = above_part(alloc, part, &trace, &rows, &proof.cnf, &proof.lines)?;
-    let shown = Bytes::copy(alloc, &text)?;
+    let shown = Bytes::from_vec(text);
     Ok(shown)
 }
 
@@ -122,6 +122,6 @@ fn none_shown(
     bounds.states = proof.states;
     let rows = table(alloc, labels, &bounds)?;
     let text = absent_text(alloc, part, proof.states, &rows, &proof.cnf, &proof.lines)?;
-    let shown = Bytes::copy(alloc, &text)?;
+    let shown = Bytes::from_vec(text);
     Ok(shown)
 }

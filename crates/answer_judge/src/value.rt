@@ -59,7 +59,7 @@ fn valued(
     // for the proof: this call's clause says that it is a set of tuples
     let _ = set.arity();
     let text = value_text(alloc, &prepared.labels.atoms, &set)?;
-    let shown = Bytes::copy(alloc, &text)?;
+    let shown = Bytes::from_vec(text);
     // for the proof: only the clauses name the text of the trace
     let _ = trace;
     Ok(TraceAnswer::Valued(shown))

@@ -1,9 +1,18 @@
-use Rattle.std.proofs.Common.{ℕ, ◌<◌, subst}
+use Rattle.std.proofs.Common.{ℕ, ◌<◌, ◌≤◌, length, subst}
 use Rattle.std.specs.List.{All}
+use Rattle.core_meaning.specs.declared.scopes.Scopes.{Scopes}
 use Rattle.answer_certificates.specs.Core.{IsCore}
 use Rattle.answer_certificates.specs.Parts.{RuleOut}
 use Rattle.answer_certificates.specs.declared.facts.Core.{Core}
 use Rattle.answer_certificates.proofs.kept.core_certificate.Goals as goal
+
+pub found_shown-requires : goal.found_shown-requires
+found_shown-requires g c =
+    let found = subst (λ (x : Core). IsCore c.args.prepared.model c.args.prepared.target c.args.prepared.first_fact c.in_ok-facts.facts c.args.budget x) c.in-Trace.is c.in_ok-lasso.ensures in
+    record {
+      few = λ number ready. subst (λ (s : Scopes). length c.in-Trace.lasso.states ≤ s.states) ready.scoped found.0;
+      fewest = found.1;
+    }
 
 pub returns-in_ok-text-in-Unknown : goal.returns-in_ok-text-in-Unknown
 returns-in_ok-text-in-Unknown g c =

@@ -1,14 +1,18 @@
-use Rattle.std.proofs.Common.{◌≡◌, Some, length, subst}
+use Rattle.std.proofs.Common.{◌≡◌, ◌≤◌, ℕ, Some, length, subst}
 use Rattle.answer_analysis.specs.Found as outcome
 use Rattle.answer_analysis.specs.declared.answer.Answer.TheVariants.{Trace, Refuted, Unknown}
-use Rattle.answer_certificates.specs.Certificate.{ShowsNone, ShowsSpent, SayAll}
+use Rattle.answer_certificates.specs.Certificate.{IsShort, ShowsNone, ShowsSpent, SayAll}
 use Rattle.cli_run.proofs.analysis.found_text.Goals as goal
 
 pub returns-in_ok-text-in-Trace : goal.returns-in_ok-text-in-Trace
 returns-in_ok-text-in-Trace c =
     let prepared = c.requires.0 in
     let found : outcome.IsFoundIn prepared c.args.settings.now.conflicts (Trace c.in-Trace.labels c.in-Trace.lasso) = rw c.in-Trace.is at c.requires.2 in
-    (prepared, c.requires.1, c.in_ok-text-in-Trace.ensures prepared found.0 found.1)
+    let short : IsShort prepared c.in-Trace.lasso = record {
+      few = λ number ready. subst (λ (n : ℕ). length c.in-Trace.lasso.states ≤ n) ready.states found.2;
+      fewest = found.3;
+    } in
+    (prepared, c.requires.1, c.in_ok-text-in-Trace.ensures prepared found.0 found.1 short)
 
 pub returns-in_ok-text-in-Refuted : goal.returns-in_ok-text-in-Refuted
 returns-in_ok-text-in-Refuted c =
