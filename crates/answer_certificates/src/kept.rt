@@ -97,7 +97,7 @@ fn core_shown(
     part: Part,
 ) -> Result<Bytes, AllocError>
     requires { Refutes proof.cnf.clauses proof.lines }
-    ensures { IfOk result (λ text. ShowsFacts proof.cnf part facts.now text) }
+    ensures { IfOk result (λ text. ShowsFacts proof.cnf proof.states part facts.now text) }
 {
     bounds.states = proof.states;
     let rows = table(alloc, labels, &bounds)?;

@@ -1,4 +1,4 @@
-use Rattle.std.proofs.Common.{ℕ, ◌<◌, ◌≤◌, length, subst}
+use Rattle.std.proofs.Common.{ℕ, ◌<◌, ◌≤◌, ◌∙◌, ap, length, subst}
 use Rattle.std.specs.List.{All}
 use Rattle.core_meaning.specs.declared.scopes.Scopes.{Scopes}
 use Rattle.answer_certificates.specs.Core.{IsCore}
@@ -32,5 +32,7 @@ returns-in_ok-text-in-Refuted g c =
       cnf = c.in-Refuted.proof.cnf;
       ruled = ruled;
       none = λ number ready. c.kept_facts_rule_out.ensures number c.args.prepared c.in-Refuted.kept c.in-Refuted.proof.cnf.clauses ready ruled;
+      states = c.in-Refuted.proof.states;
+      scoped = λ number ready. found.1.0 ∙ ap (λ (s : Scopes). s.states) ready.scoped;
       shows = c.in_ok-text-in-Refuted.ensures;
     }

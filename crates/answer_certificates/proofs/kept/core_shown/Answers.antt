@@ -2,7 +2,6 @@ use Rattle.answer_certificates.proofs.kept.core_shown.Goals as goal
 
 pub returns : goal.returns
 returns c = record {
-  states = c.args.proof.states;
   table = c.in_ok-rows.rows;
   lines = c.args.proof.lines;
   refutes = c.requires;

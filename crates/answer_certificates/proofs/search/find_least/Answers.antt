@@ -1,9 +1,10 @@
-use Rattle.std.proofs.Common.{◌≡◌, ◌+◌, ◌<◌, ◌≤◌, ℕ, length, refl, sym, subst, arith}
+use Rattle.std.proofs.Common.{◌≡◌, ◌+◌, ◌-◌, ◌<◌, ◌≤◌, ℕ, length, refl, sym, subst, arith}
 use Rattle.bound_uppers.specs.declared.table.Bounds.{Bounds}
 use Rattle.answer_search.specs.Clauses.{RulesOut, SaysTarget}
 use Rattle.answer_search.specs.Found.{IsFound}
 use Rattle.answer_search.specs.Limits.{AreLimitsOf, IsRuledOutOver}
 use Rattle.answer_certificates.specs.Least.{IsBelow, SayOver}
+use Rattle.answer_certificates.proofs.LeastLaw.{ruled_below}
 use Rattle.answer_certificates.proofs.search.find_least.Goals as goal
 
 pub loop-fewer-init : goal.loop-fewer-init
@@ -43,7 +44,14 @@ returns-in-Unknown g c =
     let limits : AreLimitsOf c.args.model.now c.args.target.now.scopes over = record { uppers = before.uppers; fixed = before.fixed; table = before.table } in
     let said : SayOver c.args.model.now c.args.target.now states c.in-Unknown.proof.cnf.clauses = record { bounds = over; limits = limits; count = refl; says = says } in
     let low : c.in-Unknown.proof.states ≤ c.args.target.now.scopes.states = omega (arith, count, c.loop-fewer-test.true) in
-    (omega (arith, count), low, (refl, spent.1), subst (λ (n : ℕ). SayOver c.args.model.now c.args.target.now n c.in-Unknown.proof.cnf.clauses) (sym count) said)
+    let below : 1 < states → IsRuledOutOver c.args.model.now c.args.target.now (states - 1) = ruled_below c.args.model.now c.args.target.now states c.loop-fewer.below c.loop-fewer.invariant.below in
+    (
+      omega (arith, count),
+      low,
+      (refl, spent.1),
+      subst (λ (n : ℕ). SayOver c.args.model.now c.args.target.now n c.in-Unknown.proof.cnf.clauses) (sym count) said,
+      subst (λ (n : ℕ). 1 < n → IsRuledOutOver c.args.model.now c.args.target.now (n - 1)) (sym count) below,
+    )
 
 pub returns-in-Some : goal.returns-in-Some
 returns-in-Some g c =
