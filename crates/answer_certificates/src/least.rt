@@ -59,8 +59,11 @@ fn least_shown(
 ) -> Result<Bytes, AllocError>
     requires trace { IsTraceOf prepared lasso.now }
     requires none { below ≡ None → length lasso.now.states ≡ 1 }
-    requires some { (proof : _) → below ≡ Some proof → (1 < length lasso.now.states) × Refutes proof.cnf.clauses proof.lines × ((number : ℕ) → IsReady number prepared → NoneWithin prepared (length lasso.now.states - 1)) }
-    requires says { (proof : _) → below ≡ Some proof → SayOverStates prepared (length lasso.now.states - 1) proof.cnf }
+    requires some { (proof : _) → below ≡ Some proof → (1 < length lasso.now.states)
+        × Refutes proof.cnf.clauses proof.lines × ((number : ℕ) → IsReady number prepared →
+        NoneWithin prepared (length lasso.now.states - 1)) }
+    requires says { (proof : _) → below ≡ Some proof →
+        SayOverStates prepared (length lasso.now.states - 1) proof.cnf }
     ensures { IfOk result (λ text. ShowsOne prepared part text ⊎ ShowsAbove prepared part text) }
 {
     match below {
@@ -95,7 +98,8 @@ fn above_shown(
     requires trace { IsTraceOf prepared lasso.now }
     requires more { 1 < length lasso.now.states }
     requires refutes { Refutes proof.cnf.clauses proof.lines }
-    requires none { (number : ℕ) → IsReady number prepared → NoneWithin prepared (length lasso.now.states - 1) }
+    requires none { (number : ℕ) → IsReady number prepared →
+        NoneWithin prepared (length lasso.now.states - 1) }
     requires says { SayOverStates prepared (length lasso.now.states - 1) proof.cnf }
     ensures { IfOk result (λ text. ShowsAbove prepared part text) }
 {

@@ -35,7 +35,8 @@ fn search<C: Chooser>(
     chooser: &mut C,
 ) -> Result<Found, AllocError>
     ensures found { IfOk result (IsFoundWithin question.now.limits.now.states question.now.budget) }
-    ensures part { IfOk result (IsSearchedFor question.now.target.now question.now.first question.now.limits.now dropped.now) }
+    ensures part { IfOk result (IsSearchedFor question.now.target.now question.now.first
+        question.now.limits.now dropped.now) }
 {
     let part = part_of(alloc, question.target, question.first, dropped)?;
     let found = search_target(alloc, &part, question.limits, chooser, question.budget)?;
@@ -61,7 +62,8 @@ fn all_kept(alloc: Global, question: &Question, proof: Proof) -> Result<Left, Al
     requires refuted { IsRefuted question.now.limits.now.states proof }
     requires says { SayTarget question.now.target.now question.now.limits.now proof.cnf.clauses }
     requires ruled { IsRuledOut question.now.target.now question.now.limits.now }
-    ensures { IfOk result (IsLeft question.now.target.now question.now.first question.now.facts question.now.limits.now) }
+    ensures { IfOk result (IsLeft question.now.target.now question.now.first question.now.facts
+        question.now.limits.now) }
 {
     let dropped = vec![in alloc; false; question.facts as usize]?;
     Ok(Left { dropped, proof })
@@ -77,7 +79,8 @@ fn trim<C: Chooser>(
     requires refuted { IsRefuted question.now.limits.now.states proof }
     requires says { SayTarget question.now.target.now question.now.limits.now proof.cnf.clauses }
     requires ruled { IsRuledOut question.now.target.now question.now.limits.now }
-    ensures { IfOk result (IsTried question.now.target.now question.now.first question.now.facts question.now.limits.now question.now.budget) }
+    ensures { IfOk result (IsTried question.now.target.now question.now.first question.now.facts
+        question.now.limits.now question.now.budget) }
 {
     let mut dropped = vec![in alloc; false; question.facts as usize]?;
     let is_less = drop_unreached(alloc, &proof, &mut dropped)?;
@@ -116,8 +119,10 @@ fn leave_out<C: Chooser>(
     fact: usize,
     chooser: &mut C,
 ) -> Result<Tried, AllocError>
-    requires { IsLeft question.now.target.now question.now.first question.now.facts question.now.limits.now left }
-    ensures { IfOk result (IsTried question.now.target.now question.now.first question.now.facts question.now.limits.now question.now.budget) }
+    requires { IsLeft question.now.target.now question.now.first question.now.facts
+        question.now.limits.now left }
+    ensures { IfOk result (IsTried question.now.target.now question.now.first question.now.facts
+        question.now.limits.now question.now.budget) }
 {
     if is_dropped(&left.dropped, fact) {
         return Ok(Tried::Left(left));
@@ -132,8 +137,10 @@ fn leave_out<C: Chooser>(
 
 /// The facts that are kept.
 fn facts_of(alloc: Global, question: &Question, left: Left) -> Result<Core, AllocError>
-    requires { IsLeft question.now.target.now question.now.first question.now.facts question.now.limits.now left }
-    ensures { IfOk result (IsShrunk question.now.target.now question.now.first question.now.facts question.now.limits.now question.now.budget) }
+    requires { IsLeft question.now.target.now question.now.first question.now.facts
+        question.now.limits.now left }
+    ensures { IfOk result (IsShrunk question.now.target.now question.now.first question.now.facts
+        question.now.limits.now question.now.budget) }
 {
     let kept = kept_facts(alloc, question.facts, &left.dropped)?;
     Ok(Core::Refuted {
@@ -149,8 +156,10 @@ fn shrink<C: Chooser>(
     left: Left,
     chooser: &mut C,
 ) -> Result<Core, AllocError>
-    requires { IsLeft question.now.target.now question.now.first question.now.facts question.now.limits.now left }
-    ensures { IfOk result (IsShrunk question.now.target.now question.now.first question.now.facts question.now.limits.now question.now.budget) }
+    requires { IsLeft question.now.target.now question.now.first question.now.facts
+        question.now.limits.now left }
+    ensures { IfOk result (IsShrunk question.now.target.now question.now.first question.now.facts
+        question.now.limits.now question.now.budget) }
 {
     let mut rest = left;
     for fact in 0..question.facts as usize {
@@ -205,8 +214,10 @@ fn shrunk<C: Chooser>(
     tried: Tried,
     chooser: &mut C,
 ) -> Result<Core, AllocError>
-    requires { IsTried question.now.target.now question.now.first question.now.facts question.now.limits.now question.now.budget tried }
-    ensures { IfOk result (IsShrunk question.now.target.now question.now.first question.now.facts question.now.limits.now question.now.budget) }
+    requires { IsTried question.now.target.now question.now.first question.now.facts
+        question.now.limits.now question.now.budget tried }
+    ensures { IfOk result (IsShrunk question.now.target.now question.now.first question.now.facts
+        question.now.limits.now question.now.budget) }
 {
     match tried {
         Tried::Left(left) => {
