@@ -22,7 +22,7 @@ use Rattle.answer_analysis.specs.declared.ready.Prepared.{Prepared}
 use Rattle.sat_lrat.specs.Step.{Refutes}
 use Rattle.sat_lrat.specs.Spent.{Spends}
 use Rattle.answer_analysis.specs.declared.answer.Answer.{Answer}
-use Rattle.answer_analysis.specs.declared.answer.Answer.TheVariants.{Trace, Absent, Unknown}
+use Rattle.answer_analysis.specs.declared.answer.Answer.TheVariants.{Trace, Refuted, Unknown}
 use Rattle.answer_analysis.specs.declared.fault.AnalyseFault.{AnalyseFault}
 use Rattle.answer_analysis.specs.declared.fault.AnalyseFault.TheVariants.{Refused, Read, Memory}
 
@@ -85,7 +85,7 @@ pub record NoneSatisfies (prepared : Prepared) : Type 0 where
 -- tells.
 abbrev pub IsFoundIn : Prepared → Option ℕ → Answer → Type 0
 IsFoundIn prepared budget (Trace labels lasso) = (labels ≡ prepared.labels) × IsTraceOf prepared lasso × (length lasso.states ≤ prepared.bounds.states) × HasFewestStates lasso
-IsFoundIn prepared budget (Absent table states cnf lines) = (states ≡ prepared.bounds.states) × Refutes cnf.clauses lines × ((number : ℕ) → IsReady number prepared → NoneSatisfies prepared) × SayTarget prepared.target prepared.bounds cnf.clauses
+IsFoundIn prepared budget (Refuted table states cnf lines) = (states ≡ prepared.bounds.states) × Refutes cnf.clauses lines × ((number : ℕ) → IsReady number prepared → NoneSatisfies prepared) × SayTarget prepared.target prepared.bounds cnf.clauses
 IsFoundIn prepared budget (Unknown table cnf lines) = (budget ≡ Some (length lines)) × Spends cnf.clauses (length lines) lines × (length lines < 3 ^ cnf.variables) × SayTarget prepared.target prepared.bounds cnf.clauses
 
 -- the same of a model that was made ready for its command of this number

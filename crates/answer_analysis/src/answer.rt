@@ -14,7 +14,7 @@ pub enum Answer {
         lasso: Lasso,
     },
     /// There is none of so many states: clauses over the table, and lines that refute them.
-    Absent {
+    Refuted {
         table: Table,
         states: u32,
         cnf: Cnf,

@@ -89,7 +89,8 @@ fn bounds_of(
     ensures most { IfOk result (λ b. universe_size scopes.now ≤ 16384) }
     ensures origins { IfOk result (λ b. HasOrigins model.now.sigs) }
     ensures uppers { IfOk result (λ b. AreUppers model.now scopes.now b.relations) }
-    ensures fixed { IfOk result (λ b. map (λ (c : Bound). c.fixed) b.relations ≡ are_fixed model.now) }
+    ensures fixed { IfOk result (λ b. map (λ (c : Bound). c.fixed) b.relations
+        ≡ are_fixed model.now) }
     ensures states { IfOk result (λ b. 0 < scopes.now.states → b.states ≡ scopes.now.states) }
     ensures fault { IfErr result IsLoadedFault }
 {
@@ -103,7 +104,8 @@ fn bounds_of(
 /// The labels of the model's relations and atoms.
 fn labels_of(alloc: Global, model: &Model, scopes: &Scopes) -> Result<Labels, AllocError>
     ensures relations { IfOk result (λ labels. AreRelationsOf model.now labels) }
-    ensures labels { IfOk result (λ labels. labels.relations ≡ relation_labels_of model.now scopes.now) }
+    ensures labels { IfOk result (λ labels. labels.relations
+        ≡ relation_labels_of model.now scopes.now) }
     ensures atoms { IfOk result (λ labels. labels.atoms ≡ universe_texts model.now scopes.now) }
     ensures counted { IfOk result (λ labels. length scopes.now.numbers ≡ length model.now.sigs) }
 {

@@ -63,18 +63,18 @@ pub fn search_prepared(
     let mut boxed = Boxed { chooser };
     let target = &prepared.target;
     match search_target(alloc, target, &prepared.bounds, &mut boxed, budget)? {
-        Found::Lasso(lasso) => trace_of(alloc, prepared, lasso),
+        Found::Trace(lasso) => trace_of(alloc, prepared, lasso),
         Found::Refuted(proof) => {
             satisfying_lassos_are_candidates();
             let table = table(alloc, &prepared.labels, &prepared.bounds)?;
-            Ok(Answer::Absent {
+            Ok(Answer::Refuted {
                 table,
                 states: proof.states,
                 cnf: proof.cnf,
                 lines: proof.lines,
             })
         }
-        Found::Spent(proof) => {
+        Found::Unknown(proof) => {
             let table = table(alloc, &prepared.labels, &prepared.bounds)?;
             Ok(Answer::Unknown {
                 table,

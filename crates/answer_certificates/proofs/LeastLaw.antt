@@ -1,5 +1,7 @@
 -- What stands below the fewest states.
-use Rattle.std.proofs.Common.{◌≡◌, ◌<◌, ◌+◌, ◌-◌, ℕ, Option, Some, sym, ap, ◌∙◌, subst, arith}
+use Rattle.std.proofs.Common.{◌≡◌, ◌<◌, ◌+◌, ◌-◌, ℕ, Option, Some, None, sym, ap, ◌∙◌, subst, arith}
+use Rattle.core_tree.specs.declared.model.Model.{Model}
+use Rattle.core_meaning.specs.declared.target.Target.{Target}
 use Rattle.sat_lrat.specs.Step.{Refutes}
 use Rattle.sat_lrat.specs.declared.line.Proof.{Proof}
 use Rattle.answer_certificates.specs.Certificate.{SayOverStates}
@@ -14,6 +16,13 @@ below_none prepared states below proof law is has =
     let (some, next, refuted, out, said) = subst (IsBelow prepared.model prepared.target states) is has in
     let less : proof.states ≡ states - 1 = omega (arith, next) in
     (omega (arith, some, next), refuted.1, λ number ready. subst (NoneWithin prepared) less (law number prepared proof.states ready out))
+
+pub ruled_below : (model : Model) (target : Target) (states : ℕ) (below : Option Proof) → IsBelow model target states below → 1 < states → IsRuledOutOver model target (states - 1)
+ruled_below model target states None is more = absurd (omega (arith, is, more))
+ruled_below model target states (Some proof) is more =
+    let next = is.1 in
+    let less : proof.states ≡ states - 1 = omega (arith, next) in
+    subst (λ (n : ℕ). IsRuledOutOver model target n) less is.3
 
 pub below_says : (prepared : Prepared) (states : ℕ) (below : Option Proof) (proof : Proof) → below ≡ Some proof → IsBelow prepared.model prepared.target states below → SayOverStates prepared (states - 1) proof.cnf
 below_says prepared states below proof is has =

@@ -9,7 +9,7 @@ use Rattle.bound_uppers.specs.declared.table.Bounds.{Bounds}
 use Rattle.answer_search.specs.Clauses.{SaysTarget, RulesOut}
 use Rattle.answer_search.specs.Limits.{AreLimitsOf}
 use Rattle.answer_search.specs.declared.found.Found.{Found}
-use Rattle.answer_search.specs.declared.found.Found.TheVariants.{Lasso, Refuted, Spent}
+use Rattle.answer_search.specs.declared.found.Found.TheVariants.{Trace, Refuted, Unknown}
 use Rattle.core_tree.specs.declared.model.Model.{Model}
 use Rattle.answer_certificates.specs.declared.facts.Core.{Core}
 use Rattle.answer_certificates.specs.declared.facts.Core.TheVariants as core
@@ -69,13 +69,13 @@ whole_part target first n dropped is = record {
 -- ---- what the searches show
 
 pub searched_for : (target part : Target) (first : ℕ) (limits : Bounds) (dropped : List Bool) (found : Found) → IsPartOf target first dropped part → SaysTarget part limits found → RulesOut part limits found → IsSearchedFor target first limits dropped found
-searched_for target part first limits dropped (Lasso lasso) is says rules = tt
+searched_for target part first limits dropped (Trace lasso) is says rules = tt
 searched_for target part first limits dropped (Refuted proof) is says rules = record { part = part; is_part = is; says = says; ruled = rules }
-searched_for target part first limits dropped (Spent proof) is says rules = record { part = part; is_part = is; says = says }
+searched_for target part first limits dropped (Unknown proof) is says rules = record { part = part; is_part = is; says = says }
 
 pub shrunk_core : (model : Model) (target : Target) (first facts : ℕ) (limits : Bounds) (budget : Option ℕ) (found : Core) → limits.states ≡ target.scopes.states → AreLimitsOf model target.scopes limits → IsShrunk target first facts limits budget found → IsCore model target first facts budget found
 shrunk_core model target first facts limits budget (core.Trace lasso) states are shrunk = absurd shrunk
-shrunk_core model target first facts limits budget (core.Facts kept proof) states are shrunk = (
+shrunk_core model target first facts limits budget (core.Refuted kept proof) states are shrunk = (
   shrunk.0,
   (shrunk.1.0 ∙ states, shrunk.1.1),
   record { dropped = shrunk.2; left_out = shrunk.3; limits = limits; states = states; limits_are = are; refuted = shrunk.4 },

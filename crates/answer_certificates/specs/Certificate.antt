@@ -6,6 +6,7 @@ use Rattle.answer_analysis.specs.Found.{IsReady, IsTraceOf, NoneWithin}
 use Rattle.answer_analysis.specs.declared.ready.Prepared.{Prepared}
 use Rattle.answer_texts.specs.Answers.{absent_text, unknown_text}
 use Rattle.sat_dimacs.specs.declared.cnf.Cnf.{Cnf}
+use Rattle.bound_uppers.specs.Shortest.{HasFewestStates}
 use Rattle.cli_words.specs.declared.named.Part.{Part}
 use Rattle.answer_certificates.specs.Kept.{NoneKeeps}
 use Rattle.core_meaning.specs.Sequence.{LassoValue}
@@ -20,12 +21,18 @@ use Rattle.answer_search.specs.Clauses.{SayTarget}
 use Rattle.answer_trace.specs.Text.{trace_text}
 use Rattle.answer_certificates.specs.Named.{AreNamed}
 use Rattle.answer_certificates.specs.declared.certificate.Certificate.{Certificate}
-use Rattle.answer_certificates.specs.declared.certificate.Certificate.TheVariants.{Trace, Absent, Unknown}
+use Rattle.answer_certificates.specs.declared.certificate.Certificate.TheVariants.{Trace, Refuted, Unknown}
 
--- the part that is asked for of a trace of a prepared model, which satisfies the model and its command
+-- a lasso has at most as many states as the scopes say, and the fewest that show its sequence
+pub record IsShort (prepared : Prepared) (lasso : LassoValue) : Type 0 where
+  pub few : (number : ℕ) → IsReady number prepared → length lasso.states ≤ prepared.scopes.states
+  pub fewest : HasFewestStates lasso
+
+-- the part that is asked for of a trace of a prepared model, which satisfies the model and its command, and is short
 pub record ShowsTrace (prepared : Prepared) (part : Part) (text : List ℕ) : Type 0 where
   pub lasso : LassoValue
   pub trace : IsTraceOf prepared lasso
+  pub short : IsShort prepared lasso
   pub text_is : text ≡ trace_part part (trace_text prepared.labels lasso)
 
 -- the part that is asked for of a trace of one state
@@ -63,16 +70,15 @@ pub record ShowsNone (Says : Cnf → Type 0) (states : ℕ) (part : Part) (text 
   pub shows : IsNoneText cnf states part text
 
 -- the part that is asked for of these facts, of these clauses over so many states, and of lines that refute them
-pub record ShowsFacts (cnf : Cnf) (part : Part) (facts : List FactName) (text : List ℕ) : Type 0 where
-  pub states : ℕ
+pub record ShowsFacts (cnf : Cnf) (states : ℕ) (part : Part) (facts : List FactName) (text : List ℕ) : Type 0 where
   pub table : List (List ℕ)
   pub lines : List Line
   pub refutes : Refutes cnf.clauses lines
   pub text_is : text ≡ core_part part states facts table cnf lines
 
 -- the part that is asked for of facts of a prepared model, each at most once and in order, none of them the last part, which is
--- the command; of clauses that say what the model's target does with these facts alone; and of lines that refute them, so that within
--- the bounds no lasso satisfies the declarations, these facts and the command, as `NoneKeeps` says it
+-- the command; of clauses over as many states as the scopes say, which say what the model's target does with these facts alone; and
+-- of lines that refute them, so that no lasso satisfies the declarations, these facts and the command, as `NoneKeeps` says it
 pub record ShowsCore (prepared : Prepared) (part : Part) (text : List ℕ) : Type 0 where
   pub kept : List ℕ
   pub names : List FactName
@@ -82,7 +88,9 @@ pub record ShowsCore (prepared : Prepared) (part : Part) (text : List ℕ) : Typ
   pub cnf : Cnf
   pub ruled : RuleOut prepared.model prepared.target prepared.first_fact (length prepared.parts - 1) kept cnf.clauses
   pub none : (number : ℕ) → IsReady number prepared → NoneKeeps prepared ruled.limits kept
-  pub shows : ShowsFacts cnf part names text
+  pub states : ℕ
+  pub scoped : (number : ℕ) → IsReady number prepared → states ≡ prepared.scopes.states
+  pub shows : ShowsFacts cnf states part names text
 
 -- these clauses, and just as many lemmas as the budget has, each new and none empty, behind which one more would pass; the budget is
 -- below 3 to the power of the number of variables
@@ -101,15 +109,21 @@ pub record ShowsSpent (Says : Cnf → Type 0) (budget : Option ℕ) (text : List
   pub shows : IsSpentText cnf budget text
 
 -- what clauses say in each search in a prepared model: what its target does, over as many states as its bounds have; over some number
--- of states; or with some of its facts alone
+-- of states, below which there is nothing; or with some of its facts alone
 abbrev pub SayAll : Prepared → Cnf → Type 0
 SayAll prepared cnf = SayTarget prepared.target prepared.bounds cnf.clauses
 
 abbrev pub SayOverStates : Prepared → ℕ → Cnf → Type 0
 SayOverStates prepared states cnf = SayOver prepared.model prepared.target states cnf.clauses
 
+-- no lasso of fewer states satisfies the model and its command, as `NoneWithin` says it
+abbrev pub NoneBelow : Prepared → ℕ → Type 0
+NoneBelow prepared states = 1 < states → (number : ℕ) → IsReady number prepared → NoneWithin prepared (states - 1)
+
 abbrev pub SayOverSome : Prepared → Cnf → Type 0
-SayOverSome prepared cnf = (states : ℕ) × (0 < states) × (states ≤ prepared.target.scopes.states) × SayOverStates prepared states cnf
+SayOverSome prepared cnf =
+    (states : ℕ) × (0 < states) × (states ≤ prepared.target.scopes.states) × SayOverStates prepared states cnf
+    × NoneBelow prepared states
 
 abbrev pub SayOfSome : Prepared → Cnf → Type 0
 SayOfSome prepared cnf = SayPart prepared.model prepared.target prepared.first_fact cnf.clauses
@@ -118,11 +132,11 @@ SayOfSome prepared cnf = SayPart prepared.model prepared.target prepared.first_f
 -- states as the scopes satisfies the model and its command, as `NoneWithin` says it
 abbrev pub IsLeastText : Prepared → Part → Option ℕ → Certificate → Type 0
 IsLeastText prepared part budget (Trace text) = ShowsOne prepared part text ⊎ ShowsAbove prepared part text
-IsLeastText prepared part budget (Absent text) = (states : ℕ) × ShowsNone (SayOverStates prepared states) states part text × ((number : ℕ) → IsReady number prepared → (states ≡ prepared.scopes.states) × NoneWithin prepared states)
+IsLeastText prepared part budget (Refuted text) = (states : ℕ) × ShowsNone (SayOverStates prepared states) states part text × ((number : ℕ) → IsReady number prepared → (states ≡ prepared.scopes.states) × NoneWithin prepared states)
 IsLeastText prepared part budget (Unknown text) = ShowsSpent (SayOverSome prepared) budget text
 
 -- the answer of a search for facts of a prepared model that rule out every trace
 abbrev pub IsCoreText : Prepared → Part → Option ℕ → Certificate → Type 0
 IsCoreText prepared part budget (Trace text) = ShowsTrace prepared part text
-IsCoreText prepared part budget (Absent text) = ShowsCore prepared part text
+IsCoreText prepared part budget (Refuted text) = ShowsCore prepared part text
 IsCoreText prepared part budget (Unknown text) = ShowsSpent (SayOfSome prepared) budget text

@@ -9,7 +9,7 @@ pub enum Least {
     /// A lasso with fewest states; where these are more than one, clauses over one state less with lines that refute them.
     Trace { lasso: Lasso, below: Option<Proof> },
     /// There is none of as many states as the scopes have: lines that refute the clauses over so many.
-    Absent(Proof),
+    Refuted(Proof),
     /// A search has spent its budget.
     Unknown(Proof),
 }

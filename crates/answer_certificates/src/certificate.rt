@@ -6,7 +6,7 @@ ghost use Rattle.answer_analysis.specs.declared.ready.Prepared.{Prepared as Prep
 ghost use Rattle.answer_search.specs.Found.{Spends};
 ghost use Rattle.answer_trace.specs.Text.{trace_text};
 ghost use Rattle.answer_texts.specs.Certified.{trace_part};
-ghost use Rattle.answer_certificates.specs.Certificate.{ShowsTrace, IsSpentText};
+ghost use Rattle.answer_certificates.specs.Certificate.{IsShort, ShowsTrace, IsSpentText};
 
 use answer_analysis::{Prepared, is_trace, table};
 use answer_texts::{trace_part, unknown_text};
@@ -24,7 +24,7 @@ pub enum Certificate {
     /// There is a trace.
     Trace(Bytes),
     /// There is none.
-    Absent(Bytes),
+    Refuted(Bytes),
     /// The budget is spent.
     Unknown(Bytes),
 }
@@ -36,7 +36,8 @@ pub fn trace_shown(
     lasso: &Lasso,
     part: Part,
 ) -> Result<Bytes, AllocError>
-    ensures { (prepared : PreparedOf) → labels.now ≡ prepared.labels → IsTraceOf prepared lasso.now → IfOk result (ShowsTrace prepared part) }
+    ensures { (prepared : PreparedOf) → labels.now ≡ prepared.labels → IsTraceOf prepared lasso.now
+        → IsShort prepared lasso.now → IfOk result (ShowsTrace prepared part) }
 {
     let shown = lasso_part(alloc, labels, lasso, part)?;
     Ok(shown)
@@ -53,7 +54,7 @@ pub(crate) fn lasso_part(
 {
     let trace = print_trace(alloc, labels, lasso)?;
     let text = trace_part(alloc, part, &trace)?;
-    let shown = Bytes::copy(alloc, &text)?;
+    let shown = Bytes::from_vec(text);
     Ok(shown)
 }
 
@@ -74,7 +75,7 @@ pub fn spent_shown(
     };
     let rows = table(alloc, labels, &bounds)?;
     let text = unknown_text(alloc, conflicts, &rows, &proof.cnf, &proof.lines)?;
-    let shown = Bytes::copy(alloc, &text)?;
+    let shown = Bytes::from_vec(text);
     Ok(shown)
 }
 
@@ -98,6 +99,7 @@ pub(crate) fn found_shown(
     lasso: &Lasso,
     part: Part,
 ) -> Result<Bytes, AllocError>
+    requires { IsShort prepared.now lasso.now }
     ensures { IfOk result (ShowsTrace prepared.now part) }
 {
     let holds = is_trace(alloc, prepared, lasso)?;

@@ -14,7 +14,7 @@ pub enum Core {
     Trace(Lasso),
     /// These facts, counted from 0, rule out every lasso together with the declarations and the command: lines that refute
     /// the clauses for them.
-    Facts { kept: NumberList, proof: Proof },
+    Refuted { kept: NumberList, proof: Proof },
     /// A search has spent its budget.
     Unknown(Proof),
 }

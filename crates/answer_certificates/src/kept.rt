@@ -40,12 +40,12 @@ pub fn core_certificate<C: Chooser>(
             let text = found_shown(alloc, &prepared, &lasso, part)?;
             Ok(Certificate::Trace(text))
         }
-        Core::Facts { kept, proof } => {
+        Core::Refuted { kept, proof } => {
             kept_facts_rule_out();
             let names = kept_names(alloc, &prepared.loaded, &prepared.parts, &kept)?;
             let bounds = prepared.bounds;
             let text = core_shown(alloc, &prepared.labels, bounds, &names, proof, part)?;
-            Ok(Certificate::Absent(text))
+            Ok(Certificate::Refuted(text))
         }
         Core::Unknown(proof) => {
             let bounds = prepared.bounds;
@@ -97,13 +97,13 @@ fn core_shown(
     part: Part,
 ) -> Result<Bytes, AllocError>
     requires { Refutes proof.cnf.clauses proof.lines }
-    ensures { IfOk result (λ text. ShowsFacts proof.cnf part facts.now text) }
+    ensures { IfOk result (λ text. ShowsFacts proof.cnf proof.states part facts.now text) }
 {
     bounds.states = proof.states;
     let rows = table(alloc, labels, &bounds)?;
     let names = facts.as_slice();
     let states = proof.states;
     let text = core_part(alloc, part, states, names, &rows, &proof.cnf, &proof.lines)?;
-    let shown = Bytes::copy(alloc, &text)?;
+    let shown = Bytes::from_vec(text);
     Ok(shown)
 }

@@ -36,10 +36,10 @@ pub fn least_certificate<C: Chooser>(
             let text = least_shown(alloc, prepared, &lasso, below, part)?;
             Ok(Certificate::Trace(text))
         }
-        Least::Absent(proof) => {
+        Least::Refuted(proof) => {
             let bounds = prepared.bounds;
             let text = none_shown(alloc, &prepared.labels, bounds, proof, part)?;
-            Ok(Certificate::Absent(text))
+            Ok(Certificate::Refuted(text))
         }
         Least::Unknown(proof) => {
             let bounds = prepared.bounds;
@@ -59,8 +59,11 @@ fn least_shown(
 ) -> Result<Bytes, AllocError>
     requires trace { IsTraceOf prepared lasso.now }
     requires none { below ≡ None → length lasso.now.states ≡ 1 }
-    requires some { (proof : _) → below ≡ Some proof → (1 < length lasso.now.states) × Refutes proof.cnf.clauses proof.lines × ((number : ℕ) → IsReady number prepared → NoneWithin prepared (length lasso.now.states - 1)) }
-    requires says { (proof : _) → below ≡ Some proof → SayOverStates prepared (length lasso.now.states - 1) proof.cnf }
+    requires some { (proof : _) → below ≡ Some proof → (1 < length lasso.now.states)
+        × Refutes proof.cnf.clauses proof.lines × ((number : ℕ) → IsReady number prepared →
+        NoneWithin prepared (length lasso.now.states - 1)) }
+    requires says { (proof : _) → below ≡ Some proof →
+        SayOverStates prepared (length lasso.now.states - 1) proof.cnf }
     ensures { IfOk result (λ text. ShowsOne prepared part text ⊎ ShowsAbove prepared part text) }
 {
     match below {
@@ -95,7 +98,8 @@ fn above_shown(
     requires trace { IsTraceOf prepared lasso.now }
     requires more { 1 < length lasso.now.states }
     requires refutes { Refutes proof.cnf.clauses proof.lines }
-    requires none { (number : ℕ) → IsReady number prepared → NoneWithin prepared (length lasso.now.states - 1) }
+    requires none { (number : ℕ) → IsReady number prepared →
+        NoneWithin prepared (length lasso.now.states - 1) }
     requires says { SayOverStates prepared (length lasso.now.states - 1) proof.cnf }
     ensures { IfOk result (λ text. ShowsAbove prepared part text) }
 {
@@ -104,7 +108,7 @@ fn above_shown(
     bounds.states = proof.states;
     let rows = table(alloc, &prepared.labels, &bounds)?;
     let text = above_part(alloc, part, &trace, &rows, &proof.cnf, &proof.lines)?;
-    let shown = Bytes::copy(alloc, &text)?;
+    let shown = Bytes::from_vec(text);
     Ok(shown)
 }
 
@@ -122,6 +126,6 @@ fn none_shown(
     bounds.states = proof.states;
     let rows = table(alloc, labels, &bounds)?;
     let text = absent_text(alloc, part, proof.states, &rows, &proof.cnf, &proof.lines)?;
-    let shown = Bytes::copy(alloc, &text)?;
+    let shown = Bytes::from_vec(text);
     Ok(shown)
 }

@@ -43,7 +43,8 @@ fn push_copy(
     formula: &Formula,
     stay: bool,
 ) -> Result<(), AllocError>
-    ensures { OnOk result (map claim_of formulas.new ≡ map claim_of formulas.old ++ (if stay then claim_of formula.now ∷ [] else [])) }
+    ensures { OnOk result (map claim_of formulas.new ≡ map claim_of formulas.old
+        ++ (if stay then claim_of formula.now ∷ [] else [])) }
 {
     if !stay {
         return Ok(());

@@ -31,13 +31,13 @@ pub fn find_least<C: Chooser>(
         // The relations' bounds are the same for every number of states.
         limits.states = fewer + 1;
         match search_lasso(alloc, target, &limits, chooser, budget)? {
-            Found::Lasso(lasso) => return Ok(Least::Trace { lasso, below }),
-            Found::Spent(proof) => return Ok(Least::Unknown(proof)),
+            Found::Trace(lasso) => return Ok(Least::Trace { lasso, below }),
+            Found::Unknown(proof) => return Ok(Least::Unknown(proof)),
             Found::Refuted(proof) => below = Some(proof),
         }
     }
     match below {
-        Some(proof) => Ok(Least::Absent(proof)),
+        Some(proof) => Ok(Least::Refuted(proof)),
         // Scopes have at least one state.
         None => Err(AllocError),
     }

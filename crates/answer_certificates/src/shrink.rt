@@ -35,7 +35,8 @@ fn search<C: Chooser>(
     chooser: &mut C,
 ) -> Result<Found, AllocError>
     ensures found { IfOk result (IsFoundWithin question.now.limits.now.states question.now.budget) }
-    ensures part { IfOk result (IsSearchedFor question.now.target.now question.now.first question.now.limits.now dropped.now) }
+    ensures part { IfOk result (IsSearchedFor question.now.target.now question.now.first
+        question.now.limits.now dropped.now) }
 {
     let part = part_of(alloc, question.target, question.first, dropped)?;
     let found = search_target(alloc, &part, question.limits, chooser, question.budget)?;
@@ -53,7 +54,7 @@ struct Left {
 #[derive(Drop)]
 enum Tried {
     Left(Left),
-    Spent(Proof),
+    Unknown(Proof),
 }
 
 /// What is left where no fact is left out.
@@ -61,7 +62,8 @@ fn all_kept(alloc: Global, question: &Question, proof: Proof) -> Result<Left, Al
     requires refuted { IsRefuted question.now.limits.now.states proof }
     requires says { SayTarget question.now.target.now question.now.limits.now proof.cnf.clauses }
     requires ruled { IsRuledOut question.now.target.now question.now.limits.now }
-    ensures { IfOk result (IsLeft question.now.target.now question.now.first question.now.facts question.now.limits.now) }
+    ensures { IfOk result (IsLeft question.now.target.now question.now.first question.now.facts
+        question.now.limits.now) }
 {
     let dropped = vec![in alloc; false; question.facts as usize]?;
     Ok(Left { dropped, proof })
@@ -77,7 +79,8 @@ fn trim<C: Chooser>(
     requires refuted { IsRefuted question.now.limits.now.states proof }
     requires says { SayTarget question.now.target.now question.now.limits.now proof.cnf.clauses }
     requires ruled { IsRuledOut question.now.target.now question.now.limits.now }
-    ensures { IfOk result (IsTried question.now.target.now question.now.first question.now.facts question.now.limits.now question.now.budget) }
+    ensures { IfOk result (IsTried question.now.target.now question.now.first question.now.facts
+        question.now.limits.now question.now.budget) }
 {
     let mut dropped = vec![in alloc; false; question.facts as usize]?;
     let is_less = drop_unreached(alloc, &proof, &mut dropped)?;
@@ -90,8 +93,8 @@ fn trim<C: Chooser>(
             dropped,
             proof: smaller,
         })),
-        Found::Spent(spent) => Ok(Tried::Spent(spent)),
-        Found::Lasso(_) => {
+        Found::Unknown(spent) => Ok(Tried::Unknown(spent)),
+        Found::Trace(_) => {
             // A part that holds all that a refutation is drawn from has none.
             let left = all_kept(alloc, question, proof)?;
             Ok(Tried::Left(left))
@@ -116,8 +119,10 @@ fn leave_out<C: Chooser>(
     fact: usize,
     chooser: &mut C,
 ) -> Result<Tried, AllocError>
-    requires { IsLeft question.now.target.now question.now.first question.now.facts question.now.limits.now left }
-    ensures { IfOk result (IsTried question.now.target.now question.now.first question.now.facts question.now.limits.now question.now.budget) }
+    requires { IsLeft question.now.target.now question.now.first question.now.facts
+        question.now.limits.now left }
+    ensures { IfOk result (IsTried question.now.target.now question.now.first question.now.facts
+        question.now.limits.now question.now.budget) }
 {
     if is_dropped(&left.dropped, fact) {
         return Ok(Tried::Left(left));
@@ -125,18 +130,20 @@ fn leave_out<C: Chooser>(
     let dropped = without(alloc, &left.dropped, fact)?;
     match search(alloc, question, &dropped, chooser)? {
         Found::Refuted(proof) => Ok(Tried::Left(Left { dropped, proof })),
-        Found::Spent(proof) => Ok(Tried::Spent(proof)),
-        Found::Lasso(_) => Ok(Tried::Left(left)),
+        Found::Unknown(proof) => Ok(Tried::Unknown(proof)),
+        Found::Trace(_) => Ok(Tried::Left(left)),
     }
 }
 
 /// The facts that are kept.
 fn facts_of(alloc: Global, question: &Question, left: Left) -> Result<Core, AllocError>
-    requires { IsLeft question.now.target.now question.now.first question.now.facts question.now.limits.now left }
-    ensures { IfOk result (IsShrunk question.now.target.now question.now.first question.now.facts question.now.limits.now question.now.budget) }
+    requires { IsLeft question.now.target.now question.now.first question.now.facts
+        question.now.limits.now left }
+    ensures { IfOk result (IsShrunk question.now.target.now question.now.first question.now.facts
+        question.now.limits.now question.now.budget) }
 {
     let kept = kept_facts(alloc, question.facts, &left.dropped)?;
-    Ok(Core::Facts {
+    Ok(Core::Refuted {
         kept,
         proof: left.proof,
     })
@@ -149,14 +156,16 @@ fn shrink<C: Chooser>(
     left: Left,
     chooser: &mut C,
 ) -> Result<Core, AllocError>
-    requires { IsLeft question.now.target.now question.now.first question.now.facts question.now.limits.now left }
-    ensures { IfOk result (IsShrunk question.now.target.now question.now.first question.now.facts question.now.limits.now question.now.budget) }
+    requires { IsLeft question.now.target.now question.now.first question.now.facts
+        question.now.limits.now left }
+    ensures { IfOk result (IsShrunk question.now.target.now question.now.first question.now.facts
+        question.now.limits.now question.now.budget) }
 {
     let mut rest = left;
     for fact in 0..question.facts as usize {
         match leave_out(alloc, question, rest, fact, chooser)? {
             Tried::Left(smaller) => rest = smaller,
-            Tried::Spent(proof) => return Ok(Core::Unknown(proof)),
+            Tried::Unknown(proof) => return Ok(Core::Unknown(proof)),
         }
     }
     let core = facts_of(alloc, question, rest)?;
@@ -188,8 +197,8 @@ pub fn find_core<C: Chooser>(
         budget,
     };
     match search_target(alloc, target, &limits, chooser, budget)? {
-        Found::Lasso(lasso) => Ok(Core::Trace(lasso)),
-        Found::Spent(proof) => Ok(Core::Unknown(proof)),
+        Found::Trace(lasso) => Ok(Core::Trace(lasso)),
+        Found::Unknown(proof) => Ok(Core::Unknown(proof)),
         Found::Refuted(proof) => {
             let tried = trim(alloc, &question, proof, chooser)?;
             let core = shrunk(alloc, &question, tried, chooser)?;
@@ -205,14 +214,16 @@ fn shrunk<C: Chooser>(
     tried: Tried,
     chooser: &mut C,
 ) -> Result<Core, AllocError>
-    requires { IsTried question.now.target.now question.now.first question.now.facts question.now.limits.now question.now.budget tried }
-    ensures { IfOk result (IsShrunk question.now.target.now question.now.first question.now.facts question.now.limits.now question.now.budget) }
+    requires { IsTried question.now.target.now question.now.first question.now.facts
+        question.now.limits.now question.now.budget tried }
+    ensures { IfOk result (IsShrunk question.now.target.now question.now.first question.now.facts
+        question.now.limits.now question.now.budget) }
 {
     match tried {
         Tried::Left(left) => {
             let core = shrink(alloc, question, left, chooser)?;
             Ok(core)
         }
-        Tried::Spent(proof) => Ok(Core::Unknown(proof)),
+        Tried::Unknown(proof) => Ok(Core::Unknown(proof)),
     }
 }

@@ -41,8 +41,11 @@ pub fn read_value(
     number: u32,
     text: &[u8],
 ) -> Result<ReadValue, AllocError>
-    ensures large { MODULE_BYTES < length text.now → IfOk result (λ read. read ≡ ReadValue.Refused (large_text number)) }
-    ensures cut { (broken : Refusal) → length text.now ≤ MODULE_BYTES → tokens_of number text.now ≡ Err broken → IfOk result (λ read. read ≡ ReadValue.Refused broken) }
+    ensures large { MODULE_BYTES < length text.now →
+        IfOk result (λ read. read ≡ ReadValue.Refused (large_text number)) }
+    ensures cut { (broken : Refusal) → length text.now ≤ MODULE_BYTES →
+        tokens_of number text.now ≡ Err broken → IfOk result
+        (λ read. read ≡ ReadValue.Refused broken) }
 {
     if text.len() > MODULE_BYTES {
         return Ok(ReadValue::Refused(large_text(number)));

@@ -47,7 +47,7 @@ fn judged_text(
     let judgement = judgement_on(alloc, prepared, lasso)?;
     let text = judgement_text(alloc, &judgement)?;
     let satisfied = is_satisfied(&judgement);
-    let shown = Bytes::copy(alloc, &text)?;
+    let shown = Bytes::from_vec(text);
     // for the proof: only the clauses name the text of the trace
     let _ = trace;
     Ok(TraceAnswer::Judged(satisfied, shown))

@@ -25,7 +25,8 @@ pub fn value_on_trace(
     position: u64,
     trace: &[u8],
 ) -> Result<TraceAnswer, AllocError>
-    ensures { IfOk result (λ answer. IsValue prepared.now (term_of value.now) position trace.now answer) }
+    ensures { IfOk result (λ answer. IsValue prepared.now (term_of value.now) position trace.now
+        answer) }
 {
     match read_trace(alloc, &prepared.labels, trace) {
         Ok(lasso) => valued(alloc, prepared, value, position, &lasso, trace),
@@ -46,7 +47,8 @@ fn valued(
     trace: &[u8],
 ) -> Result<TraceAnswer, AllocError>
     requires { trace_text prepared.now.labels lasso.now ≡ trace.now }
-    ensures { IfOk result (λ answer. IsValue prepared.now (term_of value.now) position trace.now answer) }
+    ensures { IfOk result (λ answer. IsValue prepared.now (term_of value.now) position trace.now
+        answer) }
 {
     let set = tuples(
         alloc,
@@ -59,7 +61,7 @@ fn valued(
     // for the proof: this call's clause says that it is a set of tuples
     let _ = set.arity();
     let text = value_text(alloc, &prepared.labels.atoms, &set)?;
-    let shown = Bytes::copy(alloc, &text)?;
+    let shown = Bytes::from_vec(text);
     // for the proof: only the clauses name the text of the trace
     let _ = trace;
     Ok(TraceAnswer::Valued(shown))

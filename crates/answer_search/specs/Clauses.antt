@@ -18,7 +18,7 @@ use Rattle.bmc_leaves.specs.Shown.{none_nested}
 use Rattle.bmc_leaves.specs.Table.{Decodes}
 use Rattle.bmc_translate.specs.Forms.{IsPlain}
 use Rattle.answer_search.specs.declared.found.Found.{Found}
-use Rattle.answer_search.specs.declared.found.Found.TheVariants.{Lasso, Refuted, Spent}
+use Rattle.answer_search.specs.declared.found.Found.TheVariants.{Trace, Refuted, Unknown}
 
 -- a formula whose root is known to be exact: it has only plain forms, and nests at most eight past operators
 abbrev pub IsCovered : Formula → Type 0
@@ -51,12 +51,12 @@ IsRuledOut target bounds = IsTable bounds → All IsCovered target.formulas → 
 
 -- the clauses of what is refuted, or left open, say what the target does
 abbrev pub SaysTarget : Target → Bounds → Found → Type 0
-SaysTarget target bounds (Lasso lasso) = Unit {0}
+SaysTarget target bounds (Trace lasso) = Unit {0}
 SaysTarget target bounds (Refuted proof) = SayTarget target bounds proof.cnf.clauses
-SaysTarget target bounds (Spent proof) = SayTarget target bounds proof.cnf.clauses
+SaysTarget target bounds (Unknown proof) = SayTarget target bounds proof.cnf.clauses
 
 -- what is refuted rules the target out
 abbrev pub RulesOut : Target → Bounds → Found → Type 0
-RulesOut target bounds (Lasso lasso) = Unit {0}
+RulesOut target bounds (Trace lasso) = Unit {0}
 RulesOut target bounds (Refuted proof) = IsRuledOut target bounds
-RulesOut target bounds (Spent proof) = Unit {0}
+RulesOut target bounds (Unknown proof) = Unit {0}

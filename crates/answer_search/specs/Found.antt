@@ -5,7 +5,7 @@ use Rattle.sat_lrat.specs.Spent as spent
 use Rattle.sat_lrat.specs.declared.line.Proof.{Proof}
 use Rattle.bound_uppers.specs.Shortest.{HasFewestStates}
 use Rattle.answer_search.specs.declared.found.Found.{Found}
-use Rattle.answer_search.specs.declared.found.Found.TheVariants.{Lasso, Refuted, Spent}
+use Rattle.answer_search.specs.declared.found.Found.TheVariants.{Trace, Refuted, Unknown}
 
 -- lines that refute clauses over so many states
 abbrev pub IsRefuted : ℕ → Proof → Type 0
@@ -22,12 +22,12 @@ IsSpent states budget proof = (proof.states ≡ states) × Spends budget proof
 
 -- A lasso of so many states; where there is none the lines refute the clauses, and only a budget that is spent leaves it open.
 abbrev pub IsFound : ℕ → Option ℕ → Found → Type 0
-IsFound states budget (Lasso lasso) = length lasso.states ≡ states
+IsFound states budget (Trace lasso) = length lasso.states ≡ states
 IsFound states budget (Refuted proof) = IsRefuted states proof
-IsFound states budget (Spent proof) = IsSpent states budget proof
+IsFound states budget (Unknown proof) = IsSpent states budget proof
 
 -- The same, where the lasso may have fewer states: the fewest with which its sequence can be shown.
 abbrev pub IsFoundWithin : ℕ → Option ℕ → Found → Type 0
-IsFoundWithin states budget (Lasso lasso) = (length lasso.states ≤ states) × HasFewestStates lasso
+IsFoundWithin states budget (Trace lasso) = (length lasso.states ≤ states) × HasFewestStates lasso
 IsFoundWithin states budget (Refuted proof) = IsRefuted states proof
-IsFoundWithin states budget (Spent proof) = IsSpent states budget proof
+IsFoundWithin states budget (Unknown proof) = IsSpent states budget proof

@@ -7,9 +7,9 @@ use sat_lrat::Proof;
 #[derive(Drop)]
 pub enum Found {
     /// A lasso.
-    Lasso(Lasso),
+    Trace(Lasso),
     /// There is none of so many states: the lines refute the clauses, which say what one is to satisfy.
     Refuted(Proof),
     /// The budget is spent on just as many lemmas.
-    Spent(Proof),
+    Unknown(Proof),
 }

@@ -37,7 +37,7 @@ pub fn search_lasso<C: Chooser>(
     match solve_with(alloc, &cnf, chooser, budget)? {
         Outcome::Assignment(assignment) => {
             let lasso = lasso_of(alloc, bounds, &assignment)?;
-            Ok(Found::Lasso(lasso))
+            Ok(Found::Trace(lasso))
         }
         Outcome::Refutation(lines) => {
             refutation_is_sound();
@@ -49,7 +49,7 @@ pub fn search_lasso<C: Chooser>(
                 lines: rest,
             }))
         }
-        Outcome::Spent(lines) => Ok(Found::Spent(Proof { states, cnf, lines })),
+        Outcome::Spent(lines) => Ok(Found::Unknown(Proof { states, cnf, lines })),
     }
 }
 
@@ -67,9 +67,9 @@ pub fn search_target<C: Chooser>(
     ensures none { IfOk result (RulesOut target.now bounds.now) }
 {
     match search_lasso(alloc, target, bounds, chooser, budget)? {
-        Found::Lasso(lasso) => Ok(Found::Lasso(shortest(alloc, &lasso)?)),
+        Found::Trace(lasso) => Ok(Found::Trace(shortest(alloc, &lasso)?)),
         Found::Refuted(proof) => Ok(Found::Refuted(proof)),
-        Found::Spent(proof) => Ok(Found::Spent(proof)),
+        Found::Unknown(proof) => Ok(Found::Unknown(proof)),
     }
 }
 

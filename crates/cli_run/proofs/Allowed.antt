@@ -15,7 +15,7 @@ use Rattle.cli_run.specs.Files.{Asked, IsFile, asked, asked_in, second_asked, at
 use Rattle.cli_run.specs.Run.{AllowsFiles, IsOnModel, IsOnRing, IsOnProof, IsCheckedIn, RefusedFor, RefusedIn, model_in, model_of}
 use Rattle.cli_run.specs.Root.{SpellsModule, ListsModule}
 use Rattle.cli_run.specs.declared.answer.Answer.{Answer}
-use Rattle.cli_run.specs.declared.answer.Answer.TheVariants.{Usage, Refused, ReadFault, Trace, Absent, Unknown, Made, Listed, Checked, Traced}
+use Rattle.cli_run.specs.declared.answer.Answer.TheVariants.{Usage, Refused, ReadFault, Trace, Refuted, Unknown, Made, Listed, Checked, Traced}
 use Rattle.cli_run.specs.declared.files.File.TheVariants.{Whole, Broken}
 
 module _ (settings : Settings) (held : List (Option Texts)) (before now : List ℕ) where
@@ -26,7 +26,7 @@ module _ (settings : Settings) (held : List (Option Texts)) (before now : List �
   on_model text is (Refused refusal name) h = (h.0, λ told tells. subst (λ o. RefusedIn o settings refusal name) (sym (is told tells)) h.1)
   on_model text is (ReadFault name) h = (inr h.0, h.1)
   on_model text is (Trace bytes) h = (h.0, record { mode = h.1; whole = λ told tells. refl; spells = λ told tells. subst (λ o. SpellsModule o) (sym (is told tells)) h.2 }, h.3)
-  on_model text is (Absent bytes) h = (h.0, record { mode = h.1; whole = λ told tells. refl; spells = λ told tells. subst (λ o. SpellsModule o) (sym (is told tells)) h.2 }, h.3)
+  on_model text is (Refuted bytes) h = (h.0, record { mode = h.1; whole = λ told tells. refl; spells = λ told tells. subst (λ o. SpellsModule o) (sym (is told tells)) h.2 }, h.3)
   on_model text is (Unknown bytes) h = (h.0, record { mode = h.1; whole = λ told tells. refl; spells = λ told tells. subst (λ o. SpellsModule o) (sym (is told tells)) h.2 }, h.3)
   on_model text is (Made bytes) h = absurd h
   on_model text is (Listed list) h = (h.0, record { mode = h.1; whole = λ told tells. refl; lists = λ told tells. subst (λ o. ListsModule o list) (sym (is told tells)) h.2 })
@@ -58,7 +58,7 @@ module _ (settings : Settings) (held : List (Option Texts)) (before now : List �
     record { mode = h.1.mode; whole = λ told tells. ap (λ o. first_of o name (first_broken told files)) (whole told tells) ∙ h.1.whole told tells; spells = h.1.spells },
     h.2,
   )
-  on_whole name most files (Absent text) whole h = (
+  on_whole name most files (Refuted text) whole h = (
     h.0,
     record { mode = h.1.mode; whole = λ told tells. ap (λ o. first_of o name (first_broken told files)) (whole told tells) ∙ h.1.whole told tells; spells = h.1.spells },
     h.2,
@@ -194,7 +194,7 @@ ring_one settings held before now mode Usage h = absurd h
 ring_one settings held before now mode (Refused refusal name) h = (h, λ told tells. inr (inr mode))
 ring_one settings held before now mode (ReadFault name) h = (inr (inr (inl (mode, h.0))), h.1)
 ring_one settings held before now mode (Trace text) h = absurd h
-ring_one settings held before now mode (Absent text) h = absurd h
+ring_one settings held before now mode (Refuted text) h = absurd h
 ring_one settings held before now mode (Unknown text) h = absurd h
 ring_one settings held before now mode (Made text) h = (h, mode)
 ring_one settings held before now mode (Listed list) h = absurd h

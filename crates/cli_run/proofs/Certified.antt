@@ -4,7 +4,7 @@ use Rattle.answer_analysis.specs.Found.{IsReady, NoneWithin}
 use Rattle.answer_analysis.specs.declared.ready.Prepared.{Prepared}
 use Rattle.answer_certificates.specs.Certificate.{ShowsNone, SayOverStates, IsLeastText, IsCoreText}
 use Rattle.answer_certificates.specs.declared.certificate.Certificate.{Certificate}
-use Rattle.answer_certificates.specs.declared.certificate.Certificate.TheVariants.{Trace, Absent, Unknown}
+use Rattle.answer_certificates.specs.declared.certificate.Certificate.TheVariants.{Trace, Refuted, Unknown}
 use Rattle.cli_words.specs.declared.named.Mode.TheVariants.{Least, Core}
 use Rattle.cli_words.specs.declared.named.Part.{Part}
 use Rattle.cli_run.specs.Run.{IsFoundIn, answer_of}
@@ -12,12 +12,12 @@ use Rattle.cli_run.specs.Run.{IsFoundIn, answer_of}
 module _ (number : ℕ) (part : Part) (budget : Option ℕ) (prepared : Prepared) (ready : IsReady number prepared) where
   pub least_found : (found : Certificate) → IsLeastText prepared part budget found → IsFoundIn Least number part budget (answer_of found)
   least_found (Trace text) shows = (prepared, ready, shows)
-  least_found (Absent text) (states, shows, none) =
+  least_found (Refuted text) (states, shows, none) =
       let within = none number ready in
       (prepared, ready, (subst (λ n. ShowsNone (SayOverStates prepared n) n part text) within.0 shows, subst (NoneWithin prepared) within.0 within.1))
   least_found (Unknown text) shows = (prepared, ready, shows)
 
   pub core_found : (found : Certificate) → IsCoreText prepared part budget found → IsFoundIn Core number part budget (answer_of found)
   core_found (Trace text) shows = (prepared, ready, shows)
-  core_found (Absent text) shows = (prepared, ready, shows)
+  core_found (Refuted text) shows = (prepared, ready, shows)
   core_found (Unknown text) shows = (prepared, ready, shows)

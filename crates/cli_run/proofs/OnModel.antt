@@ -23,7 +23,7 @@ use Rattle.cli_run.specs.declared.files.File.TheVariants.{Whole}
 use Rattle.cli_run.specs.Root.{SpellIn, BreakIn}
 use Rattle.cli_run.specs.Run.{IsOnModel, IsOnRing, IsFound, IsFoundIn, IsMade, IsAfter, IsSaidOf, IsReadTrace, IsRefusal, Says, looks, analyses, reads_trace}
 use Rattle.cli_run.specs.declared.answer.Answer.{Answer}
-use Rattle.cli_run.specs.declared.answer.Answer.TheVariants.{Usage, Refused, ReadFault, Trace, Absent, Unknown, Made, Listed, Checked, Traced}
+use Rattle.cli_run.specs.declared.answer.Answer.TheVariants.{Usage, Refused, ReadFault, Trace, Refuted, Unknown, Made, Listed, Checked, Traced}
 
 -- the counts after loading haven't fallen
 pub later_of : {T : Type 0} (root before now : List ℕ) (r : Result T LoadFault) → Causes root before now r → NoneFell before now
@@ -73,7 +73,7 @@ module _ (settings : Settings) (held : List (Option Texts)) (text before now : L
   found_one (Refused refusal name) tree same spells mode is = (same, inr (inl (looks_analyses settings.mode mode, record { tree = tree; spelled = spells })))
   found_one (ReadFault name) tree same spells mode is = absurd is
   found_one (Trace bytes) tree same spells mode is = (same, mode, record { tree = tree; spelled = spells }, is)
-  found_one (Absent bytes) tree same spells mode is = (same, mode, record { tree = tree; spelled = spells }, is)
+  found_one (Refuted bytes) tree same spells mode is = (same, mode, record { tree = tree; spelled = spells }, is)
   found_one (Unknown bytes) tree same spells mode is = (same, mode, record { tree = tree; spelled = spells }, is)
   found_one (Made bytes) tree same spells mode is = absurd is
   found_one (Listed list) tree same spells mode is = absurd is
@@ -91,7 +91,7 @@ module _ (settings : Settings) (held : List (Option Texts)) (text before now : L
   after_one (Refused refusal name) tree spells mode is = (is, inr (inl (trace_analyses settings.mode mode, record { tree = tree; spelled = spells })))
   after_one (ReadFault name) tree spells mode is = (inr (inr (mode, is.0)), is.1)
   after_one (Trace bytes) tree spells mode is = absurd is
-  after_one (Absent bytes) tree spells mode is = absurd is
+  after_one (Refuted bytes) tree spells mode is = absurd is
   after_one (Unknown bytes) tree spells mode is = absurd is
   after_one (Made bytes) tree spells mode is = absurd is
   after_one (Listed list) tree spells mode is = absurd is
@@ -165,7 +165,7 @@ made_one before now Usage same is = absurd is
 made_one before now (Refused refusal name) same is = same
 made_one before now (ReadFault name) same is = absurd is
 made_one before now (Trace bytes) same is = absurd is
-made_one before now (Absent bytes) same is = absurd is
+made_one before now (Refuted bytes) same is = absurd is
 made_one before now (Unknown bytes) same is = absurd is
 made_one before now (Made bytes) same is = same
 made_one before now (Listed list) same is = absurd is

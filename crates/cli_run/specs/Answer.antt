@@ -7,7 +7,7 @@ use Rattle.sat_verdict.specs.Mode as lrat
 use Rattle.sat_verdict.specs.declared.mode.Verdict.{Verdict}
 use Rattle.answer_judge.specs.Answer as traced
 use Rattle.cli_run.specs.declared.answer.Answer.{Answer}
-use Rattle.cli_run.specs.declared.answer.Answer.TheVariants.{Usage, Refused, ReadFault, Trace, Absent, Unknown, Made, Listed, Checked, Traced}
+use Rattle.cli_run.specs.declared.answer.Answer.TheVariants.{Usage, Refused, ReadFault, Trace, Refuted, Unknown, Made, Listed, Checked, Traced}
 
 abbrev pub usage_line : List ℕ
 usage_line = codes "usage: alloyc MODE FILE [SECOND] [--command N] [--conflicts N] [--part PART] [--chooser N] [--expr E] [--at N]" ++ 10 ∷ []
@@ -31,7 +31,7 @@ text_of Usage = usage_line
 text_of (Refused refusal name) = refused_line refusal name
 text_of (ReadFault name) = fault_line name
 text_of (Trace text) = text
-text_of (Absent text) = text
+text_of (Refuted text) = text
 text_of (Unknown text) = text
 text_of (Made text) = text
 text_of (Listed text) = text
@@ -43,7 +43,7 @@ status_of Usage = 2
 status_of (Refused refusal name) = 3
 status_of (ReadFault name) = 4
 status_of (Trace text) = 10
-status_of (Absent text) = 20
+status_of (Refuted text) = 20
 status_of (Unknown text) = 30
 status_of (Made text) = 0
 status_of (Listed text) = 0

@@ -1,5 +1,5 @@
 -- What a run may answer, and why.
-use Rattle.std.specs.Prelude.{◌≡◌, ◌≢◌, ℕ, ◌⊎◌, ◌≤◌, List, [], ◌∷◌, ◌++◌, length, take, map, codes, Bool, true, false, IsTrue, Option, Some, None, option_map, Result, Ok, ⊤}
+use Rattle.std.specs.Prelude.{◌≡◌, ◌≢◌, ℕ, ◌⊎◌, ◌≤◌, List, ◌++◌, take, map, codes, Bool, true, false, IsTrue, Option, Some, None, option_map, Result, Ok, ⊤}
 use Rattle.std.specs.declared.alloc.AllocError.{AllocError}
 use Rattle.base_types.specs.Causes.{Rose, SomeRose}
 use Rattle.base_types.specs.Texts as texts
@@ -24,14 +24,13 @@ use Rattle.sat_verdict.specs.declared.mode.Verdict.TheVariants as says
 use Rattle.load_state.specs.Causes.{IsTried}
 use Rattle.load_state.specs.declared.fault.LoadFault.{LoadFault}
 use Rattle.load_state.specs.declared.fault.LoadFault.TheVariants as load
-use Rattle.answer_judge.specs.Answer as traced
 use Rattle.answer_judge.specs.Judged.{IsJudgement, IsValue}
 use Rattle.answer_judge.specs.declared.answer.TraceAnswer.{TraceAnswer}
-use Rattle.cli_run.specs.Answer.{text_of, status_of, refused_line, fault_line, checked_line}
+use Rattle.cli_run.specs.Answer.{text_of, status_of}
 use Rattle.cli_run.specs.Files.{Asked, IsAsked, asked, at_start, file_rule, first_broken}
 use Rattle.cli_run.specs.Root.{SpellsModule, ListsModule, Breaks}
 use Rattle.cli_run.specs.declared.answer.Answer.{Answer}
-use Rattle.cli_run.specs.declared.answer.Answer.TheVariants.{Usage, Refused, ReadFault, Trace, Absent, Unknown, Made, Listed, Checked, Traced}
+use Rattle.cli_run.specs.declared.answer.Answer.TheVariants.{Usage, Refused, ReadFault, Trace, Refuted, Unknown, Made, Listed, Checked, Traced}
 
 -- the text of the model that a mode reads, if it reads one
 abbrev pub model_in : Mode → Option (List ℕ) → Option (List ℕ)
@@ -184,7 +183,7 @@ AllowsFiles files settings held before now Usage = ⊥
 AllowsFiles files settings held before now (Refused refusal name) = (now ≡ before) × IsRefused held files settings refusal name
 AllowsFiles files settings held before now (ReadFault name) = IsSought settings name files × SomeRose before now
 AllowsFiles files settings held before now (Trace text) = (now ≡ before) × IsSearched held files settings × ShownTrace settings.mode settings.command settings.part text
-AllowsFiles files settings held before now (Absent text) = (now ≡ before) × IsSearched held files settings × ShownNone settings.mode settings.command settings.part text
+AllowsFiles files settings held before now (Refuted text) = (now ≡ before) × IsSearched held files settings × ShownNone settings.mode settings.command settings.part text
 AllowsFiles files settings held before now (Unknown text) = (now ≡ before) × IsSearched held files settings × ShownSpent settings.mode settings.command settings.conflicts text
 AllowsFiles files settings held before now (Made text) = (now ≡ before) × (settings.mode ≡ Make)
 AllowsFiles files settings held before now (Listed list) = (now ≡ before) × IsListed held files settings list
@@ -198,16 +197,14 @@ AllowsRun settings held before now answer = AllowsFiles (asked settings) setting
 -- an answer on the text of a model, by what the libraries hold, and the counts of faults before its modules were asked for and
 -- after that
 abbrev pub IsOnModel : Settings → List (Option Texts) → List ℕ → List ℕ → List ℕ → Answer → Type 0
-IsOnModel settings held text before now Usage = ⊥
 IsOnModel settings held text before now (Refused refusal name) = (now ≡ before) × RefusedIn (Some text) settings refusal name
 IsOnModel settings held text before now (ReadFault name) = IsOpened settings name × SomeRose before now
 IsOnModel settings held text before now (Trace bytes) = (now ≡ before) × IsTrue (looks settings.mode) × SpellsModule (Some text) × ShownTrace settings.mode settings.command settings.part bytes
-IsOnModel settings held text before now (Absent bytes) = (now ≡ before) × IsTrue (looks settings.mode) × SpellsModule (Some text) × ShownNone settings.mode settings.command settings.part bytes
+IsOnModel settings held text before now (Refuted bytes) = (now ≡ before) × IsTrue (looks settings.mode) × SpellsModule (Some text) × ShownNone settings.mode settings.command settings.part bytes
 IsOnModel settings held text before now (Unknown bytes) = (now ≡ before) × IsTrue (looks settings.mode) × SpellsModule (Some text) × ShownSpent settings.mode settings.command settings.conflicts bytes
-IsOnModel settings held text before now (Made bytes) = ⊥
 IsOnModel settings held text before now (Listed list) = (now ≡ before) × (settings.mode ≡ Commands) × ListsModule (Some text) list
-IsOnModel settings held text before now (Checked verdict clauses lines) = ⊥
 IsOnModel settings held text before now (Traced said second) = (now ≡ before) × SpellsModule (Some text) × IsReadTrace held settings said second
+IsOnModel settings held text before now _ = ⊥
 
 -- the answer is a refusal
 pub record IsRefusal (answer : Answer) : Type 0 where
@@ -217,21 +214,16 @@ pub record IsRefusal (answer : Answer) : Type 0 where
 
 -- the answer of a search in a loaded model, by the mode
 abbrev pub IsFoundIn : Mode → ℕ → Part → Option ℕ → Answer → Type 0
-IsFoundIn mode number part budget Usage = ⊥
 IsFoundIn mode number part budget (Refused refusal name) = ⊤
-IsFoundIn mode number part budget (ReadFault name) = ⊥
 IsFoundIn mode number part budget (Trace bytes) = ShownTrace mode number part bytes
-IsFoundIn mode number part budget (Absent bytes) = ShownNone mode number part bytes
+IsFoundIn mode number part budget (Refuted bytes) = ShownNone mode number part bytes
 IsFoundIn mode number part budget (Unknown bytes) = ShownSpent mode number budget bytes
-IsFoundIn mode number part budget (Made bytes) = ⊥
-IsFoundIn mode number part budget (Listed list) = ⊥
-IsFoundIn mode number part budget (Checked verdict clauses lines) = ⊥
-IsFoundIn mode number part budget (Traced said second) = ⊥
+IsFoundIn mode number part budget _ = ⊥
 
 -- the answer that has the text of a certificate
 abbrev pub answer_of : Certificate → Answer
 answer_of (certificate.Trace text) = Trace text
-answer_of (certificate.Absent text) = Absent text
+answer_of (certificate.Refuted text) = Refuted text
 answer_of (certificate.Unknown text) = Unknown text
 
 abbrev pub IsFound : Settings → Answer → Type 0
@@ -240,16 +232,10 @@ IsFound settings answer = IsFoundIn settings.mode settings.command settings.part
 -- the answer of a mode that reads a trace, once the model is loaded, by what the libraries hold, and the counts of faults
 -- before the file of the trace was asked for and after that
 abbrev pub IsAfter : Settings → List (Option Texts) → List ℕ → List ℕ → Answer → Type 0
-IsAfter settings held before now Usage = ⊥
 IsAfter settings held before now (Refused refusal name) = now ≡ before
 IsAfter settings held before now (ReadFault name) = (settings.second ≡ Some name) × SomeRose before now
-IsAfter settings held before now (Trace bytes) = ⊥
-IsAfter settings held before now (Absent bytes) = ⊥
-IsAfter settings held before now (Unknown bytes) = ⊥
-IsAfter settings held before now (Made bytes) = ⊥
-IsAfter settings held before now (Listed list) = ⊥
-IsAfter settings held before now (Checked verdict clauses lines) = ⊥
 IsAfter settings held before now (Traced said second) = (now ≡ before) × IsReadTrace held settings said second
+IsAfter settings held before now _ = ⊥
 
 -- the answer is what is said of the text of the file `second`
 pub record IsSaidOf (settings : Settings) (second trace : List ℕ) (answer : Answer) : Type 0 where
@@ -259,29 +245,16 @@ pub record IsSaidOf (settings : Settings) (second trace : List ℕ) (answer : An
 
 -- the answer on a model that is made
 abbrev pub IsMade : Answer → Type 0
-IsMade Usage = ⊥
 IsMade (Refused refusal name) = ⊤
-IsMade (ReadFault name) = ⊥
-IsMade (Trace bytes) = ⊥
-IsMade (Absent bytes) = ⊥
-IsMade (Unknown bytes) = ⊥
 IsMade (Made bytes) = ⊤
-IsMade (Listed list) = ⊥
-IsMade (Checked verdict clauses lines) = ⊥
-IsMade (Traced said second) = ⊥
+IsMade _ = ⊥
 
 -- the same by the counts of faults before its modules were asked for and after that
 abbrev pub IsOnRing : List ℕ → List ℕ → Answer → Type 0
-IsOnRing before now Usage = ⊥
 IsOnRing before now (Refused refusal name) = now ≡ before
 IsOnRing before now (ReadFault name) = IsTried (codes "make") name × SomeRose before now
-IsOnRing before now (Trace bytes) = ⊥
-IsOnRing before now (Absent bytes) = ⊥
-IsOnRing before now (Unknown bytes) = ⊥
 IsOnRing before now (Made bytes) = now ≡ before
-IsOnRing before now (Listed list) = ⊥
-IsOnRing before now (Checked verdict clauses lines) = ⊥
-IsOnRing before now (Traced said second) = ⊥
+IsOnRing before now _ = ⊥
 
 -- the answer that says why a model could not be loaded
 abbrev pub Says : LoadFault → Answer → Type 0
@@ -298,15 +271,7 @@ pub record IsOnProof (settings : Settings) (second clauses lines : List ℕ) (an
 -- an answer that the settings allow, where there may be none that fit
 abbrev pub Allows : Option Settings → List (Option Texts) → List ℕ → List ℕ → Answer → Type 0
 Allows None held before now Usage = now ≡ before
-Allows None held before now (Refused refusal name) = ⊥
-Allows None held before now (ReadFault name) = ⊥
-Allows None held before now (Trace text) = ⊥
-Allows None held before now (Absent text) = ⊥
-Allows None held before now (Unknown text) = ⊥
-Allows None held before now (Made text) = ⊥
-Allows None held before now (Listed list) = ⊥
-Allows None held before now (Checked verdict clauses lines) = ⊥
-Allows None held before now (Traced said second) = ⊥
+Allows None held before now _ = ⊥
 Allows (Some settings) held before now answer = AllowsRun settings held before now answer
 
 -- the whole text was written
@@ -331,110 +296,3 @@ pub data Finished (r : Result Answer AllocError) (old new : Option (List ℕ)) (
 -- each answer that r is, is allowed
 pub record Justified (settings : Option Settings) (held : List (Option Texts)) (before now : List ℕ) (r : Result Answer AllocError) : Type 0 where
   pub allowed : (answer : Answer) → r ≡ Ok answer → Allows settings held before now answer
-
--- the line of a rule that a text breaks was written
-pub record Refuses (given : Option Settings) (held : List (Option Texts)) (old new : Option (List ℕ)) : Type 0 where
-  pub settings : Settings
-  pub refusal : Refusal
-  pub name : List ℕ
-  pub fit : given ≡ Some settings
-  pub cause : IsRefused held (asked settings) settings refusal name
-  pub line : Written old new (refused_line refusal name)
-
--- a proof was checked, and the line of the verdict was written
-pub record Checks (given : Option Settings) (held : List (Option Texts)) (old new : Option (List ℕ)) (status : ℕ) : Type 0 where
-  pub settings : Settings
-  pub verdict : Verdict
-  pub clauses : List ℕ
-  pub lines : List ℕ
-  pub fit : given ≡ Some settings
-  pub cause : IsProof held (asked settings) settings verdict clauses lines
-  pub line : Written old new (checked_line verdict clauses lines)
-  pub has : status ≡ lrat.status_of verdict
-
--- the commands of a module were listed
-pub record Listing (given : Option Settings) (held : List (Option Texts)) (old new : Option (List ℕ)) : Type 0 where
-  pub settings : Settings
-  pub list : List ℕ
-  pub fit : given ≡ Some settings
-  pub cause : IsListed held (asked settings) settings list
-  pub line : Written old new list
-
--- some library failed in this call at a name that the run asks for, and the line that says so was written
-pub record FailsToRead (given : Option Settings) (before now : List ℕ) (old new : Option (List ℕ)) : Type 0 where
-  pub settings : Settings
-  pub name : List ℕ
-  pub fit : given ≡ Some settings
-  pub asked_for : IsSought settings name (asked settings)
-  pub rose : SomeRose before now
-  pub line : Written old new (fault_line name)
-
--- of a trace was said what its text shows, and that was written
-pub record Tells (given : Option Settings) (held : List (Option Texts)) (old new : Option (List ℕ)) (status : ℕ) : Type 0 where
-  pub settings : Settings
-  pub said : TraceAnswer
-  pub second : List ℕ
-  pub fit : given ≡ Some settings
-  pub model : IsOnModule held (asked settings) settings
-  pub cause : IsReadTrace held settings said second
-  pub line : Written old new (traced.text_of said second)
-  pub has : status ≡ traced.status_of said
-
--- the run searched files that break no rule as a whole, and what was written shows a trace
-pub record FindsTrace (given : Option Settings) (held : List (Option Texts)) (old new : Option (List ℕ)) : Type 0 where
-  pub settings : Settings
-  pub text : List ℕ
-  pub fit : given ≡ Some settings
-  pub searched : IsSearched held (asked settings) settings
-  pub shown : ShownTrace settings.mode settings.command settings.part text
-  pub line : Written old new text
-
--- the same, and what was written says that there is no trace
-pub record FindsNone (given : Option Settings) (held : List (Option Texts)) (old new : Option (List ℕ)) : Type 0 where
-  pub settings : Settings
-  pub text : List ℕ
-  pub fit : given ≡ Some settings
-  pub searched : IsSearched held (asked settings) settings
-  pub absent : ShownNone settings.mode settings.command settings.part text
-  pub line : Written old new text
-
--- the same, and what was written says that the budget is spent
-pub record LeavesOpen (given : Option Settings) (held : List (Option Texts)) (old new : Option (List ℕ)) : Type 0 where
-  pub settings : Settings
-  pub text : List ℕ
-  pub fit : given ≡ Some settings
-  pub searched : IsSearched held (asked settings) settings
-  pub open_at : ShownSpent settings.mode settings.command settings.conflicts text
-  pub line : Written old new text
-
--- the run made a model and analysed it
-pub record Making (given : Option Settings) : Type 0 where
-  pub settings : Settings
-  pub fit : given ≡ Some settings
-  pub mode : settings.mode ≡ Make
-
--- a part from the front of an answer was written that the words and the libraries allow
-pub record FailsToWrite (given : Option Settings) (held : List (Option Texts)) (before now : List ℕ) (old new : Option (List ℕ)) : Type 0 where
-  pub answer : Answer
-  pub allowed : Allows given held before now answer
-  pub front : Begun old new (text_of answer)
-
--- the statuses of the table
-abbrev pub IsStatus : ℕ → Type 0
-IsStatus status = (status ≡ 0) ⊎ (status ≡ 1) ⊎ (status ≡ 2) ⊎ (status ≡ 3) ⊎ (status ≡ 4) ⊎ (status ≡ 5) ⊎ (status ≡ 6) ⊎ (status ≡ 10) ⊎ (status ≡ 20) ⊎ (status ≡ 30)
-
--- the number is one of these
-abbrev pub IsOneOf : ℕ → List ℕ → Type 0
-IsOneOf n [] = ⊥
-IsOneOf n (m ∷ ms) = (n ≡ m) ⊎ IsOneOf n ms
-
--- the statuses with which a mode answers what it is asked
-abbrev pub statuses_of : Mode → List ℕ
-statuses_of Exec = 10 ∷ 20 ∷ 30 ∷ []
-statuses_of Commands = 0 ∷ []
-statuses_of Lrat = 0 ∷ 1 ∷ []
-statuses_of Make = 0 ∷ []
-statuses_of Replay = 0 ∷ 1 ∷ []
-statuses_of Eval = 0 ∷ []
-statuses_of Least = 10 ∷ 20 ∷ 30 ∷ []
-statuses_of Core = 10 ∷ 20 ∷ 30 ∷ []

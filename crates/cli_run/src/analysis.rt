@@ -41,7 +41,8 @@ pub fn search<L: Libraries>(
     requires spells { SpellIn (tokens_of 0 text.now) parsed.tree }
     ensures keeps { L.told libraries.new ≡ L.told libraries.old }
     ensures later { NoneFell (L.counts libraries.old) (L.counts libraries.new) }
-    ensures on { IfOk result (λ answer. IsOnModel settings.now (L.told libraries.old) text.now (L.counts libraries.old) (L.counts libraries.new) answer) }
+    ensures on { IfOk result (λ answer. IsOnModel settings.now (L.told libraries.old) text.now
+        (L.counts libraries.old) (L.counts libraries.new) answer) }
 {
     let name = settings.file.text();
     match load_tree(alloc, libraries, name, parsed.tree, parsed.tokens) {
@@ -77,7 +78,8 @@ fn any_trace(
     loaded: Loaded,
     chooser: Box<dyn Chooser>,
 ) -> Result<Answer, AllocError>
-    ensures { IfOk result (λ answer. IsFoundIn Exec settings.now.command settings.now.part settings.now.conflicts answer) }
+    ensures { IfOk result (λ answer. IsFoundIn Exec settings.now.command settings.now.part
+        settings.now.conflicts answer) }
 {
     match analyse_loaded(alloc, loaded, settings.command, chooser, settings.conflicts) {
         Ok(found) => found_text(alloc, settings, found),
@@ -93,7 +95,8 @@ fn least_trace(
     loaded: Loaded,
     chooser: Box<dyn Chooser>,
 ) -> Result<Answer, AllocError>
-    ensures { IfOk result (λ answer. IsFoundIn Least settings.now.command settings.now.part settings.now.conflicts answer) }
+    ensures { IfOk result (λ answer. IsFoundIn Least settings.now.command settings.now.part
+        settings.now.conflicts answer) }
 {
     match prepare_loaded(alloc, loaded, settings.command) {
         Ok(prepared) => least_of(alloc, settings, prepared, chooser),
@@ -109,7 +112,8 @@ fn least_of(
     chooser: Box<dyn Chooser>,
 ) -> Result<Answer, AllocError>
     requires { outcome.IsReady settings.now.command prepared }
-    ensures { IfOk result (λ answer. IsFoundIn Least settings.now.command settings.now.part settings.now.conflicts answer) }
+    ensures { IfOk result (λ answer. IsFoundIn Least settings.now.command settings.now.part
+        settings.now.conflicts answer) }
 {
     let mut boxed = Boxed { chooser };
     let budget = settings.conflicts;
@@ -125,7 +129,8 @@ fn ruling_facts(
     loaded: Loaded,
     chooser: Box<dyn Chooser>,
 ) -> Result<Answer, AllocError>
-    ensures { IfOk result (λ answer. IsFoundIn Core settings.now.command settings.now.part settings.now.conflicts answer) }
+    ensures { IfOk result (λ answer. IsFoundIn Core settings.now.command settings.now.part
+        settings.now.conflicts answer) }
 {
     match prepare_loaded(alloc, loaded, settings.command) {
         Ok(prepared) => core_of(alloc, settings, prepared, chooser),
@@ -141,7 +146,8 @@ fn core_of(
     chooser: Box<dyn Chooser>,
 ) -> Result<Answer, AllocError>
     requires { outcome.IsReady settings.now.command prepared }
-    ensures { IfOk result (λ answer. IsFoundIn Core settings.now.command settings.now.part settings.now.conflicts answer) }
+    ensures { IfOk result (λ answer. IsFoundIn Core settings.now.command settings.now.part
+        settings.now.conflicts answer) }
 {
     let mut boxed = Boxed { chooser };
     let budget = settings.conflicts;
@@ -155,7 +161,7 @@ fn answer_of(found: Certificate) -> Answer
 {
     match found {
         Certificate::Trace(text) => Answer::Trace(text),
-        Certificate::Absent(text) => Answer::Absent(text),
+        Certificate::Refuted(text) => Answer::Refuted(text),
         Certificate::Unknown(text) => Answer::Unknown(text),
     }
 }
@@ -176,14 +182,15 @@ fn chosen(
 /// The text of what a search found.
 fn found_text(alloc: Global, settings: &Settings, found: Found) -> Result<Answer, AllocError>
     requires { outcome.IsFound settings.now.command settings.now.conflicts found }
-    ensures { IfOk result (λ answer. IsFoundIn Exec settings.now.command settings.now.part settings.now.conflicts answer) }
+    ensures { IfOk result (λ answer. IsFoundIn Exec settings.now.command settings.now.part
+        settings.now.conflicts answer) }
 {
     match found {
         Found::Trace { labels, lasso } => {
             let text = trace_shown(alloc, &labels, &lasso, settings.part)?;
             Ok(Answer::Trace(text))
         }
-        Found::Absent {
+        Found::Refuted {
             table,
             states,
             cnf,
@@ -191,11 +198,11 @@ fn found_text(alloc: Global, settings: &Settings, found: Found) -> Result<Answer
         } => {
             let part = settings.part;
             let text = absent_text(alloc, part, states, &table, &cnf, &lines)?;
-            Ok(Answer::Absent(Bytes::copy(alloc, &text)?))
+            Ok(Answer::Refuted(Bytes::from_vec(text)))
         }
         Found::Unknown { table, cnf, lines } => {
             let text = spent_text(alloc, settings, &table, &cnf, &lines)?;
-            Ok(Answer::Unknown(Bytes::copy(alloc, &text)?))
+            Ok(Answer::Unknown(Bytes::from_vec(text)))
         }
     }
 }
@@ -208,7 +215,9 @@ fn spent_text(
     cnf: &Cnf,
     lines: &LineList,
 ) -> Result<Vec<u8>, AllocError>
-    ensures { (conflicts : _) → settings.now.conflicts ≡ Some conflicts → IfOk result (λ text. text.items ≡ texts.unknown_text conflicts table.now cnf.now lines.now) }
+    ensures { (conflicts : _) → settings.now.conflicts ≡ Some conflicts →
+        IfOk result (λ text. text.items ≡ texts.unknown_text conflicts table.now cnf.now
+        lines.now) }
 {
     match settings.conflicts {
         Some(conflicts) => unknown_text(alloc, conflicts, table, cnf, lines),
@@ -249,7 +258,8 @@ pub fn make<L: Libraries>(
 ) -> Result<Answer, AllocError>
     ensures keeps { L.told libraries.new ≡ L.told libraries.old }
     ensures later { NoneFell (L.counts libraries.old) (L.counts libraries.new) }
-    ensures on { IfOk result (λ answer. IsOnRing (L.counts libraries.old) (L.counts libraries.new) answer) }
+    ensures on { IfOk result (λ answer. IsOnRing (L.counts libraries.old) (L.counts libraries.new)
+        answer) }
 {
     let nodes = nodes_in(settings.file.text());
     let text = ring_text(alloc, nodes)?;
@@ -285,7 +295,8 @@ fn made(
     }
 }
 
-/// The summary of what was found on a ring of so many nodes. Where it is left open, the whole answer follows.
+/// The summary of what was found on a ring of so many nodes. Where it is left open, the whole
+/// answer follows.
 fn made_text(
     alloc: Global,
     settings: &Settings,
@@ -299,7 +310,7 @@ fn made_text(
             let line = made_trace(alloc, nodes, lasso.states(), lasso.loop_start())?;
             Ok(Answer::Made(Bytes::copy(alloc, line.as_bytes())?))
         }
-        Found::Absent { states, .. } => {
+        Found::Refuted { states, .. } => {
             let line = made_none(alloc, nodes, states)?;
             Ok(Answer::Made(Bytes::copy(alloc, line.as_bytes())?))
         }
@@ -309,7 +320,7 @@ fn made_text(
             let mut whole = Vec::new(alloc);
             whole.extend_from_slice(line.as_bytes())?;
             whole.extend_from_slice(&text)?;
-            Ok(Answer::Made(Bytes::copy(alloc, &whole)?))
+            Ok(Answer::Made(Bytes::from_vec(whole)))
         }
     }
 }

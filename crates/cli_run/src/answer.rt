@@ -20,14 +20,15 @@ pub enum Answer {
     /// There is a trace; the text shows it.
     Trace(Bytes),
     /// There is no trace; the text says so.
-    Absent(Bytes),
+    Refuted(Bytes),
     /// The budget of a search is spent; the text shows it.
     Unknown(Bytes),
     /// The text sums up what was found on a model that was made.
     Made(Bytes),
     /// The text lists the commands of a module.
     Listed(Bytes),
-    /// What the lines of the second file come to for the clauses of the first, and the names of the two.
+    /// What the lines of the second file come to for the clauses of the first, and the names of the
+    /// two.
     Checked(Verdict, Name, Name),
     /// What is said of the trace in the file of this name.
     Traced(TraceAnswer, Name),
@@ -43,7 +44,7 @@ impl Answer {
             Answer::Refused(_, _) => 3,
             Answer::ReadFault(_) => 4,
             Answer::Trace(_) => 10,
-            Answer::Absent(_) => 20,
+            Answer::Refuted(_) => 20,
             Answer::Unknown(_) => 30,
             Answer::Made(_) => 0,
             Answer::Listed(_) => 0,
@@ -52,24 +53,25 @@ impl Answer {
         }
     }
 
-    /// The text; each of its lines is ended by a line feed.
-    pub fn text(&self, alloc: Global) -> Result<Bytes, AllocError>
-        ensures { IfOk result (λ text. text ≡ text_of self.now) }
+    /// The text; each of its lines is ended by a line feed. Where the answer has it, it is moved
+    /// out and not copied.
+    pub fn into_text(self, alloc: Global) -> Result<Bytes, AllocError>
+        ensures { IfOk result (λ text. text ≡ text_of self) }
     {
         match self {
             Answer::Usage => Bytes::copy(
                 alloc,
                 b"usage: alloyc MODE FILE [SECOND] [--command N] [--conflicts N] [--part PART] [--chooser N] [--expr E] [--at N]\n",
             ),
-            Answer::Refused(refusal, name) => refused(alloc, refusal, name.text()),
+            Answer::Refused(refusal, name) => refused(alloc, &refusal, name.text()),
             Answer::ReadFault(name) => fault(alloc, name.text()),
-            Answer::Trace(text) => Bytes::copy(alloc, text.bytes()),
-            Answer::Absent(text) => Bytes::copy(alloc, text.bytes()),
-            Answer::Unknown(text) => Bytes::copy(alloc, text.bytes()),
-            Answer::Made(text) => Bytes::copy(alloc, text.bytes()),
-            Answer::Listed(text) => Bytes::copy(alloc, text.bytes()),
+            Answer::Trace(text) => Ok(text),
+            Answer::Refuted(text) => Ok(text),
+            Answer::Unknown(text) => Ok(text),
+            Answer::Made(text) => Ok(text),
+            Answer::Listed(text) => Ok(text),
             Answer::Checked(verdict, clauses, lines) => {
-                checked(alloc, *verdict, clauses.text(), lines.text())
+                checked(alloc, verdict, clauses.text(), lines.text())
             }
             Answer::Traced(said, second) => said.text(alloc, second.text()),
         }

@@ -14,27 +14,30 @@ const WRITE_FAULT: u8 = 6;
 
 /// Writes the answer, where there was memory for one, and gives the status.
 pub fn finish<S: Sink>(alloc: Global, answered: Result<Answer, AllocError>, out: &mut S) -> u8
-    ensures { Finished answered (S.got out.old) (S.got out.new) (S.write_faults out.old) (S.write_faults out.new) result }
+    ensures { Finished answered (S.got out.old) (S.got out.new) (S.write_faults out.old)
+        (S.write_faults out.new) result }
 {
     match answered {
-        Ok(answer) => deliver(alloc, &answer, out),
+        Ok(answer) => deliver(alloc, answer, out),
         Err(_) => NO_MEMORY,
     }
 }
 
 /// Writes the whole text of the answer by one call, an empty one by none, and gives the status.
-fn deliver<S: Sink>(alloc: Global, answer: &Answer, out: &mut S) -> u8
-    ensures { Delivered answer.now (S.got out.old) (S.got out.new) (S.write_faults out.old) (S.write_faults out.new) result }
+fn deliver<S: Sink>(alloc: Global, answer: Answer, out: &mut S) -> u8
+    ensures { Delivered answer (S.got out.old) (S.got out.new) (S.write_faults out.old)
+        (S.write_faults out.new) result }
 {
-    let Ok(text) = answer.text(alloc) else {
+    let status = answer.status();
+    let Ok(text) = answer.into_text(alloc) else {
         return NO_MEMORY;
     };
     let bytes = text.bytes();
     if bytes.is_empty() {
-        return answer.status();
+        return status;
     }
     match out.write(bytes) {
-        Ok(()) => answer.status(),
+        Ok(()) => status,
         Err(_) => WRITE_FAULT,
     }
 }

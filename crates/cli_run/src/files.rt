@@ -29,7 +29,9 @@ pub fn whole_file<L: Libraries>(
     ensures keeps { L.told libraries.new ≡ L.told libraries.old }
     ensures later { NoneFell (L.counts libraries.old) (L.counts libraries.new) }
     ensures short { (text : _) → result ≡ Ok (File.Whole text) → length text.items ≤ most }
-    ensures file { (file : _) → result ≡ Ok file → IsFile (L.told libraries.old) name.now most (L.counts libraries.old) (L.counts libraries.new) file }
+    ensures file { (file : _) → result ≡ Ok file →
+        IsFile (L.told libraries.old) name.now most (L.counts libraries.old)
+        (L.counts libraries.new) file }
 {
     match libraries.fetch_first(alloc, name, most + 1) {
         Ok(Fetch::Absent) => Ok(File::Broken(Rule::NoModule)),
@@ -41,7 +43,8 @@ pub fn whole_file<L: Libraries>(
 
 /// The text, unless it is over the limit.
 fn within(text: Vec<u8>, most: usize) -> File
-    ensures { result ≡ cond (nat_le (length text.items) most) (File.Whole text) (File.Broken Rule.LargeFile) }
+    ensures { result ≡ cond (nat_le (length text.items) most) (File.Whole text)
+        (File.Broken Rule.LargeFile) }
 {
     if text.len() <= most {
         File::Whole(text)

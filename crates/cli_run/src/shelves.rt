@@ -31,7 +31,8 @@ fn ask(
     most: usize,
 ) -> Result<Fetch, FetchFault>
     ensures keeps { holds library.new ≡ holds library.old }
-    ensures answer { (texts : Texts) (fetch : _) → holds library.old ≡ Some texts → result ≡ Ok fetch → Answers texts name.now most fetch }
+    ensures answer { (texts : Texts) (fetch : _) → holds library.old ≡ Some texts →
+        result ≡ Ok fetch → Answers texts name.now most fetch }
     ensures cause { FetchCause (faults library.old) (faults library.new) result }
 {
     library.fetch(alloc, name, most)
@@ -45,8 +46,11 @@ fn fetch_first(
     most: usize,
 ) -> Result<Fetch, FetchFault>
     ensures keeps { map holds libraries.new.items ≡ map holds libraries.old.items }
-    ensures answer { (told : List Texts) (fetch : _) → map holds libraries.old.items ≡ map Some told → result ≡ Ok fetch → AnswersFirst told name.now most fetch }
-    ensures cause { ListCause (map faults libraries.old.items) (map faults libraries.new.items) result }
+    ensures answer { (told : List Texts) (fetch : _) →
+        map holds libraries.old.items ≡ map Some told → result ≡ Ok fetch →
+        AnswersFirst told name.now most fetch }
+    ensures cause { ListCause (map faults libraries.old.items) (map faults libraries.new.items)
+        result }
 {
     for i in 0..libraries.len() {
         match ask(alloc, &mut libraries[i], name, most) {

@@ -40,7 +40,8 @@ pub fn traced<L: Libraries>(
     requires spells { SpellIn (tokens_of 0 text.now) parsed.tree }
     ensures keeps { L.told libraries.new ≡ L.told libraries.old }
     ensures later { NoneFell (L.counts libraries.old) (L.counts libraries.new) }
-    ensures on { IfOk result (λ answer. IsOnModel settings.now (L.told libraries.old) text.now (L.counts libraries.old) (L.counts libraries.new) answer) }
+    ensures on { IfOk result (λ answer. IsOnModel settings.now (L.told libraries.old) text.now
+        (L.counts libraries.old) (L.counts libraries.new) answer) }
 {
     let name = settings.file.text();
     match load_tree(alloc, libraries, name, parsed.tree, parsed.tokens) {
@@ -61,7 +62,8 @@ fn on_loaded<L: Libraries>(
     requires second { is_some settings.now.second ≡ true }
     ensures keeps { L.told libraries.new ≡ L.told libraries.old }
     ensures later { NoneFell (L.counts libraries.old) (L.counts libraries.new) }
-    ensures after { IfOk result (λ answer. IsAfter settings.now (L.told libraries.old) (L.counts libraries.old) (L.counts libraries.new) answer) }
+    ensures after { IfOk result (λ answer. IsAfter settings.now (L.told libraries.old)
+        (L.counts libraries.old) (L.counts libraries.new) answer) }
 {
     match prepare_loaded(alloc, loaded, settings.command) {
         Ok(prepared) => on_prepared(alloc, settings, &prepared, libraries),
@@ -119,7 +121,8 @@ fn value_asked(
     }
 }
 
-/// The answer where an expression is refused, at a place in its own text or in that of a body that it calls.
+/// The answer where an expression is refused, at a place in its own text or in that of a body that
+/// it calls.
 fn refused_value(alloc: Global, prepared: &Prepared, refusal: Refusal) -> Result<Answer, AllocError>
     ensures { IfOk result (λ answer. IsRefusal answer) }
 {
@@ -146,7 +149,8 @@ fn on_prepared<L: Libraries>(
     requires second { is_some settings.now.second ≡ true }
     ensures keeps { L.told libraries.new ≡ L.told libraries.old }
     ensures later { NoneFell (L.counts libraries.old) (L.counts libraries.new) }
-    ensures after { IfOk result (λ answer. IsAfter settings.now (L.told libraries.old) (L.counts libraries.old) (L.counts libraries.new) answer) }
+    ensures after { IfOk result (λ answer. IsAfter settings.now (L.told libraries.old)
+        (L.counts libraries.old) (L.counts libraries.new) answer) }
 {
     match asked_question(alloc, settings, prepared)? {
         Question::Judgement => on_second(alloc, settings, prepared, None, libraries),
@@ -168,7 +172,8 @@ fn on_second<L: Libraries>(
     requires second { is_some settings.now.second ≡ true }
     ensures keeps { L.told libraries.new ≡ L.told libraries.old }
     ensures later { NoneFell (L.counts libraries.old) (L.counts libraries.new) }
-    ensures after { IfOk result (λ answer. IsAfter settings.now (L.told libraries.old) (L.counts libraries.old) (L.counts libraries.new) answer) }
+    ensures after { IfOk result (λ answer. IsAfter settings.now (L.told libraries.old)
+        (L.counts libraries.old) (L.counts libraries.new) answer) }
 {
     let Some(second) = &settings.second else {
         unreachable!();

@@ -38,7 +38,8 @@ pub fn answer<L: Libraries>(
 ) -> Result<Answer, AllocError>
     ensures keeps { L.told libraries.new ≡ L.told libraries.old }
     ensures later { NoneFell (L.counts libraries.old) (L.counts libraries.new) }
-    ensures allowed { Justified (fitting count (map string_bytes words.now)) (L.told libraries.old) (L.counts libraries.old) (L.counts libraries.new) result }
+    ensures allowed { Justified (fitting count (map string_bytes words.now)) (L.told libraries.old)
+        (L.counts libraries.old) (L.counts libraries.new) result }
 {
     match fitting_settings(alloc, words, count)? {
         None => Ok(Answer::Usage),
@@ -52,7 +53,8 @@ fn fitting_settings(
     words: &[String],
     choosers: usize,
 ) -> Result<Option<Settings>, AllocError>
-    ensures value { (settings : _) → result ≡ Ok settings → settings ≡ fitting choosers (map string_bytes words.now) }
+    ensures value { (settings : _) → result ≡ Ok settings →
+        settings ≡ fitting choosers (map string_bytes words.now) }
     ensures second { (settings : _) → result ≡ Ok (Some settings) → has_second settings ≡ true }
 {
     match settings_of_words(alloc, words)? {
@@ -77,7 +79,9 @@ fn work<L: Libraries>(
     requires { has_second settings.now ≡ true }
     ensures keeps { L.told libraries.new ≡ L.told libraries.old }
     ensures later { NoneFell (L.counts libraries.old) (L.counts libraries.new) }
-    ensures allowed { (answer : _) → result ≡ Ok answer → AllowsRun settings.now (L.told libraries.old) (L.counts libraries.old) (L.counts libraries.new) answer }
+    ensures allowed { (answer : _) → result ≡ Ok answer →
+        AllowsRun settings.now (L.told libraries.old) (L.counts libraries.old)
+        (L.counts libraries.new) answer }
 {
     match settings.mode {
         Mode::Make => make(alloc, settings, choosers, libraries),
@@ -99,7 +103,9 @@ fn model<L: Libraries>(
     requires second { has_second settings.now ≡ true }
     ensures keeps { L.told libraries.new ≡ L.told libraries.old }
     ensures later { NoneFell (L.counts libraries.old) (L.counts libraries.new) }
-    ensures allowed { (answer : _) → result ≡ Ok answer → AllowsRun settings.now (L.told libraries.old) (L.counts libraries.old) (L.counts libraries.new) answer }
+    ensures allowed { (answer : _) → result ≡ Ok answer →
+        AllowsRun settings.now (L.told libraries.old) (L.counts libraries.old)
+        (L.counts libraries.new) answer }
 {
     let name = settings.file.text();
     match whole_file(alloc, libraries, name, MODULE_BYTES)? {
@@ -124,7 +130,8 @@ fn on_model<L: Libraries>(
     requires short { length text.now ≤ MODULE_BYTES }
     ensures keeps { L.told libraries.new ≡ L.told libraries.old }
     ensures later { NoneFell (L.counts libraries.old) (L.counts libraries.new) }
-    ensures on { IfOk result (λ answer. IsOnModel settings.now (L.told libraries.old) text.now (L.counts libraries.old) (L.counts libraries.new) answer) }
+    ensures on { IfOk result (λ answer. IsOnModel settings.now (L.told libraries.old) text.now
+        (L.counts libraries.old) (L.counts libraries.new) answer) }
 {
     match root_of(alloc, text)? {
         Root::Module(parsed) => on_module(alloc, settings, text, parsed, choosers, libraries),
@@ -148,7 +155,8 @@ fn on_module<L: Libraries>(
     requires spells { SpellIn (tokens_of 0 text.now) parsed.tree }
     ensures keeps { L.told libraries.new ≡ L.told libraries.old }
     ensures later { NoneFell (L.counts libraries.old) (L.counts libraries.new) }
-    ensures on { IfOk result (λ answer. IsOnModel settings.now (L.told libraries.old) text.now (L.counts libraries.old) (L.counts libraries.new) answer) }
+    ensures on { IfOk result (λ answer. IsOnModel settings.now (L.told libraries.old) text.now
+        (L.counts libraries.old) (L.counts libraries.new) answer) }
 {
     match settings.mode {
         Mode::Exec => search(alloc, settings, text, parsed, choosers, libraries),
@@ -167,7 +175,7 @@ fn listed(alloc: Global, tree: &Module) -> Result<Answer, AllocError>
     ensures { IfOk result (λ answer. answer ≡ Answer.Listed (command_text tree.now)) }
 {
     let list = command_text(alloc, tree)?;
-    Ok(Answer::Listed(Bytes::copy(alloc, &list)?))
+    Ok(Answer::Listed(Bytes::from_vec(list)))
 }
 
 /// The answer of a run on clauses and a proof.
@@ -180,7 +188,9 @@ fn refutation<L: Libraries>(
     requires second { is_some settings.now.second ≡ true }
     ensures keeps { L.told libraries.new ≡ L.told libraries.old }
     ensures later { NoneFell (L.counts libraries.old) (L.counts libraries.new) }
-    ensures allowed { (answer : _) → result ≡ Ok answer → AllowsRun settings.now (L.told libraries.old) (L.counts libraries.old) (L.counts libraries.new) answer }
+    ensures allowed { (answer : _) → result ≡ Ok answer →
+        AllowsRun settings.now (L.told libraries.old) (L.counts libraries.old)
+        (L.counts libraries.new) answer }
 {
     let name = settings.file.text();
     match whole_file(alloc, libraries, name, FILE_BYTES)? {
@@ -199,11 +209,14 @@ fn proof<L: Libraries>(
 ) -> Result<Answer, AllocError>
     requires mode { settings.now.mode ≡ Lrat }
     requires second { is_some settings.now.second ≡ true }
-    requires tells { (told : List Texts) → L.told libraries.old ≡ map Some told → text_of told settings.now.file ≡ Some clauses.now }
+    requires tells { (told : List Texts) → L.told libraries.old ≡ map Some told →
+        text_of told settings.now.file ≡ Some clauses.now }
     requires short { length clauses.now ≤ FILE_BYTES }
     ensures keeps { L.told libraries.new ≡ L.told libraries.old }
     ensures later { NoneFell (L.counts libraries.old) (L.counts libraries.new) }
-    ensures allowed { (answer : _) → result ≡ Ok answer → AllowsFiles (second_asked settings.now.second) settings.now (L.told libraries.old) (L.counts libraries.old) (L.counts libraries.new) answer }
+    ensures allowed { (answer : _) → result ≡ Ok answer →
+        AllowsFiles (second_asked settings.now.second) settings.now (L.told libraries.old)
+        (L.counts libraries.old) (L.counts libraries.new) answer }
 {
     let Some(second) = &settings.second else {
         unreachable!();
@@ -225,7 +238,8 @@ fn on_proof(
     lines: &[u8],
 ) -> Result<Answer, AllocError>
     requires { length clauses.now ≤ FILE_BYTES }
-    ensures { IfOk result (λ answer. IsOnProof settings.now second.now clauses.now lines.now answer) }
+    ensures { IfOk result (λ answer. IsOnProof settings.now second.now clauses.now lines.now
+        answer) }
 {
     let verdict = check_texts(alloc, clauses, lines)?;
     checked(alloc, verdict, settings.file.text(), second)

@@ -4,14 +4,14 @@ use Rattle.answer_search.specs.Found as target
 use Rattle.answer_analysis.proofs.NoneLaw.{none_satisfies}
 use Rattle.answer_analysis.proofs.search.search_prepared.Goals as goal
 
-pub returns-in-Lasso : goal.returns-in-Lasso
-returns-in-Lasso g c = c.trace_of.ensures c.args.budget
+pub returns-in-Trace : goal.returns-in-Trace
+returns-in-Trace g c = c.trace_of.ensures c.args.budget
 
-pub returns-in_ok-table-in-Spent : goal.returns-in_ok-table-in-Spent
-returns-in_ok-table-in-Spent g c =
-    let spent = subst (target.IsFoundWithin c.args.prepared.bounds.states c.args.budget) c.in-Spent.is c.in_ok-lasso.ensures.found in
+pub returns-in_ok-table-in-Unknown : goal.returns-in_ok-table-in-Unknown
+returns-in_ok-table-in-Unknown g c =
+    let spent = subst (target.IsFoundWithin c.args.prepared.bounds.states c.args.budget) c.in-Unknown.is c.in_ok-lasso.ensures.found in
     let spends = spent.1 in
-    let says = subst (SaysTarget c.args.prepared.target c.args.prepared.bounds) c.in-Spent.is c.in_ok-lasso.ensures.says in
+    let says = subst (SaysTarget c.args.prepared.target c.args.prepared.bounds) c.in-Unknown.is c.in_ok-lasso.ensures.says in
     (spends.0, spends.1, spends.2, says)
 
 pub returns-in_ok-table-in-Refuted : goal.returns-in_ok-table-in-Refuted

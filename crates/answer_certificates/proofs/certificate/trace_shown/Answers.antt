@@ -4,8 +4,9 @@ use Rattle.answer_texts.specs.Certified.{trace_part}
 use Rattle.answer_certificates.proofs.certificate.trace_shown.Goals as goal
 
 pub returns : goal.returns
-returns c prepared labels trace = record {
+returns c prepared labels trace short = record {
   lasso = c.args.lasso.now;
   trace = trace;
+  short = short;
   text_is = c.in_ok-shown.ensures ∙ ap (λ l. trace_part c.args.part (trace_text l c.args.lasso.now)) labels;
 }

@@ -2,9 +2,8 @@ use Rattle.answer_certificates.proofs.kept.core_shown.Goals as goal
 
 pub returns : goal.returns
 returns c = record {
-  states = c.args.proof.states;
   table = c.in_ok-rows.rows;
   lines = c.args.proof.lines;
   refutes = c.requires;
-  text_is = cc (c.in_ok-shown.ensures, c.deref.ensures.value, c.in_ok-text.ensures, c.as_slice-names.ensures);
+  text_is = cc (c.from_vec.ensures, c.in_ok-text.ensures, c.as_slice-names.ensures);
 }

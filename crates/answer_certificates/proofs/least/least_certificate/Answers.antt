@@ -1,20 +1,22 @@
-use Rattle.std.proofs.Common.{ℕ, length, sym, subst}
+use Rattle.std.proofs.Common.{ℕ, ◌-◌, length, sym, subst}
 use Rattle.answer_certificates.specs.Least.{IsLeast}
-use Rattle.answer_certificates.specs.Certificate.{SayOverStates}
+use Rattle.answer_certificates.specs.Certificate.{NoneBelow, SayOverStates}
 use Rattle.answer_certificates.proofs.LeastLaw.{below_none, below_says, none_over}
 use Rattle.answer_certificates.proofs.least.least_certificate.Goals as goal
 
-pub returns-in_ok-text-in-Absent : goal.returns-in_ok-text-in-Absent
-returns-in_ok-text-in-Absent g c =
-    let found = subst (IsLeast c.args.prepared.model c.args.prepared.target c.args.budget) c.in-Absent.is c.in_ok-lasso.ensures in
-    let states = c.in-Absent.proof.states in
-    let says = subst (λ (n : ℕ). SayOverStates c.args.prepared n c.in-Absent.proof.cnf) (sym found.0.0) found.2 in
-    (states, record { cnf = c.in-Absent.proof.cnf; says = says; shows = c.in_ok-text-in-Absent.ensures }, none_over c.args.prepared c.in-Absent.proof c.ruled_out_means_none.ensures found.0 found.1)
+pub returns-in_ok-text-in-Refuted : goal.returns-in_ok-text-in-Refuted
+returns-in_ok-text-in-Refuted g c =
+    let found = subst (IsLeast c.args.prepared.model c.args.prepared.target c.args.budget) c.in-Refuted.is c.in_ok-lasso.ensures in
+    let states = c.in-Refuted.proof.states in
+    let says = subst (λ (n : ℕ). SayOverStates c.args.prepared n c.in-Refuted.proof.cnf) (sym found.0.0) found.2 in
+    (states, record { cnf = c.in-Refuted.proof.cnf; says = says; shows = c.in_ok-text-in-Refuted.ensures }, none_over c.args.prepared c.in-Refuted.proof c.ruled_out_means_none.ensures found.0 found.1)
 
 pub returns-in_ok-text-in-Unknown : goal.returns-in_ok-text-in-Unknown
 returns-in_ok-text-in-Unknown g c =
     let found = subst (IsLeast c.args.prepared.model c.args.prepared.target c.args.budget) c.in-Unknown.is c.in_ok-lasso.ensures in
-    record { cnf = c.in-Unknown.proof.cnf; says = (c.in-Unknown.proof.states, found.0, found.1, found.3); shows = c.in_ok-text-in-Unknown.ensures }
+    let states = c.in-Unknown.proof.states in
+    let below : NoneBelow c.args.prepared states = λ more number ready. c.ruled_out_means_none.ensures number c.args.prepared (states - 1) ready (found.4 more) in
+    record { cnf = c.in-Unknown.proof.cnf; says = (states, found.0, found.1, found.3, below); shows = c.in_ok-text-in-Unknown.ensures }
 
 pub least_shown-requires-clause-says : goal.least_shown-requires-clause-says
 least_shown-requires-clause-says g c = λ proof is.

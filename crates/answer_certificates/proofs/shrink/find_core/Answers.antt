@@ -1,16 +1,23 @@
-use Rattle.std.proofs.Common.{◌∙◌, [], refl, subst}
+use Rattle.std.proofs.Common.{◌∙◌, ◌≤◌, ℕ, [], length, refl, subst}
 use Rattle.answer_search.specs.Clauses.{SaysTarget}
 use Rattle.answer_search.specs.Found.{IsFoundWithin}
 use Rattle.answer_certificates.proofs.Staying.{whole_part}
 use Rattle.answer_certificates.proofs.shrink.find_core.Goals as goal
 
-pub returns-in-Spent : goal.returns-in-Spent
-returns-in-Spent g c =
+pub returns-in-Trace : goal.returns-in-Trace
+returns-in-Trace g c =
+    let limits = c.in_ok-limits.limits in
+    let states = c.in_ok-limits.ensures.states in
+    let found = subst (IsFoundWithin limits.states c.args.budget) c.in-Trace.is c.in_ok-lasso.ensures.found in
+    (subst (λ (n : ℕ). length c.in-Trace.lasso.states ≤ n) states found.0, found.1)
+
+pub returns-in-Unknown : goal.returns-in-Unknown
+returns-in-Unknown g c =
     let target = c.args.target.now in
     let limits = c.in_ok-limits.limits in
     let states = c.in_ok-limits.ensures.states in
-    let found = subst (IsFoundWithin limits.states c.args.budget) c.in-Spent.is c.in_ok-lasso.ensures.found in
-    let says = subst (SaysTarget target limits) c.in-Spent.is c.in_ok-lasso.ensures.says in (
+    let found = subst (IsFoundWithin limits.states c.args.budget) c.in-Unknown.is c.in_ok-lasso.ensures.found in
+    let says = subst (SaysTarget target limits) c.in-Unknown.is c.in_ok-lasso.ensures.says in (
       (found.0 ∙ states, found.1),
       record {
         dropped = [];

@@ -1,36 +1,40 @@
-use Rattle.std.proofs.Common.{◌≡◌, Some, length, subst}
+use Rattle.std.proofs.Common.{◌≡◌, ◌≤◌, ℕ, Some, length, subst}
 use Rattle.answer_analysis.specs.Found as outcome
-use Rattle.answer_analysis.specs.declared.answer.Answer.TheVariants.{Trace, Absent, Unknown}
-use Rattle.answer_certificates.specs.Certificate.{ShowsNone, ShowsSpent, SayAll}
+use Rattle.answer_analysis.specs.declared.answer.Answer.TheVariants.{Trace, Refuted, Unknown}
+use Rattle.answer_certificates.specs.Certificate.{IsShort, ShowsNone, ShowsSpent, SayAll}
 use Rattle.cli_run.proofs.analysis.found_text.Goals as goal
 
 pub returns-in_ok-text-in-Trace : goal.returns-in_ok-text-in-Trace
 returns-in_ok-text-in-Trace c =
     let prepared = c.requires.0 in
     let found : outcome.IsFoundIn prepared c.args.settings.now.conflicts (Trace c.in-Trace.labels c.in-Trace.lasso) = rw c.in-Trace.is at c.requires.2 in
-    (prepared, c.requires.1, c.in_ok-text-in-Trace.ensures prepared found.0 found.1)
+    let short : IsShort prepared c.in-Trace.lasso = record {
+      few = λ number ready. subst (λ (n : ℕ). length c.in-Trace.lasso.states ≤ n) ready.states found.2;
+      fewest = found.3;
+    } in
+    (prepared, c.requires.1, c.in_ok-text-in-Trace.ensures prepared found.0 found.1 short)
 
-pub returns-in_ok-copy-in-Absent : goal.returns-in_ok-copy-in-Absent
-returns-in_ok-copy-in-Absent c =
+pub returns-in_ok-text-in-Refuted : goal.returns-in_ok-text-in-Refuted
+returns-in_ok-text-in-Refuted c =
     let prepared = c.requires.0 in
-    let found : outcome.IsFoundIn prepared c.args.settings.now.conflicts (Absent c.in-Absent.table c.in-Absent.states c.in-Absent.cnf c.in-Absent.lines) = rw c.in-Absent.is at c.requires.2 in
-    let shown : ShowsNone (SayAll prepared) prepared.bounds.states c.args.settings.now.part c.in_ok-copy-in-Absent.field-0 = record {
-      cnf = c.in-Absent.cnf;
+    let found : outcome.IsFoundIn prepared c.args.settings.now.conflicts (Refuted c.in-Refuted.table c.in-Refuted.states c.in-Refuted.cnf c.in-Refuted.lines) = rw c.in-Refuted.is at c.requires.2 in
+    let shown : ShowsNone (SayAll prepared) prepared.bounds.states c.args.settings.now.part c.from_vec.result = record {
+      cnf = c.in-Refuted.cnf;
       says = found.3;
       shows = record {
-        table = c.in-Absent.table;
-        lines = c.in-Absent.lines;
+        table = c.in-Refuted.table;
+        lines = c.in-Refuted.lines;
         refutes = found.1;
-        text_is = cc (c.in_ok-copy-in-Absent.ensures, c.deref.ensures.value, c.in_ok-text-in-Absent.ensures, found.0);
+        text_is = cc (c.from_vec.ensures, c.in_ok-text-in-Refuted.ensures, found.0);
       };
     } in
     (prepared, c.requires.1, (shown, found.2 c.args.settings.now.command c.requires.1))
 
-pub returns-in_ok-copy-in-Unknown : goal.returns-in_ok-copy-in-Unknown
-returns-in_ok-copy-in-Unknown c =
+pub returns-in_ok-text-in-Unknown : goal.returns-in_ok-text-in-Unknown
+returns-in_ok-text-in-Unknown c =
     let prepared = c.requires.0 in
     let found : outcome.IsFoundIn prepared c.args.settings.now.conflicts (Unknown c.in-Unknown.table c.in-Unknown.cnf c.in-Unknown.lines) = rw c.in-Unknown.is at c.requires.2 in
-    let shown : ShowsSpent (SayAll prepared) c.args.settings.now.conflicts c.in_ok-copy-in-Unknown.field-0 = record {
+    let shown : ShowsSpent (SayAll prepared) c.args.settings.now.conflicts c.from_vec-in-Unknown.result = record {
       cnf = c.in-Unknown.cnf;
       says = found.3;
       shows = record {
@@ -39,7 +43,7 @@ returns-in_ok-copy-in-Unknown c =
         spent = found.0;
         lemmas = found.1;
         few = found.2;
-        text_is = cc (c.in_ok-copy-in-Unknown.ensures, c.deref-in-Unknown.ensures.value, c.in_ok-text-in-Unknown.ensures (length c.in-Unknown.lines) found.0);
+        text_is = cc (c.from_vec-in-Unknown.ensures, c.in_ok-text-in-Unknown.ensures (length c.in-Unknown.lines) found.0);
       };
     } in
     (prepared, c.requires.1, shown)
