@@ -114,9 +114,8 @@ ShownTrace Least number part text = OfModel number (λ prepared. ShowsOne prepar
 ShownTrace _ number part text = OfModel number (λ prepared. ShowsTrace prepared part text)
 
 -- what is written where there is no trace: the part that is asked for, of clauses that say what the target of the model does and of
--- lines that refute them, where no lasso within the bounds satisfies the model and the command, if the target has plain forms alone;
--- in a search for the fewest states, where none of at most as many states as the scopes does, if the model is usual too; in a search
--- for facts that rule out every trace with these facts
+-- lines that refute them, where no lasso of at most as many states as the scopes say satisfies the model and the command, if the target
+-- has plain forms alone and the model is usual; in a search for facts that rule out every trace, the same with these facts
 abbrev pub ShownNone : Mode → ℕ → Part → List ℕ → Type 0
 ShownNone Core number part text = OfModel number (λ prepared. ShowsCore prepared part text)
 ShownNone Exec number part text = OfModel number (λ prepared. ShowsNone (SayAll prepared) prepared.bounds.states part text × NoneSatisfies prepared)
