@@ -15,6 +15,3 @@ mod settings;
 pub use fit::fits;
 pub use named::{Mode, Part};
 pub use settings::{Settings, settings_of_words};
-
-#[cfg(test)]
-mod tests;

@@ -27,6 +27,3 @@ mod facts;
 mod store;
 
 pub use store::CircuitStore;
-
-#[cfg(test)]
-mod tests;

@@ -28,6 +28,3 @@ mod write;
 
 pub use names::{are_numbered, count_inputs};
 pub use write::write_clauses;
-
-#[cfg(test)]
-mod tests;

@@ -12,6 +12,3 @@ mod walk;
 
 pub use checker::Checker;
 pub use fault::{LineFault, Step};
-
-#[cfg(test)]
-mod tests;

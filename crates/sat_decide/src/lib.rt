@@ -11,8 +11,6 @@ mod first_free;
 mod heap;
 mod lying;
 mod picks;
-#[cfg(test)]
-mod tests;
 
 pub use activity::Activity;
 pub use boxed::Boxed;

@@ -27,6 +27,3 @@ pub const MOST_NUMBER: u64 = 9_223_372_036_854_775_807;
 
 /// The largest variable in a text of lines.
 pub const MOST_VARIABLE: u64 = 100_000_000;
-
-#[cfg(test)]
-mod tests;

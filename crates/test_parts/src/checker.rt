@@ -1,4 +1,6 @@
-use crate::{Checker, Step};
+//! Tests of `sat_checker`.
+
+use sat_checker::{Checker, Step};
 use sat_dimacs::{Clause, read_cnf};
 use sat_lrat::{Hints, Line};
 use std::alloc::{AllocError, Global};

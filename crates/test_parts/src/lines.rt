@@ -1,5 +1,7 @@
-use crate::{Hints, Line, LineList, ReadLine, print_lines, read_line};
+//! Tests of `sat_lrat`.
+
 use sat_dimacs::Clause;
+use sat_lrat::{Hints, Line, LineList, ReadLine, print_lines, read_line};
 use std::alloc::{AllocError, Global};
 use std::test::Fail;
 

@@ -1,4 +1,6 @@
-use crate::CircuitStore;
+//! Tests of `gate_store`.
+
+use gate_store::CircuitStore;
 use gate_trait::{Gate, Gates};
 use std::test::Fail;
 

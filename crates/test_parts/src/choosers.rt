@@ -1,4 +1,6 @@
-use crate::{Activity, Boxed, Chooser};
+//! Tests of `sat_decide`.
+
+use sat_decide::{Activity, Boxed, Chooser};
 use std::test::Fail;
 
 #[test]

@@ -1,5 +1,5 @@
-// What no clause says: with ample memory the words are read, and what they give is what a user means.
-use super::*;
+//! What no clause says: with ample memory the words are read, and what they give is what a user means.
+use cli_words::*;
 use std::alloc::{AllocError, Global};
 use std::test::Fail;
 

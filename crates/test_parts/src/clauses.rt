@@ -1,6 +1,8 @@
-use crate::{are_numbered, count_inputs, write_clauses};
+//! Tests of `gate_tseitin`.
+
 use gate_store::CircuitStore;
 use gate_trait::{Gates, NodeList};
+use gate_tseitin::{are_numbered, count_inputs, write_clauses};
 use sat_dimacs::Cnf;
 use std::test::Fail;
 

@@ -1,5 +1,7 @@
-use crate::lex;
+//! Tests of `syntax_lexer`.
+
 use std::test::Fail;
+use syntax_lexer::lex;
 use syntax_tree::{Token, TokenKind, Word};
 
 fn is_name(token: &Token, text: &str) -> bool {
