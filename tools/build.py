@@ -99,22 +99,28 @@ def build_one(name, jobs):
     return 1 if status else 0
 
 
+def share_of(pid):
+    """Returns the memory in bytes that a process takes, its share alone of what it has in common with others."""
+    try:
+        with open(f"/proc/{pid}/smaps_rollup") as it:
+            return 1024 * sum(int(line.split()[1]) for line in it if line.startswith("Pss:"))
+    except (OSError, IndexError, ValueError):
+        return 0
+
+
 def memory_of(pids):
     """Returns the memory in bytes that each of these processes and all below it take now."""
-    children, sizes = {}, {}
+    children = {}
     for name in os.listdir("/proc"):
         if name.isdigit():
             try:
                 with open(f"/proc/{name}/stat") as it:
-                    parent = int(it.read().rsplit(")", 1)[1].split()[1])
-                with open(f"/proc/{name}/statm") as it:
-                    sizes[int(name)] = int(it.read().split()[1]) * os.sysconf("SC_PAGE_SIZE")
-                children.setdefault(parent, []).append(int(name))
+                    children.setdefault(int(it.read().rsplit(")", 1)[1].split()[1]), []).append(int(name))
             except (OSError, IndexError, ValueError):
                 pass
 
     def whole(pid):
-        return sizes.get(pid, 0) + sum(whole(it) for it in children.get(pid, []))
+        return share_of(pid) + sum(whole(it) for it in children.get(pid, []))
 
     return {pid: whole(pid) for pid in pids}
 
