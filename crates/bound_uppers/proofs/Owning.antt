@@ -1,7 +1,7 @@
 -- Which sigs are constants, and which own atoms.
 use Rattle.std.proofs.Common.{◌≡◌, ◌⊎◌, inl, inr, ℕ, zero, suc, ◌+◌, ◌<◌, ◌≤◌, eqb, nat_lt, Bool, true, false, not, ◌&&◌, ◌||◌, cond, if◌then◌else◌, IsTrue, List, [], ◌∷◌, ◌++◌, length, take, get_or, set, filter, slice_get, Option, Some, None, is_some, Contains, refl, ap, sym, ◌∙◌, subst, arith, length-append}
 use Rattle.std.specs.List.{list_any, range_with_len}
-use Rattle.std.proofs.lemmas.Bool.{cases_lt, cases_eq, eq-eqb, ne_eqb, eqb-true, ltb-true, ltb-false, false≢true, and_parts, and_from, and_right}
+use Rattle.std.proofs.lemmas.Bool.{cases_lt, cases_eq, eq-eqb, ne_eqb, ltb-true, ltb-false, false≢true, and_parts, and_from, and_right}
 use Rattle.std.proofs.lemmas.List.Elements.{filter-append}
 use Rattle.std.proofs.lemmas.List.Folds.{list_any_more}
 use Rattle.std.proofs.lemmas.Grind.{get_or-set_at}
@@ -16,7 +16,7 @@ use Rattle.core_meaning.specs.declared.scopes.SigScope.{SigScope}
 use Rattle.core_meaning.specs.Kept.{top_above}
 use Rattle.bound_uppers.specs.Kinds.{top_at, HasTops}
 use Rattle.bound_uppers.specs.Own.{is_single, does_extend, is_constant, is_constant_of, top_of, constants, fits, owners, does_own, stands_as, HasOrigins}
-use Rattle.bound_uppers.specs.Owned.{marked, extended_at, AreExtended, AreConstants, HasLists, AreConstantsOf, AreStanding, HasStanding}
+use Rattle.bound_uppers.specs.Owned.{marked, extended_at, AreExtended, AreConstants, HasLists, AreStanding, HasStanding}
 use Rattle.bound_uppers.proofs.Ranks.{range_up}
 
 -- ---- lists that grow at the end
