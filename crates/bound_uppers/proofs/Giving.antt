@@ -1,12 +1,14 @@
 -- What the table gives sigs, as sets.
-use Rattle.std.proofs.Common.{◌≡◌, ◌⊎◌, ◌↔◌, inl, inr, ℕ, zero, suc, ◌+◌, ◌-◌, ◌<◌, ◌≤◌, eqb, Bool, true, false, if◌then◌else◌, IsTrue, not, List, [], ◌∷◌, ◌++◌, length, length-append, take, get_or, slice_get, slice_index, Option, Some, None, All, Contains, refl, ap, sym, ◌∙◌, subst, arith}
+use Rattle.std.proofs.Common.{◌≡◌, ◌⊎◌, ◌↔◌, inl, inr, ℕ, zero, suc, ◌+◌, ◌-◌, ◌<◌, ◌≤◌, eqb, Bool, true, false, if◌then◌else◌, IsTrue, not, ◌&&◌, List, [], ◌∷◌, ◌++◌, length, length-append, take, get_or, slice_get, slice_index, Option, Some, None, All, Contains, refl, ap, sym, ◌∙◌, subst, arith}
 use Rattle.std.proofs.lemmas.Bool.{cases_lt, cases_eq, eq-eqb, ne_eqb, eqb-true, false≢true}
 use Rattle.std.proofs.lemmas.Option.{slice_get_within}
 use Rattle.std.proofs.lemmas.List.Elements.{All-nil, All-push}
 use Rattle.core_tuples.specs.Sets.{TupleList, IsTupleSet, In, HasJust}
 use Rattle.core_tuples.specs.Order.{no_members}
 use Rattle.core_tree.specs.declared.model.Model.{Model}
+use Rattle.core_tree.specs.declared.model.Sig.{Sig}
 use Rattle.core_tree.specs.declared.model.Column.TheVariants.{Int as IntColumn}
+use Rattle.core_tree.specs.Types.{by_sig}
 use Rattle.core_meaning.specs.declared.scopes.SigScope.{SigScope}
 use Rattle.core_meaning.specs.declared.scopes.Scopes.{Scopes}
 use Rattle.core_meaning.specs.Kept.{first_atom, universe_size, or_zero_number, IsAtomOf}
@@ -14,12 +16,12 @@ use Rattle.bound_uppers.specs.declared.numbers.AtomRange.{AtomRange}
 use Rattle.bound_uppers.specs.declared.numbers.AtomRanges.{AtomRanges}
 use Rattle.bound_uppers.specs.declared.given.AtomSets.{AtomSets}
 use Rattle.bound_uppers.specs.Kinds.{no_span, integers_kind, sig_kind, top_at, HasTops, HasSpans, InSpan}
-use Rattle.bound_uppers.specs.Own.{top_of, owners, owner_of, does_own, is_given, is_given_by, stands_as}
-use Rattle.bound_uppers.specs.Owned.{HasStanding}
+use Rattle.bound_uppers.specs.Own.{is_single, is_extended, is_constant, top_of, owners, owner_of, does_own, is_given, is_given_by, stands_as}
+use Rattle.bound_uppers.specs.Owned.{AreConstants, HasStanding}
 use Rattle.bound_uppers.specs.Given.{IsGiven, InColumnTable}
 use Rattle.bound_uppers.specs.AtomSets.{set_at, IsColumn, AreGiven, InSigSet, AreSigSets}
 use Rattle.bound_uppers.proofs.Exact.{those, of_integers, option_cases, nobody, sig_span, lacks_span}
-use Rattle.bound_uppers.proofs.Owning.{none_owns, outside_at, no_sig, top_outside, same_either}
+use Rattle.bound_uppers.proofs.Owning.{owns_is, none_owns, outside_at, no_sig, top_outside, same_either}
 use Rattle.bound_uppers.proofs.Sketching.{get_early, get_new}
 
 -- ---- one atom more, or none
@@ -189,6 +191,24 @@ sets_more model scopes standing n stands set old new up column its was e =
 pub sets_all : (model : Model) (scopes : Scopes) (standing : List ℕ) (n m : ℕ) (sets : List TupleList) → m ≤ n → n ≤ m → AreSigSets model scopes standing n sets → AreSigSets model scopes standing m sets
 sets_all model scopes standing n m sets low high are = let same : n ≡ m = omega (arith, low, high) in subst (λ (k : ℕ). AreSigSets model scopes standing k sets) same are
 
+-- ---- constants
+
+-- each sig is marked just where it is a constant
+mark_is : (sigs : List Sig) (marks : List Bool) (s : ℕ) → AreConstants sigs (length sigs) marks → get_or marks s false ≡ is_constant sigs s
+mark_is sigs marks s are = elim (cases_lt s (length sigs)) [
+  | inl less ↦ are.each s less
+  | inr far ↦
+      let count = are.count in
+      outside_at marks s false (omega (arith, count, far)) ∙ sym (ap (λ (o : Option Sig). by_sig false is_single o && not (is_extended sigs s)) (no_sig sigs s far))
+]
+
+pub owns_of : (sigs : List Sig) (numbers : List SigScope) (marks : List Bool) (found : List ℕ) (s top : ℕ) (owns : Bool) → AreConstants sigs (length sigs) marks → top ≡ top_of sigs s → found ≡ owners sigs numbers top → owns ≡ (get_or marks s false && not (eqb (length found) 0)) → owns ≡ does_own sigs numbers s
+owns_of sigs numbers marks found s top owns are up own is =
+    is
+    ∙ (ap (λ (b : Bool). b && not (eqb (length found) 0)) (mark_is sigs marks s are)
+    ∙ (ap (λ (xs : List ℕ). is_constant sigs s && not (eqb (length xs) 0)) (own ∙ ap (λ (t : ℕ). owners sigs numbers t) up)
+    ∙ owns_is sigs numbers s))
+
 -- ---- top-level sigs
 
 pub tops_none : (ups : List ℕ) (s : ℕ) → s < 0 → top_at ups (top_at ups s) ≡ top_at ups s
@@ -211,7 +231,7 @@ tops_more ups n top lt is own each s low = elim (cases_lt s n) [
 
 -- behind the list each sig is its own
 pub tops_all : (ups : List ℕ) (n : ℕ) → length ups ≤ n → ((s : ℕ) → s < n → top_at ups (top_at ups s) ≡ top_at ups s) → IsTrue true → (s : ℕ) → top_at ups (top_at ups s) ≡ top_at ups s
-tops_all ups n le each yes s = elim (cases_lt s n) [ inl less ↦ each s less | inr far ↦ ap (λ (m : ℕ). top_at ups m) (outside_at ups s s (omega (arith, far, le))) ]
+tops_all ups n le each on s = elim (cases_lt s n) [ inl less ↦ each s less | inr far ↦ ap (λ (m : ℕ). top_at ups m) (outside_at ups s s (omega (arith, far, le))) ]
 
 -- ---- all kinds
 

@@ -1,7 +1,7 @@
 -- Which sigs are constants, and which own atoms.
 use Rattle.std.proofs.Common.{◌≡◌, ◌⊎◌, inl, inr, ℕ, zero, suc, ◌+◌, ◌<◌, ◌≤◌, eqb, nat_lt, Bool, true, false, not, ◌&&◌, ◌||◌, cond, if◌then◌else◌, IsTrue, List, [], ◌∷◌, ◌++◌, length, take, get_or, set, filter, slice_get, Option, Some, None, is_some, Contains, refl, ap, sym, ◌∙◌, subst, arith, length-append}
 use Rattle.std.specs.List.{list_any, range_with_len}
-use Rattle.std.proofs.lemmas.Bool.{cases_lt, cases_eq, eq-eqb, ne_eqb, eqb-true, ltb-true, ltb-false, false≢true, and_parts, and_from, and_right}
+use Rattle.std.proofs.lemmas.Bool.{cases_lt, cases_eq, eq-eqb, ne_eqb, ltb-true, ltb-false, false≢true, and_parts, and_from, and_right}
 use Rattle.std.proofs.lemmas.List.Elements.{filter-append}
 use Rattle.std.proofs.lemmas.List.Folds.{list_any_more}
 use Rattle.std.proofs.lemmas.Grind.{get_or-set_at}
@@ -14,10 +14,10 @@ use Rattle.core_tree.specs.declared.model.SigKind.TheVariants.{Top, Extends, Sub
 use Rattle.core_tree.specs.Types.{by_parent, by_sig}
 use Rattle.core_meaning.specs.declared.scopes.SigScope.{SigScope}
 use Rattle.core_meaning.specs.Kept.{top_above}
-use Rattle.bound_uppers.specs.Kinds.{top_at}
+use Rattle.bound_uppers.specs.Kinds.{top_at, HasTops}
 use Rattle.bound_uppers.specs.Own.{is_single, does_extend, is_constant, is_constant_of, top_of, constants, fits, owners, does_own, stands_as, HasOrigins}
-use Rattle.bound_uppers.specs.Owned.{marked, extended_at, AreExtended, AreConstants, HasLists, AreConstantsOf, AreStanding, HasStanding}
-use Rattle.bound_uppers.proofs.Ranks.{range_at}
+use Rattle.bound_uppers.specs.Owned.{marked, extended_at, AreExtended, AreConstants, HasLists, AreStanding, HasStanding}
+use Rattle.bound_uppers.proofs.Ranks.{range_up}
 
 -- ---- lists that grow at the end
 
@@ -140,9 +140,7 @@ constants_all sigs n marks low high are = let same : n ≡ length sigs = omega (
 
 filter_next : (p : ℕ → Bool) (n : ℕ) → filter p (range_with_len 0 (n + 1)) ≡ filter p (range_with_len 0 n) ++ cond (p n) (n ∷ []) []
 filter_next p n =
-    let longer : range_with_len 0 (suc n) ≡ range_with_len 0 n ++ n ∷ [] = range_at 0 n in
-    let more : n + 1 ≡ suc n = omega arith in
-    ap (λ (m : ℕ). filter p (range_with_len 0 m)) more ∙ (ap (filter p) longer ∙ filter-append p (range_with_len 0 n) (n ∷ []))
+    ap (filter p) (range_up n) ∙ filter-append p (range_with_len 0 n) (n ∷ [])
 
 pub lists_none : (sigs : List Sig) (lists : List (List ℕ)) → length lists ≡ length sigs → ((t : ℕ) → get_or lists t [] ≡ []) → HasLists sigs 0 lists
 lists_none sigs lists count none = record { count = count; each = λ top lt. none top }
@@ -193,16 +191,18 @@ turn_count : (lists : List (List ℕ)) (top n : ℕ) (b : Bool) → length (if b
 turn_count lists top n true = extended_count lists top n
 turn_count lists top n false = refl
 
-pub lists_more : (sigs : List Sig) (n top : ℕ) (marks : List Bool) (old new : List (List ℕ)) (b : Bool) → n < length sigs → AreConstants sigs (length sigs) marks → b ≡ get_or marks n false → top ≡ top_of sigs n → HasLists sigs n old → new ≡ (if b then extended_at old top n else old) → HasLists sigs (n + 1) new
-lists_more sigs n top marks old new b lt are mark up was e =
-    let is : b ≡ is_constant sigs n = mark ∙ are.each n lt in
+pub lists_more : (sigs : List Sig) (ups : List ℕ) (n number top : ℕ) (marks : List Bool) (old new : List (List ℕ)) (b : Bool) → number ≡ n → n < length sigs → HasTops sigs ups → AreConstants sigs (length sigs) marks → top ≡ top_at ups number → b ≡ get_or marks number false → HasLists sigs n old → new ≡ (if b then extended_at old top number else old) → HasLists sigs (n + 1) new
+lists_more sigs ups n number top marks old new b same lt tops are up mark was e =
+    let is : b ≡ is_constant sigs n = mark ∙ (ap (λ (m : ℕ). get_or marks m false) same ∙ are.each n lt) in
+    let above : top ≡ top_of sigs n = up ∙ (ap (top_at ups) same ∙ tops n) in
+    let grown : new ≡ (if b then extended_at old top n else old) = e ∙ ap (λ (m : ℕ). if b then extended_at old top m else old) same in
     record {
-      count = ap length e ∙ (turn_count old top n b ∙ was.count);
+      count = ap length grown ∙ (turn_count old top n b ∙ was.count);
       each = λ t low.
           let count = was.count in
           let within : t < length old = omega (arith, low, count) in
-          let test : (b && eqb top t) ≡ is_constant_of sigs t n = ap (λ (c : Bool). c && eqb top t) is ∙ ap (λ (u : ℕ). is_constant sigs n && eqb u t) up in
-          ap (λ (ls : List (List ℕ)). get_or ls t []) e
+          let test : (b && eqb top t) ≡ is_constant_of sigs t n = ap (λ (c : Bool). c && eqb top t) is ∙ ap (λ (u : ℕ). is_constant sigs n && eqb u t) above in
+          ap (λ (ls : List (List ℕ)). get_or ls t []) grown
           ∙ (lists_turn old t n top b within
           ∙ (ap (λ (xs : List ℕ). xs ++ cond (b && eqb top t) (n ∷ []) []) (was.each t low)
           ∙ (ap (λ (c : Bool). filter (is_constant_of sigs t) (range_with_len 0 n) ++ cond c (n ∷ []) []) test
@@ -229,13 +229,13 @@ in_filter p (y ∷ xs) x h on = elim (cons_cases y xs x h) [
   | inr later ↦ keep_rest (p y) y (filter p xs) x (in_filter p xs x later on)
 ]
 
+kept_passes : (p : ℕ → Bool) (y : ℕ) (xs : List ℕ) (x : ℕ) → (Contains (filter p xs) x → p x ≡ true) → (b : Bool) → p y ≡ b → Contains (cond b (y ∷ filter p xs) (filter p xs)) x → p x ≡ true
+kept_passes p y xs x passes true e h = elim (cons_cases y (filter p xs) x h) [ inl is ↦ ap p is ∙ e | inr later ↦ passes later ]
+kept_passes p y xs x passes false e h = passes h
+
 out_filter : (p : ℕ → Bool) (xs : List ℕ) (x : ℕ) → Contains (filter p xs) x → p x ≡ true
 out_filter p [] x h = absurd (no_members x h)
-out_filter p (y ∷ xs) x h = by_test (p y) refl h
-  where
-    by_test : (b : Bool) → p y ≡ b → Contains (cond b (y ∷ filter p xs) (filter p xs)) x → p x ≡ true
-    by_test true e g = elim (cons_cases y (filter p xs) x g) [ inl is ↦ ap p is ∙ e | inr later ↦ out_filter p xs x later ]
-    by_test false e g = out_filter p xs x g
+out_filter p (y ∷ xs) x h = kept_passes p y xs x (λ later. out_filter p xs x later) (p y) refl h
 
 in_range : (a n s : ℕ) → a ≤ s → s < a + n → Contains (range_with_len a n) s
 in_range a zero s low high = absurd (omega (arith, low, high))
@@ -326,7 +326,7 @@ standing_all sigs numbers n all low high are s = elim (cases_lt s n) [
 
 -- ---- origins
 
-OriginAt : List Sig → ℕ → Sig → Type 0
+abbrev pub OriginAt : List Sig → ℕ → Sig → Type 0
 OriginAt sigs s d = (p : ℕ) (e : Sig) → d.kind ≡ Extends p → slice_get sigs p ≡ Some e → is_some d.origin ≡ is_some e.origin
 
 -- those of the first sigs
@@ -346,7 +346,7 @@ origins_more sigs n c b lt is on its was s d low at = elim (cases_lt s n) [
 ]
 
 pub origins_all : (sigs : List Sig) (n : ℕ) → length sigs ≤ n → HasOriginsTo sigs n → IsTrue true → HasOrigins sigs
-origins_all sigs n le was yes s p d e at kind there = was s d (within sigs s d at n le) at p e kind there
+origins_all sigs n le was on s p d e at kind there = was s d (within sigs s d at n le) at p e kind there
   where
     within : (ds : List Sig) (k : ℕ) (x : Sig) → slice_get ds k ≡ Some x → (m : ℕ) → length ds ≤ m → k < m
     within [] k x get m le = cc

@@ -1,14 +1,12 @@
 -- The order of relations.
-use Rattle.std.proofs.Common.{◌≡◌, ◌≢◌, ◌⊎◌, inl, inr, ℕ, zero, suc, ◌+◌, ◌<◌, ◌≤◌, Bool, true, false, if◌then◌else◌, List, [], ◌∷◌, ◌++◌, length, take, slice_get, slice_index, Option, Some, None, refl, ap, sym, ◌∙◌, arith, map, get_or, nat_lt, eqb, subst, append_assoc, All}
-use Rattle.std.specs.Prelude.{count_by, sum_by}
+use Rattle.std.proofs.Common.{◌≡◌, ◌⊎◌, inl, inr, ℕ, zero, suc, ◌+◌, ◌<◌, ◌≤◌, Bool, if◌then◌else◌, List, [], ◌∷◌, ◌++◌, length, take, slice_index, Option, Some, None, refl, ap, sym, ◌∙◌, arith, map, get_or, nat_lt, eqb, subst, append_assoc, All}
+use Rattle.std.specs.Prelude.{count_by}
 use Rattle.std.specs.List.{range_with_len}
 use Rattle.std.proofs.lemmas.Bool.{cases_lt}
 use Rattle.std.proofs.lemmas.Bool.Decides.{nat_tests}
-use Rattle.std.proofs.lemmas.List.FromFn.{length-range_with_len}
 use Rattle.std.proofs.lemmas.List.Sums.{sum_by-cons}
 use Rattle.std.proofs.lemmas.List.Elements.{All-append, All-map}
 use Rattle.core_tree.specs.declared.model.Field.{Field}
-use Rattle.bound_uppers.specs.declared.sums.Weight.{Weight}
 use Rattle.bound_uppers.specs.Sums.{before_place}
 use Rattle.bound_uppers.specs.Order.{with_owner, standings, order_in, one_at}
 use Rattle.bound_uppers.proofs.Weighing.{sum_more, before_place_cons}

@@ -1,5 +1,5 @@
 -- The order of relations: each sig, then its fields, then the fields without owner.
-use Rattle.std.specs.Prelude.{◌≡◌, ◌<◌, ℕ, ◌+◌, Bool, if◌then◌else◌, nat_lt, eqb, List, ◌++◌, length, take, map, Option, Some, None, slice_index, count_by}
+use Rattle.std.specs.Prelude.{◌≡◌, ◌<◌, ℕ, ◌+◌, if◌then◌else◌, nat_lt, eqb, List, ◌++◌, length, take, map, Option, Some, None, slice_index, count_by}
 use Rattle.std.specs.List.{range_with_len}
 use Rattle.core_tree.specs.declared.model.Model.{Model}
 use Rattle.core_tree.specs.declared.model.Field.{Field}

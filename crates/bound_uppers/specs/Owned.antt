@@ -5,7 +5,7 @@ use Rattle.core_tree.specs.declared.model.Sig.{Sig}
 use Rattle.core_meaning.specs.declared.scopes.SigScope.{SigScope}
 use Rattle.bound_uppers.specs.declared.own.Constants.{Constants}
 use Rattle.bound_uppers.specs.Kinds.{top_at}
-use Rattle.bound_uppers.specs.Own.{does_extend, is_constant, is_constant_of, constants, stands_as}
+use Rattle.bound_uppers.specs.Own.{does_extend, is_constant, is_constant_of, stands_as}
 
 -- the marks, this one among them where there is one
 abbrev pub marked : List Bool → ℕ → List Bool

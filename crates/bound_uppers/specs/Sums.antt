@@ -1,5 +1,5 @@
 -- Sums of sizes that stand at places.
-use Rattle.std.specs.Prelude.{◌≡◌, ◌<◌, ℕ, Bool, if◌then◌else◌, nat_lt, eqb, List, length, slice_index, sum_by}
+use Rattle.std.specs.Prelude.{◌≡◌, ◌<◌, ℕ, if◌then◌else◌, nat_lt, eqb, List, length, slice_index, sum_by}
 use Rattle.bound_uppers.specs.declared.sums.Weight.{Weight}
 
 -- how much stands at a place, and before it

@@ -145,8 +145,8 @@ fn no_lists(alloc: Global, count: usize) -> Result<Vec<ItemList<u32>>, AllocErro
 }
 
 /// Adds a sig to the list of this number, where there is one.
-fn add_to(lists: &mut [ItemList<u32>], number: u32, sig: u32) -> Result<(), AllocError>
-    ensures { OnOk result (lists.new ≡ extended_at lists.old number sig) }
+fn add_to(lists: &mut Vec<ItemList<u32>>, number: u32, sig: u32) -> Result<(), AllocError>
+    ensures { OnOk result (lists.new.items ≡ extended_at lists.old.items number sig) }
 {
     let place = number as usize;
     if place < lists.len() {
@@ -157,12 +157,12 @@ fn add_to(lists: &mut [ItemList<u32>], number: u32, sig: u32) -> Result<(), Allo
 
 /// Adds a sig to the list of its top-level sig, if it is a constant.
 fn add_constant(
-    lists: &mut [ItemList<u32>],
+    lists: &mut Vec<ItemList<u32>>,
     is_constant: bool,
     top: u32,
     sig: u32,
 ) -> Result<(), AllocError>
-    ensures { OnOk result (lists.new ≡ if is_constant then extended_at lists.old top sig else lists.old) }
+    ensures { OnOk result (lists.new.items ≡ if is_constant then extended_at lists.old.items top sig else lists.old.items) }
 {
     if is_constant {
         add_to(lists, top, sig)?;
@@ -172,7 +172,7 @@ fn add_constant(
 }
 
 /// The constants below each top-level sig, where the top-level sigs of all are known.
-#[tactic(auto, using(crate::proofs::Owning::lists_none, crate::proofs::Owning::lists_more, crate::proofs::Owning::lists_all))]
+#[tactic(auto, using(crate::proofs::Owning::lists_none, crate::proofs::Owning::lists_all))]
 fn constant_lists(
     alloc: Global,
     sigs: &[Sig],

@@ -408,7 +408,6 @@ fn is_large(
 /// The table of the model's sigs and fields, where the top-level sig above each sig is known. Scopes
 /// of other sigs than the model's, a sig without a top-level sig above it, and a literal's sig that
 /// extends another than `String`, which no model has, are answered as if memory were wanting.
-#[tactic(auto, using(crate::proofs::Exact::given_columns))]
 fn given_table(
     alloc: Global,
     model: &Model,

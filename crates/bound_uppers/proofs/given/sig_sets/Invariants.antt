@@ -2,5 +2,5 @@ use Rattle.std.proofs.Common.{◌≡◌}
 use Rattle.bound_uppers.specs.AtomSets.{AreSigSets}
 use Rattle.bound_uppers.proofs.given.sig_sets.Given as goal
 
-abbrev pub invariant-loop-_sig : goal.invariant-loop-_sig
-invariant-loop-_sig l = record { number : l.number ≡ l._sig-index; sets : AreSigSets l.model l.scopes l.standing l._sig-index l.sets.items }
+abbrev pub invariant-loop-sig : goal.invariant-loop-sig
+invariant-loop-sig l = record { number : l.number ≡ l._sig-index; sets : AreSigSets l.model l.scopes l.standing l._sig-index l.sets.items }

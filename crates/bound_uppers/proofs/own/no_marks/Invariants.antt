@@ -1,4 +1,4 @@
-use Rattle.std.proofs.Common.{◌≡◌, ◌×◌, ℕ, false, get_or, length}
+use Rattle.std.proofs.Common.{◌≡◌, ℕ, false, get_or, length}
 use Rattle.bound_uppers.proofs.own.no_marks.Given as goal
 
 abbrev pub invariant-loop-place : goal.invariant-loop-place
