@@ -7,12 +7,13 @@ use Rattle.core_tuples.specs.Sets.{TupleList, IsTupleSet, In}
 use Rattle.core_tree.specs.declared.model.Model.{Model}
 use Rattle.core_tree.specs.declared.model.Sig.{Sig}
 use Rattle.core_tree.specs.declared.model.Field.{Field}
+use Rattle.core_tree.specs.declared.model.Fact.{Fact}
 use Rattle.core_tree.specs.Trees.{Claim}
 use Rattle.core_meaning.specs.declared.scopes.Scopes.{Scopes}
 use Rattle.core_meaning.specs.Sequence.{LassoValue, place_of}
 use Rattle.core_meaning.specs.World.{InRelation}
 use Rattle.core_meaning.specs.Kept.{FitsColumns, relation_columns, universe_size, world_of}
-use Rattle.core_meaning.specs.Satisfied.{Satisfies}
+use Rattle.core_meaning.specs.Satisfied.{SatisfiesWith}
 use Rattle.bound_uppers.specs.declared.table.Bound.{Bound}
 use Rattle.bound_uppers.specs.declared.table.Bounds.{Bounds}
 use Rattle.bound_uppers.specs.Table.{is_fixed, are_fixed}
@@ -21,20 +22,16 @@ use Rattle.bound_uppers.specs.Shortest.{IsLasso, Unrolls}
 use Rattle.core_laws.specs.Sequences.{ShowSame, SameSatisfied}
 use Rattle.core_laws.specs.Typed.{IsTypedLasso, ColumnsHaveAtoms, SigsHaveRows, FieldsHaveRows, SigsOfOneAtom}
 use Rattle.core_renaming.specs.Renamings.{Renaming, ShowsRenamed}
-use Rattle.core_renaming.specs.Sigs.{IsRightly, SatisfactionIsKept}
+use Rattle.core_renaming.specs.Sigs.{IsWellFormed, SatisfactionIsKept}
 use Rattle.core_renaming.specs.Renamed.{LassosHaveRenamed}
 use Rattle.bound_laws.specs.Satisfying.{AreBoundsOf, IsRight, IsLassoOver, SatisfyingAreCandidates}
 use Rattle.bound_laws.specs.Owning.{OwnersHave, OwnersCanHave, OwningAreCandidates}
+use Rattle.bound_laws.proofs.Columns.{item_of, sig_columns, one_of_list, tuple_columns}
 use Rattle.bound_laws.proofs.Sorted.{sorted_same}
 use Rattle.bound_laws.proofs.Owning.{row_given}
 
 some_same : {X : Type 0} (o : Option X) (x y : X) → o ≡ Some x → o ≡ Some y → x ≡ y
 some_same o x y e f = cc
-
-item_of : {X : Type 0} (xs : List X) (k : ℕ) (x : X) (P : X → Type 0) → All P xs → slice_get xs k ≡ Some x → P x
-item_of [] k x P all get = cc
-item_of (y ∷ xs) zero x P all get = let is : y ≡ x = cc in subst P is (all 0 y (omega arith))
-item_of (y ∷ xs) (suc k) x P all get = item_of xs k x P (λ j d lt. all (suc j) d (omega (arith, lt))) get
 
 there : {X : Type 0} (xs : List X) (k : ℕ) → k < length xs → (x : X) × (slice_get xs k ≡ Some x)
 there [] k lt = absurd (omega (arith, lt))
@@ -73,11 +70,6 @@ fixed_count model =
     let sigs = map_count (λ (d : Sig). is_fixed d.is_var) model.sigs in
     let fields = map_count (λ (f : Field). is_fixed f.is_var) model.fields in
     omega (arith, both, sigs, fields)
-
-sig_columns : (ds : List Sig) (fs : List Field) (s : ℕ) → s < length ds → slice_index (map (λ (d : Sig). 1) ds ++ map (λ (f : Field). f.columns) fs) s ≡ 1
-sig_columns [] fs s lt = absurd (omega (arith, lt))
-sig_columns (d ∷ ds) fs zero lt = refl
-sig_columns (d ∷ ds) fs (suc s) lt = sig_columns ds fs s (omega (arith, lt))
 
 own_columns : (fs : List Field) (g : ℕ) (f : Field) → slice_get fs g ≡ Some f → slice_index (map (λ (h : Field). h.columns) fs) g ≡ f.columns
 own_columns [] g f get = cc
@@ -128,8 +120,8 @@ which model r lt = elim (cases_lt r (length model.sigs)) [
       (r - length model.sigs, f, get, omega (arith, more)))
 ]
 
-module _ (model : Model) (scopes : Scopes) (bounds : Bounds) (lasso : LassoValue) (command : Claim) (atoms : ColumnsHaveAtoms) (sig_rows_are : SigsHaveRows) (field_rows_are : FieldsHaveRows) (one_atom : SigsOfOneAtom)
-    (right : IsRight model scopes) (are : AreBoundsOf model scopes bounds) (over : IsLassoOver model scopes lasso) (long : length lasso.states ≡ bounds.states) (satisfied : Satisfies model scopes lasso command) (have : OwnersHave model scopes lasso) where
+module _ (model : Model) (scopes : Scopes) (bounds : Bounds) (lasso : LassoValue) (facts : List Fact) (command : Claim) (atoms : ColumnsHaveAtoms) (sig_rows_are : SigsHaveRows) (field_rows_are : FieldsHaveRows) (one_atom : SigsOfOneAtom)
+    (right : IsRight model scopes) (are : AreBoundsOf model scopes bounds) (over : IsLassoOver model scopes lasso) (long : length lasso.states ≡ bounds.states) (satisfied : SatisfiesWith model scopes lasso facts command) (have : OwnersHave model scopes lasso) where
   typed : IsTypedLasso model scopes lasso
   typed = record {
     kept = right.kept;
@@ -169,11 +161,6 @@ module _ (model : Model) (scopes : Scopes) (bounds : Bounds) (lasso : LassoValue
   arity_at : (s r n : ℕ) (state : List TupleList) (set : TupleList) → slice_get lasso.states s ≡ Some state → slice_get state r ≡ Some set → slice_index (relation_columns model) r ≡ n → set.arity ≡ n
   arity_at s r n state set get at is = (fits_at s state get).each r set at ∙ is
 
-  one_of_list : (t : List ℕ) → length t ≡ 1 → (a : ℕ) × (t ≡ a ∷ [])
-  one_of_list [] e = absurd (omega (arith, e))
-  one_of_list (a ∷ []) e = (a, refl)
-  one_of_list (a ∷ b ∷ t) e = absurd (omega (arith, e))
-
   sig_within : (s r : ℕ) (state : List TupleList) (set : TupleList) (b : Bound) → slice_get lasso.states s ≡ Some state → slice_get state r ≡ Some set → slice_get bounds.relations r ≡ Some b → IsSigAt model r → IsWithinBound b set
   sig_within s r state set b get at bound (d, sig) =
       let (c, same, just) = are.uppers.sigs r d sig in
@@ -184,8 +171,7 @@ module _ (model : Model) (scopes : Scopes) (bounds : Bounds) (lasso : LassoValue
         set_is,
         arity ∙ sym just.columns,
         λ t among. (just.just t).1 (
-            let long_t : length t ≡ set.arity = (let (k, lt, is) = among in ap length (sym is) ∙ set_is.columns k t lt) in
-            let (a, is) = one_of_list t (long_t ∙ arity) in
+            let (a, is) = one_of_list t (tuple_columns set t set_is among ∙ arity) in
             let one : In (a ∷ []) set = subst (λ u. In u set) is among in
             let low = small s r state set (a ∷ []) get at one in
             let held = in_relation s r state set (a ∷ []) get at one in
@@ -274,8 +260,8 @@ over_same model scopes lasso other over loop same = record {
         same s ∙ (ap (slice_get other.states) (sym (cond_below s (length other.states) s _ lt)) ∙ get)
 
 pub owning_are_candidates : ColumnsHaveAtoms → SigsHaveRows → FieldsHaveRows → SigsOfOneAtom → OwningAreCandidates
-owning_are_candidates atoms sigs fields one_atom model scopes bounds lasso command right are over long satisfied have =
-    is_candidate model scopes bounds lasso command atoms sigs fields one_atom right are over long satisfied have
+owning_are_candidates atoms sigs fields one_atom model scopes bounds lasso facts command right are over long satisfied have =
+    is_candidate model scopes bounds lasso facts command atoms sigs fields one_atom right are over long satisfied have
 
 -- a lasso that shows the same shows the relations renamed alike
 shows_both : (scopes : Scopes) (r : Renaming) (one two three : LassoValue) → ShowSame one two → ShowsRenamed scopes r two three → ShowsRenamed scopes r one three
@@ -285,15 +271,15 @@ shows_both scopes r one two three same shows relation i t = (
 )
 
 pub candidates_of : Unrolls → SameSatisfied → OwnersCanHave → LassosHaveRenamed → SatisfactionIsKept → OwningAreCandidates → SatisfyingAreCandidates
-candidates_of unrolls same_satisfied can_have renamings kept_satisfied owning model scopes bounds lasso command right are over few satisfied =
+candidates_of unrolls same_satisfied can_have renamings kept_satisfied owning model scopes bounds lasso facts command right are over few satisfied =
     let (mid, loop, long, same) = unrolls lasso bounds.states over.loop few in
     let mid_over = over_same model scopes lasso mid over loop same in
-    let mid_satisfied = (same_satisfied model scopes lasso mid command same).0 satisfied in
-    let (r, keeps, gives) = can_have model scopes mid command right are.origins mid_over mid_satisfied in
+    let mid_satisfied = (same_satisfied model scopes lasso mid same facts command).0 satisfied in
+    let (r, keeps, gives) = can_have model scopes mid facts command right are.origins mid_over mid_satisfied in
     let most = are.most in
     let (other, shows, fits, sets, count, start) = renamings model scopes r mid keeps.integers (omega (arith, most)) mid_over.fits mid_over.sets in
     let loop_in = mid_over.loop in
     let other_over : IsLassoOver model scopes other = record { loop = omega (arith, loop_in, count, start); fits = fits; sets = sets } in
-    let rightly : IsRightly model scopes = record { kept = right.kept; plain = right.plain; rightly = right.rightly } in
-    let other_satisfied = (kept_satisfied model scopes r mid other rightly keeps shows model.facts command).0 mid_satisfied in
-    (r, other, keeps, shows_both scopes r lasso mid other same shows, owning model scopes bounds other command right are other_over (count ∙ long) other_satisfied (gives other shows), other_satisfied)
+    let formed : IsWellFormed model scopes = record { kept = right.kept; plain = right.plain; rightly = right.rightly } in
+    let other_satisfied = (kept_satisfied model scopes r mid other formed keeps shows facts command).0 mid_satisfied in
+    (r, other, keeps, shows_both scopes r lasso mid other same shows, owning model scopes bounds other facts command right are other_over (count ∙ long) other_satisfied (gives other shows), other_satisfied)

@@ -1,3 +1,4 @@
+mod Columns
 mod Sorted
 mod Moving
 mod Places

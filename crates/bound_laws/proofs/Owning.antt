@@ -1,5 +1,5 @@
 -- Where each owner has its own atom, sigs and fields lie in what the table gives them.
-use Rattle.std.proofs.Common.{◌≡◌, ◌⊎◌, ◌↔◌, inl, inr, ℕ, zero, suc, eqb, ◌||◌, if◌then◌else◌, ◌+◌, ◌-◌, ◌<◌, ◌≤◌, Bool, true, false, not, IsTrue, List, [], ◌∷◌, length, Contains, ◌&&◌, Option, Some, None, is_some, slice_get, refl, sym, ap, ◌∙◌, subst, arith}
+use Rattle.std.proofs.Common.{◌≡◌, ◌⊎◌, ◌↔◌, inl, inr, ℕ, zero, suc, eqb, ◌||◌, if◌then◌else◌, ◌+◌, ◌-◌, ◌<◌, ◌≤◌, Bool, true, false, not, IsTrue, List, [], ◌∷◌, length, Contains, ◌&&◌, Option, Some, None, is_some, slice_get, get_or, refl, sym, ap, ◌∙◌, subst, arith}
 use Rattle.std.specs.List.{list_any}
 use Rattle.std.proofs.lemmas.Bool.{false≢true, eqb-true, eq-eqb, and_parts, not-true}
 use Rattle.core_tuples.specs.Order.{cons_here, cons_later}
@@ -22,10 +22,15 @@ use Rattle.core_laws.specs.Typed.{IsTypedLasso, HasColumn, HasRow, ColumnsHaveAt
 use Rattle.bound_uppers.specs.Own.{is_one, is_single, does_extend, is_extended, is_constant, constants, fits, top_of, owner_at, owner_of, does_own, is_given}
 use Rattle.bound_uppers.specs.Given.{IsGiven, InColumnTable, InRowTable}
 use Rattle.bound_uppers.proofs.Owning.{own_listed, fitting, listed_constant}
-use Rattle.bound_uppers.proofs.Giving.{item_there}
 use Rattle.bound_laws.specs.Owning.{OwnersHave}
+use Rattle.bound_laws.proofs.Columns.{one_number}
 
 -- ---- what owners are; these speak of definitions alone
+
+item_there : (xs : List ℕ) (k d : ℕ) → k < length xs → slice_get xs k ≡ Some (get_or xs k d)
+item_there [] k d lt = absurd (omega (arith, lt))
+item_there (x ∷ xs) zero d lt = refl
+item_there (x ∷ xs) (suc k) d lt = item_there xs k d (omega (arith, lt))
 
 -- a sig that owns an atom is the owner at some place of its top-level sig
 pub owner_place : (model : Model) (scopes : Scopes) (s : ℕ) → does_own model.sigs scopes.numbers s ≡ true → (k : ℕ) × (owner_at model.sigs scopes.numbers (top_of model.sigs s) k ≡ Some s)
@@ -123,17 +128,13 @@ under_itself sigs zero s = eq-eqb s s refl
 under_itself sigs (suc n) s = ap (λ (b : Bool). if b then true else by_sig false (λ d. by_parent false (λ p. is_under sigs n p s) d.kind) (slice_get sigs s)) (eq-eqb s s refl)
 
 module _ (model : Model) (scopes : Scopes) (lasso : LassoValue) (typed : IsTypedLasso model scopes lasso) where
-  -- not proved: tuples of a sig have one number, by `fits` and `sets` of the lasso, as in `sig_within` of Candidates
-  one_number : (i c : ℕ) (d : Sig) (t : List ℕ) → slice_get model.sigs c ≡ Some d → InRelation (world_of scopes lasso) c i t → (a : ℕ) × (t ≡ a ∷ [])
-  one_number i c d t get has = ?
-
   -- an owner has an atom at each position, and no other: it is a `one sig`, and the declarations hold
   pub owner_one : (i top k c : ℕ) → owner_at model.sigs scopes.numbers top k ≡ Some c → (a : ℕ) × InRelation (world_of scopes lasso) c i (a ∷ []) × ((b : ℕ) → InRelation (world_of scopes lasso) c i (b ∷ []) → a ≡ b)
   owner_one i top k c at =
       let (d, owner) = owner_is model scopes top k c at in
       let said : HasMultiplicity One (λ t. InRelation (world_of scopes lasso) c i t) = subst (λ (m : Multiplicity). HasMultiplicity m (λ t. InRelation (world_of scopes lasso) c i t)) owner.single.one ((typed.declared i).sigs c d owner.there).multiplicity in
       let (t, has) = said.0 in
-      let (a, is) = one_number i c d t owner.there has in
+      let (a, is) = one_number model scopes lasso typed.fits typed.sets i c d t owner.there has in
       let held : InRelation (world_of scopes lasso) c i (a ∷ []) = subst (λ (u : List ℕ). InRelation (world_of scopes lasso) c i u) is has in
       (a, held, λ b other. let same : a ∷ [] ≡ b ∷ [] = said.1 (a ∷ []) (b ∷ []) held other in same_number a b same)
     where

@@ -14,7 +14,7 @@ use Rattle.core_meaning.specs.Sequence.{LassoValue}
 use Rattle.core_meaning.specs.World.{InRelation}
 use Rattle.core_meaning.specs.Declarations.{IsPlaced, SigDeclared}
 use Rattle.core_meaning.specs.Called.{bodies_of}
-use Rattle.core_meaning.specs.Kept.{FitsModel, Keeps, world_of, IsEverIn, IsAtomOf, InColumnBound, InRowBound, InSigBound, atom_count, universe_size, top_above}
+use Rattle.core_meaning.specs.Kept.{FitsModel, Keeps, world_of, IsAtomOf, InColumnBound, InRowBound, InSigBound, atom_count, top_above}
 use Rattle.core_meaning.specs.Satisfied.{DeclaresAt}
 use Rattle.core_laws.specs.Typed.{AreScopesOf, HasSets, IsStanding}
 use Rattle.core_laws.specs.Typed as typed

@@ -7,6 +7,7 @@ use Rattle.core_tree.specs.declared.model.SigKind.{SigKind}
 use Rattle.core_tree.specs.declared.model.SigKind.TheVariants.{Top, Extends, Subset}
 use Rattle.core_tree.specs.declared.model.Column.{Column}
 use Rattle.core_tree.specs.declared.model.Column.TheVariants.{Sig as SigColumn, Int as IntColumn}
+use Rattle.core_tree.specs.declared.model.Fact.{Fact}
 use Rattle.core_tree.specs.declared.model.Field.{Field}
 use Rattle.core_tree.specs.declared.model.FieldBound.{FieldBound}
 use Rattle.core_tree.specs.Trees.{Claim, term_of, claim_of}
@@ -18,7 +19,7 @@ use Rattle.core_meaning.specs.Meaning.{Names, Bodies, no_names, atom}
 use Rattle.core_meaning.specs.Declarations.{this_is, InColumn, IsPlaced, InValue, SigDeclared, FieldDeclared}
 use Rattle.core_meaning.specs.Called.{bodies_of}
 use Rattle.core_meaning.specs.Kept.{world_of, IsEverIn, Keeps}
-use Rattle.core_meaning.specs.Satisfied.{HoldsAt, DeclaresAt, Satisfies}
+use Rattle.core_meaning.specs.Satisfied.{HoldsAt, DeclaresAt, SatisfiesWith}
 use Rattle.core_window.specs.Same.{SameTuples, multiplicity_same}
 use Rattle.core_laws.specs.Sequences.{ShowSame, SameSatisfied}
 use Rattle.core_laws.proofs.Meanings.{relation_same, SameNames, term_same, holds_same, fits_same, model_same, nothing_same, more_same}
@@ -106,13 +107,13 @@ module _ (model : Model) (scopes : Scopes) (one two : LassoValue) (same : ShowSa
     fields = λ k f s d get owner declared. field_to i k f s d (h.fields k f s d get owner declared);
   }
 
-  satisfies_to : (command : Claim) → Satisfies model scopes one command → Satisfies model scopes two command
-  satisfies_to command h = record {
+  satisfies_to : (facts : List Fact) (command : Claim) → SatisfiesWith model scopes one facts command → SatisfiesWith model scopes two facts command
+  satisfies_to facts command h = record {
     keeps = keeps_to h.keeps;
     declared = λ i. declares_to i (h.declared i);
-    facts_hold = λ k d lt. holds_to (claim_of (get_or model.facts k d).formula) no_names (nothing_same scopes one two same) 0 (h.facts_hold k d lt);
+    facts_hold = λ k d lt. holds_to (claim_of (get_or facts k d).formula) no_names (nothing_same scopes one two same) 0 (h.facts_hold k d lt);
     command_holds = holds_to command no_names (nothing_same scopes one two same) 0 h.command_holds;
   }
 
 pub satisfied_same : SameSatisfied
-satisfied_same model scopes one two command same = (satisfies_to model scopes one two same command, satisfies_to model scopes two one (λ i. sym (same i)) command)
+satisfied_same model scopes one two same facts command = (satisfies_to model scopes one two same facts command, satisfies_to model scopes two one (λ i. sym (same i)) facts command)

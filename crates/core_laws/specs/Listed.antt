@@ -1,6 +1,6 @@
 -- Lemmas and their proofs; nothing to read here but `AreOnce` and `SameMembers`.
 -- Two lists without repeats that have the same members have the same length and the same sums.
-use Rattle.std.specs.Prelude.{◌≡◌, ◌≢◌, ◌↔◌, ◌⊎◌, ℕ, zero, suc, ◌+◌, ◌<◌, List, [], ◌∷◌, map, length, Contains, AllPairs, slice_index_or, ℤ, ◌+ℤ◌}
+use Rattle.std.specs.Prelude.{◌≡◌, ◌≢◌, ◌↔◌, ◌⊎◌, ℕ, zero, suc, ◌<◌, List, [], ◌∷◌, map, length, Contains, AllPairs, slice_index_or, ℤ, ◌+ℤ◌}
 use Rattle.std.proofs.Common.{inl, inr, refl, sym, ap, subst, ◌∙◌, arith}
 use Rattle.std.proofs.Math.IntN.{+ℤ_comm, +ℤ_assoc}
 use Rattle.core_meaning.specs.Integers.{sum_of}

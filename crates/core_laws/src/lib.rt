@@ -23,21 +23,24 @@ pub fn integers_are_unique()
 
 ghost use Rattle.core_laws.specs.Sequences.{SameSatisfied};
 
-/// A law: lassos that show the same sequence satisfy the same models and commands.
+/// A law: lassos that show the same sequence satisfy the same models, with any facts, and commands.
 pub fn same_sequences_satisfy_the_same()
     ensures { SameSatisfied }
 {}
 
-ghost use Rattle.core_laws.specs.Typed.{FieldsLieInBounds, ColumnsHaveAtoms, SigsHaveRows, FieldsHaveRows, SigsOfOneAtom};
+ghost use Rattle.core_laws.specs.Typed.{FieldsLieInBounds};
 
-/// A law: where a lasso keeps the scopes of a model and its declarations hold at each position, each field of a sig has only
-/// tuples of its upper bound.
+/// A law: where a lasso keeps the scopes of a model and its declarations hold at each position, each
+/// field of a sig has only tuples of its upper bound.
 pub fn fields_lie_in_their_bounds()
     ensures { FieldsLieInBounds }
 {}
 
-/// A law: under the same premises the atoms of sigs and of fields are those that the sigs of a row of their types have, each at some
-/// position; these are atoms of the top-level sigs above, and two sigs that have an atom lie one under the other.
+ghost use Rattle.core_laws.specs.Typed.{ColumnsHaveAtoms, SigsHaveRows, FieldsHaveRows, SigsOfOneAtom};
+
+/// A law: under the same premises the atoms of sigs and of fields are those that the sigs of a row of
+/// their types have, each at some position; these are atoms of the top-level sigs above, and two sigs
+/// that have an atom lie one under the other.
 pub fn relations_have_rows()
     ensures atoms { ColumnsHaveAtoms }
     ensures sigs { SigsHaveRows }

@@ -1,5 +1,5 @@
 -- Renamings taken back and composed, and the exchange of two atoms.
-use Rattle.std.proofs.Common.{◌≡◌, inl, inr, ℕ, zero, suc, ◌+◌, ◌-◌, ◌<◌, ◌≤◌, Bool, true, if◌then◌else◌, List, [], ◌∷◌, map, take, length, Some, slice_get, refl, sym, ap, ◌∙◌, subst, arith}
+use Rattle.std.proofs.Common.{◌≡◌, inl, inr, ℕ, zero, suc, ◌+◌, ◌<◌, ◌≤◌, Bool, true, if◌then◌else◌, List, [], ◌∷◌, map, take, length, Some, slice_get, refl, sym, ap, ◌∙◌, subst, arith}
 use Rattle.std.proofs.lemmas.Bool.{cases_lt, cases_eq}
 use Rattle.std.proofs.lemmas.List.Sums.{sum_by-cons}
 use Rattle.core_tuples.specs.Order.{take_all}
@@ -8,10 +8,10 @@ use Rattle.core_tree.specs.Columns.{or_zero}
 use Rattle.core_meaning.specs.declared.scopes.SigScope.{SigScope}
 use Rattle.core_meaning.specs.declared.scopes.Scopes.{Scopes}
 use Rattle.core_meaning.specs.World.{InRelation}
-use Rattle.core_meaning.specs.Kept.{world_of, atoms_of_sig, atom_count, first_atom}
+use Rattle.core_meaning.specs.Kept.{world_of, atoms_of_sig, atom_count}
 use Rattle.core_window.specs.Same.{same_trans}
 use Rattle.core_renaming.specs.Renamings.{Renaming}
-use Rattle.core_renaming.specs.Sigs.{IsOwnAtom, KeepsSigs}
+use Rattle.core_renaming.specs.Sigs.{IsOwnAtom, KeepsSigs, literal_atom}
 use Rattle.core_renaming.specs.Composed.{exchanged, exchanged_first, exchanged_second, exchanged_other, exchanged_twice, exchange, IsNoLiteral, RenamingsGoBack, RenamingsCompose, ExchangesKeepSigs}
 use Rattle.core_renaming.proofs.Targets.{inverse_shows}
 use Rattle.core_renaming.proofs.Keeping.{inverse_keeps}
@@ -29,7 +29,7 @@ compose model scopes r q one two three keeps keeps' shows shows' = (
   record {
     sigs = λ s e get top a. same_trans (keeps.sigs s e get top a) (keeps'.sigs s e get top (r.to a));
     integers = λ a high. ap q.to (keeps.integers a high) ∙ keeps'.integers a high;
-    literals = λ s d p get is. ap q.to (keeps.literals s d p get is) ∙ keeps'.literals s d p get is;
+    literals = λ s d p get is own. ap q.to (keeps.literals s d p get is own) ∙ keeps'.literals s d p get is own;
   },
   (λ relation i t. (
     (λ has. subst (InRelation (world_of scopes three) relation i) (map_twice r q t) ((shows' relation i (map r.to t)).0 ((shows relation i t).0 has))),
@@ -105,7 +105,7 @@ module _ (model : Model) (scopes : Scopes) (s : ℕ) (e : SigScope) (a b : ℕ) 
         let low_a = among_atoms scopes.numbers s a e get top own_a in
         let low_b = among_atoms scopes.numbers s b e get top own_b in
         exchanged_other a b c (λ same. omega (arith, high, low_a, same)) (λ same. omega (arith, high, low_b, same));
-    literals = λ k d p there is. exchanged_other a b (first_atom scopes.numbers p + (k - p - 1)) (plain_a k d p there is) (plain_b k d p there is);
+    literals = λ k d p there is own. exchanged_other a b (literal_atom scopes k p) (plain_a k d p there is own) (plain_b k d p there is own);
   }
 
 pub exchanges_keep : ExchangesKeepSigs

@@ -19,7 +19,7 @@ use Rattle.core_meaning.specs.Operators.{IsInside, HasMultiplicity}
 use Rattle.core_meaning.specs.Meaning.{Bodies, no_names, atom, InTerm, Fits, Holds}
 use Rattle.core_meaning.specs.Declarations.{IsChild, this_is, InColumn, IsPlaced, InValue, SigDeclared, FieldDeclared}
 use Rattle.core_meaning.specs.Called.{bodies_of}
-use Rattle.core_meaning.specs.Kept.{world_of, InColumnBound, InRowBound, InSigBound, Keeps, or_zero_number, first_atom, top_above}
+use Rattle.core_meaning.specs.Kept.{world_of, IsAtomOf, InColumnBound, InRowBound, InSigBound, Keeps, or_zero_number, first_atom, top_above}
 use Rattle.core_meaning.specs.Satisfied.{DeclaresAt, SatisfiesWith}
 use Rattle.core_renaming.specs.Renamings.{Renaming, KeepsIntegers, ShowsRenamed, inverse}
 use Rattle.core_renaming.specs.Sigs.{IsOwnAtom, KeepsSigs, IsWellFormed, DeclarationsKeepTruth, ScopesAreKept, SatisfactionIsKept}
@@ -27,6 +27,7 @@ use Rattle.core_renaming.proofs.Moves.{same_atom, Moved, onto, alike, moved_by, 
 use Rattle.core_renaming.proofs.Meanings.{relation_moved, integers_are, MovedNames, more_moved, no_names_moved, term_moved, fits_moved, holds_moved, bodies_moved}
 use Rattle.core_renaming.proofs.Targets.{some_to, inverse_integers, inverse_shows, numbers_to}
 use Rattle.core_renaming.proofs.Tops.{IsMarked, columns_marked}
+use Rattle.core_renaming.proofs.Literals.{bounded_atom}
 
 -- ---- the other way round
 
@@ -37,7 +38,7 @@ inverse_keeps model scopes r keeps = record {
     (λ own. subst (IsOwnAtom scopes.numbers s e) (r.to_from a) ((keeps.sigs s e get top (r.from a)).0 own)),
   );
   integers = inverse_integers scopes r keeps.integers;
-  literals = λ s d p get is. sym (ap r.from (keeps.literals s d p get is)) ∙ r.from_to _;
+  literals = λ s d p get is own. sym (ap r.from (keeps.literals s d p get is own)) ∙ r.from_to _;
 }
 
 -- ---- declarations
@@ -163,7 +164,7 @@ module _ (model : Model) (scopes : Scopes) (r : Renaming) (right : IsWellFormed 
   bound_to : (s : ℕ) (d : Sig) (a : ℕ) → slice_get model.sigs s ≡ Some d → InSigBound model scopes s d a → InSigBound model scopes s d (r.to a)
   bound_to s d a get h = record {
     typed = (let (row, among, inside) = h.typed in (row, among, row_to s row a among inside));
-    literal = λ p is. ap r.to (h.literal p is) ∙ keeps.literals s d p get is;
+    literal = λ p is. ap r.to (h.literal p is) ∙ keeps.literals s d p get is (subst (IsAtomOf model scopes s) (h.literal p is) (bounded_atom model scopes right s p a d get is.1 h));
   }
 
   module _ (one two : LassoValue) (shows : ShowsRenamed scopes r one two) where

@@ -5,6 +5,7 @@ mod Meanings
 mod Alike
 mod Targets
 mod Tops
+mod Literals
 mod Keeping
 mod Exchanging
 mod Gathered

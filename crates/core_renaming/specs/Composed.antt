@@ -1,5 +1,5 @@
 -- Renamings taken back, and one after another; and the renaming that exchanges two atoms.
-use Rattle.std.specs.Prelude.{◌≡◌, ◌≢◌, ◌+◌, ◌-◌, ℕ, eqb, if◌then◌else◌, true, Some, slice_get}
+use Rattle.std.specs.Prelude.{◌≡◌, ◌≢◌, ℕ, eqb, if◌then◌else◌, true, Some, slice_get}
 use Rattle.std.proofs.Common.{inl, inr, refl, sym, ap, ◌∙◌}
 use Rattle.std.proofs.lemmas.Bool.{cases_eq, eq-eqb, ne_eqb}
 use Rattle.core_tree.specs.declared.model.Model.{Model}
@@ -7,9 +7,9 @@ use Rattle.core_tree.specs.declared.model.Sig.{Sig}
 use Rattle.core_meaning.specs.declared.scopes.SigScope.{SigScope}
 use Rattle.core_meaning.specs.declared.scopes.Scopes.{Scopes}
 use Rattle.core_meaning.specs.Sequence.{LassoValue}
-use Rattle.core_meaning.specs.Kept.{IsLiteral, first_atom}
+use Rattle.core_meaning.specs.Kept.{IsAtomOf, IsLiteral}
 use Rattle.core_renaming.specs.Renamings.{Renaming, ShowsRenamed, inverse}
-use Rattle.core_renaming.specs.Sigs.{IsOwnAtom, KeepsSigs}
+use Rattle.core_renaming.specs.Sigs.{IsOwnAtom, KeepsSigs, literal_atom}
 
 -- the second after the first
 abbrev pub composed : Renaming → Renaming → Renaming
@@ -60,9 +60,9 @@ RenamingsCompose =
     (model : Model) (scopes : Scopes) (r q : Renaming) (one two three : LassoValue) → KeepsSigs model scopes r → KeepsSigs model scopes q → ShowsRenamed scopes r one two → ShowsRenamed scopes q two three →
     KeepsSigs model scopes (composed r q) × ShowsRenamed scopes (composed r q) one three
 
--- no literal's atom
+-- no literal's atom that is one of the top-level sig above the literal's sig
 abbrev pub IsNoLiteral : Model → Scopes → ℕ → Type 0
-IsNoLiteral model scopes a = (s : ℕ) (d : Sig) (p : ℕ) → slice_get model.sigs s ≡ Some d → IsLiteral model scopes d p → first_atom scopes.numbers p + (s - p - 1) ≢ a
+IsNoLiteral model scopes a = (s : ℕ) (d : Sig) (p : ℕ) → slice_get model.sigs s ≡ Some d → IsLiteral model scopes d p → IsAtomOf model scopes s (literal_atom scopes s p) → literal_atom scopes s p ≢ a
 
 -- The exchange of two atoms of one top-level sig, neither of them a literal's, keeps the sigs.
 abbrev pub ExchangesKeepSigs : Type 0
