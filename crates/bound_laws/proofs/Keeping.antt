@@ -1,26 +1,25 @@
 -- The moves of owners' atoms to their own atoms keep the sigs.
-use Rattle.std.proofs.Common.{◌≡◌, ◌≢◌, ◌↔◌, inl, inr, ℕ, ◌+◌, ◌<◌, ◌≤◌, true, List, [], ◌∷◌, length, Contains, Some, None, is_some, slice_get, refl, sym, ap, ◌∙◌, subst, arith}
+use Rattle.std.proofs.Common.{◌≡◌, inl, inr, ℕ, ◌+◌, ◌<◌, true, List, [], ◌∷◌, length, Contains, Some, is_some, slice_get, refl, sym, ap, ◌∙◌, subst, arith}
 use Rattle.std.proofs.lemmas.Bool.{false≢true}
 use Rattle.core_tree.specs.declared.model.Model.{Model}
 use Rattle.core_tree.specs.declared.model.Sig.{Sig}
-use Rattle.core_tree.specs.declared.model.SigKind.TheVariants.{Top, Extends}
+use Rattle.core_tree.specs.declared.model.SigKind.TheVariants.{Extends}
 use Rattle.core_tree.specs.declared.model.Column.TheVariants.{Sig as SigColumn}
-use Rattle.core_tree.specs.Columns.{or_zero}
 use Rattle.core_meaning.specs.declared.scopes.SigScope.{SigScope}
 use Rattle.core_meaning.specs.declared.scopes.Scopes.{Scopes}
 use Rattle.core_meaning.specs.Sequence.{LassoValue}
 use Rattle.core_meaning.specs.World.{InRelation}
-use Rattle.core_meaning.specs.Kept.{world_of, first_atom, atom_count, or_zero_number, IsAtomOf, IsLiteral}
+use Rattle.core_meaning.specs.Kept.{world_of, first_atom, or_zero_number, IsLiteral}
 use Rattle.core_renaming.specs.Sigs.{IsOwnAtom, KeepsSigs, literal_atom}
 use Rattle.core_laws.specs.Typed.{IsTypedLasso, HasColumn, ColumnsHaveAtoms, SigsOfOneAtom}
 use Rattle.core_laws.proofs.Ranges.{IsTopAtom, one_top, among_atoms}
 use Rattle.core_laws.proofs.Climbs.{Climb, Extending, get_within}
-use Rattle.core_laws.proofs.Standing.{Topped, IsPlainKind, tops}
+use Rattle.core_laws.proofs.Standing.{IsPlainKind, tops}
 use Rattle.core_laws.proofs.Held.{IsGiven, top_there}
 use Rattle.core_laws.proofs.Fields.{given_of}
 use Rattle.bound_uppers.specs.Own.{HasOrigins, top_of, owner_at, does_own}
 use Rattle.bound_laws.proofs.Moving.{Move, moving, kept, stays}
-use Rattle.bound_laws.proofs.Owning.{IsOwner, owner_is, owner_place, owner_one, owner_column, only_itself}
+use Rattle.bound_laws.proofs.Owning.{owner_is, owner_place, owner_one, owner_column, only_itself}
 use Rattle.bound_laws.proofs.Places.{owner_low, origin_up}
 
 -- an atom of a top-level sig, by what the scopes say of it

@@ -1,5 +1,5 @@
 -- Where each owner has its own atom, sigs and fields lie in what the table gives them.
-use Rattle.std.proofs.Common.{◌≡◌, ◌⊎◌, ◌↔◌, inl, inr, ℕ, zero, suc, eqb, ◌||◌, if◌then◌else◌, ◌+◌, ◌-◌, ◌<◌, ◌≤◌, Bool, true, false, not, IsTrue, List, [], ◌∷◌, length, Contains, ◌&&◌, Option, Some, None, is_some, slice_get, get_or, refl, sym, ap, ◌∙◌, subst, arith}
+use Rattle.std.proofs.Common.{◌≡◌, inl, inr, ℕ, zero, suc, eqb, ◌||◌, if◌then◌else◌, ◌+◌, ◌-◌, ◌<◌, Bool, true, false, not, IsTrue, List, [], ◌∷◌, length, Contains, ◌&&◌, Option, Some, None, is_some, slice_get, get_or, refl, sym, ap, ◌∙◌, subst, arith}
 use Rattle.std.specs.List.{list_any}
 use Rattle.std.proofs.lemmas.Bool.{false≢true, eqb-true, eq-eqb, and_parts, not-true}
 use Rattle.core_tuples.specs.Order.{cons_here, cons_later}
@@ -12,15 +12,14 @@ use Rattle.core_tree.specs.declared.operators.Multiplicity.TheVariants.{Set, One
 use Rattle.core_tree.specs.declared.model.Column.{Column}
 use Rattle.core_tree.specs.declared.model.Column.TheVariants.{Sig as SigColumn, Int as IntColumn}
 use Rattle.core_tree.specs.Types.{TypeRow, by_parent, by_sig, is_under}
-use Rattle.core_tree.specs.Trees.{Claim}
 use Rattle.core_meaning.specs.declared.scopes.Scopes.{Scopes}
 use Rattle.core_meaning.specs.Sequence.{LassoValue}
 use Rattle.core_meaning.specs.World.{InRelation}
 use Rattle.core_meaning.specs.Operators.{HasMultiplicity}
-use Rattle.core_meaning.specs.Kept.{world_of, first_atom, IsAtomOf}
+use Rattle.core_meaning.specs.Kept.{world_of, first_atom}
 use Rattle.core_laws.specs.Typed.{IsTypedLasso, HasColumn, HasRow, ColumnsHaveAtoms, SigsOfOneAtom}
 use Rattle.bound_uppers.specs.Own.{is_one, is_single, does_extend, is_extended, is_constant, constants, fits, top_of, owner_at, owner_of, does_own, is_given}
-use Rattle.bound_uppers.specs.Given.{IsGiven, InColumnTable, InRowTable}
+use Rattle.bound_uppers.specs.Given.{InColumnTable, InRowTable}
 use Rattle.bound_uppers.proofs.Owning.{own_listed, fitting, listed_constant}
 use Rattle.bound_laws.specs.Owning.{OwnersHave}
 use Rattle.bound_laws.proofs.Columns.{one_number}
@@ -59,9 +58,9 @@ child_kind (Subset ps) e = absurd (false≢true e)
 
 single_is : (d : Sig) → is_single d ≡ true → IsSingle d
 single_is d on =
-    let (static, rest) = and_parts (not d.is_var) (is_one d.multiplicity && is_some d.origin && by_parent false (λ p. true) d.kind) on in
-    let (one, more) = and_parts (is_one d.multiplicity) (is_some d.origin && by_parent false (λ p. true) d.kind) rest in
-    let (origin, child) = and_parts (is_some d.origin) (by_parent false (λ p. true) d.kind) more in
+    let (most, child) = and_parts (not d.is_var && is_one d.multiplicity && is_some d.origin) (by_parent false (λ p. true) d.kind) on in
+    let (some, origin) = and_parts (not d.is_var && is_one d.multiplicity) (is_some d.origin) most in
+    let (static, one) = and_parts (not d.is_var) (is_one d.multiplicity) some in
     record { static = not-true d.is_var static; one = one_word d.multiplicity one; origin = origin; child = child_kind d.kind child }
 
 -- an owner is there, a static `one sig` that extends another and that none extends
@@ -104,23 +103,22 @@ any_at p (e ∷ ds) (suc k) d get on = ap (λ (b : Bool). p e || b) (any_at p ds
 -- what lies under a sig that none extends is that sig
 pub only_itself : (sigs : List Sig) (n s c : ℕ) → is_extended sigs c ≡ false → is_under sigs n s c ≡ true → s ≡ c
 only_itself sigs zero s c none under = eqb-true s c under
-only_itself sigs (suc n) s c none under = by_test (eqb s c) refl under
+only_itself sigs (suc n) s c none under = by_test (λ p h. only_itself sigs n p c none h) (eqb s c) refl under
   where
-    by_kind : (d : Sig) → slice_get sigs s ≡ Some d → (kind : SigKind) → d.kind ≡ kind → by_parent false (λ p. is_under sigs n p c) kind ≡ true → s ≡ c
-    by_kind d get Top e h = absurd (false≢true h)
-    by_kind d get (Subset ps) e h = absurd (false≢true h)
-    by_kind d get (Extends p) e h =
-        let above : p ≡ c = only_itself sigs n p c none h in
-        let extends : does_extend c d ≡ true = ap (λ (k : SigKind). by_parent false (λ q. eqb q c) k) e ∙ eq-eqb p c above in
+    by_kind : ((p : ℕ) → is_under sigs n p c ≡ true → p ≡ c) → (d : Sig) → slice_get sigs s ≡ Some d → (kind : SigKind) → d.kind ≡ kind → by_parent false (λ p. is_under sigs n p c) kind ≡ true → s ≡ c
+    by_kind up d get Top e h = absurd (false≢true h)
+    by_kind up d get (Subset ps) e h = absurd (false≢true h)
+    by_kind up d get (Extends p) e h =
+        let extends : does_extend c d ≡ true = ap (λ (k : SigKind). by_parent false (λ q. eqb q c) k) e ∙ eq-eqb p c (up p h) in
         absurd (false≢true (sym none ∙ any_at (does_extend c) sigs s d get extends))
 
-    by_sig_there : (o : Option Sig) → slice_get sigs s ≡ o → by_sig false (λ d. by_parent false (λ p. is_under sigs n p c) d.kind) o ≡ true → s ≡ c
-    by_sig_there None e h = absurd (false≢true h)
-    by_sig_there (Some d) e h = by_kind d e d.kind refl h
+    by_sig_there : ((p : ℕ) → is_under sigs n p c ≡ true → p ≡ c) → (o : Option Sig) → slice_get sigs s ≡ o → by_sig false (λ d. by_parent false (λ p. is_under sigs n p c) d.kind) o ≡ true → s ≡ c
+    by_sig_there up None e h = absurd (false≢true h)
+    by_sig_there up (Some d) e h = by_kind up d e d.kind refl h
 
-    by_test : (b : Bool) → eqb s c ≡ b → (if b then true else by_sig false (λ d. by_parent false (λ p. is_under sigs n p c) d.kind) (slice_get sigs s)) ≡ true → s ≡ c
-    by_test true e h = eqb-true s c e
-    by_test false e h = by_sig_there (slice_get sigs s) refl h
+    by_test : ((p : ℕ) → is_under sigs n p c ≡ true → p ≡ c) → (b : Bool) → eqb s c ≡ b → (if b then true else by_sig false (λ d. by_parent false (λ p. is_under sigs n p c) d.kind) (slice_get sigs s)) ≡ true → s ≡ c
+    by_test up true e h = eqb-true s c e
+    by_test up false e h = by_sig_there up (slice_get sigs s) refl h
 
 -- a sig lies under itself
 under_itself : (sigs : List Sig) (n s : ℕ) → is_under sigs n s s ≡ true
@@ -173,7 +171,7 @@ module _ (model : Model) (scopes : Scopes) (lasso : LassoValue) (typed : IsTyped
       let same : b ≡ a = omega (arith, is, low) in
       let theirs : HasColumn model scopes lasso (SigColumn c) a = subst (HasColumn model scopes lasso (SigColumn c)) same column in
       elim (one_atom model scopes lasso typed a c s theirs has) [
-        | inl yes ↦ yes
+        | inl below ↦ below
         | inr other ↦
             let (d, owner) = owner_is model scopes (top_of model.sigs s) (a - first_atom scopes.numbers (top_of model.sigs s)) c at in
             let it : s ≡ c = only_itself model.sigs (length model.sigs) s c owner.alone other in

@@ -1,7 +1,7 @@
 -- The places of owners, and which sigs have an origin.
-use Rattle.std.proofs.Common.{◌≡◌, ℕ, zero, suc, ◌+◌, ◌<◌, ◌≤◌, eqb, Bool, true, false, cond, if◌then◌else◌, List, [], ◌∷◌, length, filter, Some, is_some, slice_get, refl, sym, ap, ◌∙◌, subst, arith}
+use Rattle.std.proofs.Common.{◌≡◌, ℕ, zero, suc, ◌+◌, ◌<◌, ◌≤◌, eqb, Bool, true, false, cond, if◌then◌else◌, List, [], ◌∷◌, length, filter, Some, is_some, slice_get, refl, sym, ap, ◌∙◌, arith}
 use Rattle.std.specs.List.{range_with_len}
-use Rattle.std.proofs.lemmas.Bool.{false≢true, eqb-true, leb-true, and_parts, and_from}
+use Rattle.std.proofs.lemmas.Bool.{eqb-true, leb-true, and_parts, and_from}
 use Rattle.std.proofs.lemmas.Option.{slice_get_within}
 use Rattle.core_tree.specs.declared.model.Model.{Model}
 use Rattle.core_tree.specs.declared.model.Sig.{Sig}
@@ -80,8 +80,7 @@ module _ (model : Model) (scopes : Scopes) where
       let listed = listed_owner model scopes top k c (fits model.sigs scopes.numbers top) refl at in
       let (constant, same) = and_parts (is_constant model.sigs c) (eqb (top_of model.sigs c) top) (listed_constant model.sigs top c listed) in
       let below : top_of model.sigs c ≡ top = eqb-true (top_of model.sigs c) top same in
-      let fit : fits model.sigs scopes.numbers top ≡ true = owner_fits top k c (fits model.sigs scopes.numbers top) at in
-      (
+      let fit : fits model.sigs scopes.numbers top ≡ true = owner_fits top k c (fits model.sigs scopes.numbers top) at in (
         and_from (is_constant model.sigs c) (fits model.sigs scopes.numbers (top_of model.sigs c)) constant (ap (fits model.sigs scopes.numbers) below ∙ fit),
         slice_get_within model.sigs c d owner.there,
         below,

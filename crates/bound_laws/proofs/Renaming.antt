@@ -1,5 +1,5 @@
 -- A lasso that satisfies has a renaming that gives each owner its own atom.
-use Rattle.std.proofs.Common.{◌≡◌, ◌⊎◌, inl, inr, ℕ, zero, suc, ◌+◌, ◌<◌, ◌≤◌, Bool, true, false, List, [], ◌∷◌, length, Contains, Some, refl, sym, ap, ◌∙◌, subst, arith}
+use Rattle.std.proofs.Common.{◌≡◌, inl, inr, ℕ, zero, suc, ◌+◌, ◌<◌, Bool, true, false, List, [], ◌∷◌, length, Contains, Some, refl, sym, ap, ◌∙◌, subst, arith}
 use Rattle.std.proofs.lemmas.Bool.{cases_lt, false≢true}
 use Rattle.core_tuples.specs.Order.{cons_cases, cons_here, cons_later, no_members}
 use Rattle.core_tree.specs.declared.model.Model.{Model}
@@ -10,7 +10,7 @@ use Rattle.core_meaning.specs.Sequence.{LassoValue}
 use Rattle.core_meaning.specs.World.{InRelation}
 use Rattle.core_meaning.specs.Kept.{world_of, first_atom}
 use Rattle.core_meaning.specs.Satisfied.{SatisfiesWith}
-use Rattle.core_renaming.specs.Renamings.{Renaming, ShowsRenamed}
+use Rattle.core_renaming.specs.Renamings.{ShowsRenamed}
 use Rattle.core_laws.specs.Typed.{IsTypedLasso, ColumnsHaveAtoms, SigsOfOneAtom}
 use Rattle.bound_uppers.specs.Own.{owner_at, does_own}
 use Rattle.bound_laws.specs.Satisfying.{IsRight, IsLassoOver}
@@ -100,8 +100,7 @@ typed_of model scopes lasso facts command right over satisfied = record {
 pub owners_can_have : ColumnsHaveAtoms → SigsOfOneAtom → OwnersCanHave
 owners_can_have atoms one_atom model scopes lasso facts command right origins over satisfied =
     let typed = typed_of model scopes lasso facts command right over satisfied in
-    let (ms, are) = moves_to model scopes lasso typed one_atom (length model.sigs) in
-    (
+    let (ms, are) = moves_to model scopes lasso typed one_atom (length model.sigs) in (
       moving ms,
       keeps_sigs model scopes lasso typed atoms origins ms (λ m among. let (s, lt, is) = are.from m among in (s, is)),
       λ other shows. gives_own model scopes lasso typed one_atom other ms are shows,

@@ -7,8 +7,8 @@ use bound_uppers::lassos_unroll;
 use core_laws::{relations_have_rows, same_sequences_satisfy_the_same};
 use core_renaming::{lassos_have_renamed, renaming_keeps_models};
 
-/// A law: a lasso of at most as many states as the bounds that satisfies a model and a command has a renaming that is a candidate
-/// and satisfies them.
+/// A law: a lasso of at most as many states as the bounds that satisfies a model with some facts, and
+/// a command, has a renaming that is a candidate and satisfies them.
 pub fn satisfying_lassos_are_candidates()
     ensures { SatisfyingAreCandidates }
 {
