@@ -88,10 +88,12 @@ def build_one(name, jobs):
     if os.path.isfile(stamp_file(crate)):
         os.remove(stamp_file(crate))
     status = 0
-    if not kept.give(crate, False, key):
-        status = crate.ci(["--jobs", jobs], tests=False)
-        if not status:
-            kept.keep(crate, False, key)
+    # (where another run on this machine proves the same, this one waits and takes it)
+    with kept.in_turn(crate, False, key):
+        if not kept.give(crate, False, key):
+            status = crate.ci(["--jobs", jobs], tests=False)
+            if not status:
+                kept.keep(crate, False, key)
     # (a text that changed meanwhile is built by the next start)
     if not status and text == rt.stamp_of(crate, {}):
         with open(stamp_file(crate), "w", encoding="utf-8") as it:
