@@ -1,9 +1,9 @@
 -- What the table gives sigs, as sets.
-use Rattle.std.proofs.Common.{◌≡◌, ◌⊎◌, ◌↔◌, inl, inr, ℕ, zero, suc, ◌+◌, ◌-◌, ◌<◌, ◌≤◌, eqb, Bool, true, false, if◌then◌else◌, IsTrue, not, ◌&&◌, List, [], ◌∷◌, ◌++◌, length, length-append, take, get_or, slice_get, slice_index, Option, Some, None, All, Contains, refl, ap, sym, ◌∙◌, subst, arith}
+use Rattle.std.proofs.Common.{◌≡◌, ◌⊎◌, ◌↔◌, inl, inr, ℕ, zero, suc, ◌+◌, ◌-◌, ◌<◌, ◌≤◌, eqb, Bool, true, false, if◌then◌else◌, IsTrue, not, ◌&&◌, List, [], ◌∷◌, ◌++◌, length, length-append, get_or, slice_get, slice_index, Option, Some, None, All, refl, ap, sym, ◌∙◌, subst, arith}
 use Rattle.std.proofs.lemmas.Bool.{cases_lt, cases_eq, eq-eqb, ne_eqb, eqb-true, false≢true}
 use Rattle.std.proofs.lemmas.Option.{slice_get_within}
 use Rattle.std.proofs.lemmas.List.Elements.{All-nil, All-push}
-use Rattle.core_tuples.specs.Sets.{TupleList, IsTupleSet, In, HasJust}
+use Rattle.core_tuples.specs.Sets.{TupleList, In, HasJust}
 use Rattle.core_tuples.specs.Order.{no_members}
 use Rattle.core_tree.specs.declared.model.Model.{Model}
 use Rattle.core_tree.specs.declared.model.Sig.{Sig}
@@ -11,7 +11,7 @@ use Rattle.core_tree.specs.declared.model.Column.TheVariants.{Int as IntColumn}
 use Rattle.core_tree.specs.Types.{by_sig}
 use Rattle.core_meaning.specs.declared.scopes.SigScope.{SigScope}
 use Rattle.core_meaning.specs.declared.scopes.Scopes.{Scopes}
-use Rattle.core_meaning.specs.Kept.{first_atom, universe_size, or_zero_number, IsAtomOf}
+use Rattle.core_meaning.specs.Kept.{first_atom, universe_size, or_zero_number}
 use Rattle.bound_uppers.specs.declared.numbers.AtomRange.{AtomRange}
 use Rattle.bound_uppers.specs.declared.numbers.AtomRanges.{AtomRanges}
 use Rattle.bound_uppers.specs.declared.given.AtomSets.{AtomSets}

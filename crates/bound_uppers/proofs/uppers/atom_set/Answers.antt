@@ -1,4 +1,4 @@
-use Rattle.std.proofs.Common.{◌≡◌, ◌↔◌, ◌∷◌, [], ℕ, List, IsTrue, refl, subst, arith, ◌≤◌}
+use Rattle.std.proofs.Common.{◌↔◌, ℕ, List, IsTrue, refl, subst, arith, ◌≤◌}
 use Rattle.bound_uppers.specs.AtomSets.{InRows}
 use Rattle.bound_uppers.proofs.Sketching.{atom_far, atom_just, atom_off}
 use Rattle.bound_uppers.proofs.uppers.atom_set.Goals as goal
