@@ -90,11 +90,11 @@ standing_last sigs n k s r le e =
 pub no_tops : (sigs : List Sig) → AreTops sigs 0 []
 no_tops sigs = record { count = refl; each = λ s lt. absurd (omega arith) }
 
-end_at : (xs : List ℕ) (x d : ℕ) → get_or (xs ++ x ∷ []) (length xs) d ≡ x
+pub end_at : {X : Type 0} (xs : List X) (x d : X) → get_or (xs ++ x ∷ []) (length xs) d ≡ x
 end_at [] x d = refl
 end_at (y ∷ xs) x d = end_at xs x d
 
-early_at : (xs : List ℕ) (x k d : ℕ) → k < length xs → get_or (xs ++ x ∷ []) k d ≡ get_or xs k d
+pub early_at : {X : Type 0} (xs : List X) (x : X) (k : ℕ) (d : X) → k < length xs → get_or (xs ++ x ∷ []) k d ≡ get_or xs k d
 early_at [] x k d lt = absurd (omega arith)
 early_at (y ∷ xs) x zero d lt = refl
 early_at (y ∷ xs) x (suc k) d lt = early_at xs x k d (omega arith)
