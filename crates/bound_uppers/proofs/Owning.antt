@@ -5,8 +5,8 @@ use Rattle.std.proofs.lemmas.Bool.{cases_lt, cases_eq, eq-eqb, ne_eqb, ltb-true,
 use Rattle.std.proofs.lemmas.List.Elements.{filter-append}
 use Rattle.std.proofs.lemmas.List.Folds.{list_any_more}
 use Rattle.std.proofs.lemmas.Grind.{get_or-set_at}
-use Rattle.std.proofs.lemmas.List.{get_or-set_other, length-set, append-nil}
-use Rattle.std.proofs.lemmas.Option.{get_or_from_slice_get}
+use Rattle.std.proofs.lemmas.List.{get_or_past, get_or-set_other, length-set, append-nil}
+use Rattle.std.proofs.lemmas.Option.{slice_get_past, get_or_from_slice_get}
 use Rattle.core_tuples.specs.Order.{cons_cases, cons_here, cons_later, no_members, take_all}
 use Rattle.core_tree.specs.declared.model.Sig.{Sig}
 use Rattle.core_tree.specs.declared.model.SigKind.{SigKind}
@@ -21,11 +21,6 @@ use Rattle.bound_uppers.proofs.Climbing.{end_at, early_at}
 use Rattle.bound_uppers.proofs.Ranks.{range_up}
 
 -- ---- lists that grow at the end
-
-pub outside_at : {X : Type 0} (xs : List X) (k : ℕ) (d : X) → length xs ≤ k → get_or xs k d ≡ d
-outside_at [] k d le = refl
-outside_at (x ∷ xs) zero d le = absurd (omega arith)
-outside_at (x ∷ xs) (suc k) d le = outside_at xs k d (omega arith)
 
 -- each item is the one of a function, and one more
 pushed_each : {X : Type 0} (f d : ℕ → X) (n : ℕ) (x : X) (all new : List X) → length all ≡ n → ((s : ℕ) → s < n → get_or all s (d s) ≡ f s) → x ≡ f n → new ≡ all ++ x ∷ [] → (s : ℕ) → s < n + 1 → get_or new s (d s) ≡ f s
@@ -43,11 +38,6 @@ sig_there : (sigs : List Sig) (n : ℕ) (d : Sig) → n < length sigs → d ≡ 
 sig_there [] n d lt e = absurd (omega arith)
 sig_there (c ∷ sigs) zero d lt e = ap (λ (x : Sig). Some x) (sym e)
 sig_there (c ∷ sigs) (suc n) d lt e = sig_there sigs n d (omega arith) e
-
-pub no_sig : (sigs : List Sig) (s : ℕ) → length sigs ≤ s → slice_get sigs s ≡ None
-no_sig [] s le = refl
-no_sig (d ∷ sigs) zero le = absurd (omega arith)
-no_sig (d ∷ sigs) (suc s) le = no_sig sigs s (omega arith)
 
 -- ---- sigs that are extended
 
@@ -225,7 +215,7 @@ in_range a (suc n) s low high = elim (cases_eq s a) [
 there_within : (sigs : List Sig) (s : ℕ) → by_sig false is_single (slice_get sigs s) ≡ true → s < length sigs
 there_within sigs s on = elim (cases_lt s (length sigs)) [
   | inl less ↦ less
-  | inr far ↦ absurd (false≢true (sym (ap (λ (o : Option Sig). by_sig false is_single o) (no_sig sigs s far)) ∙ on))
+  | inr far ↦ absurd (false≢true (sym (ap (λ (o : Option Sig). by_sig false is_single o) (slice_get_past sigs s far)) ∙ on))
 ]
 
 pub constant_within : (sigs : List Sig) (s : ℕ) → is_constant sigs s ≡ true → s < length sigs
@@ -298,8 +288,8 @@ standing_all sigs numbers n all low high are s = elim (cases_lt s n) [
   | inl less ↦ are.each s less
   | inr far ↦
       let count = are.count in
-      let top : top_of sigs s ≡ s = top_outside sigs (length sigs) s (no_sig sigs s (omega (arith, far, low))) in
-      outside_at all s s (omega (arith, count, far)) ∙ sym (same_either (eqb (length (owners sigs numbers (top_of sigs s))) 0) (top_of sigs s) s top)
+      let top : top_of sigs s ≡ s = top_outside sigs (length sigs) s (slice_get_past sigs s (omega (arith, far, low))) in
+      get_or_past all s s (omega (arith, count, far)) ∙ sym (same_either (eqb (length (owners sigs numbers (top_of sigs s))) 0) (top_of sigs s) s top)
 ]
 
 -- ---- origins
