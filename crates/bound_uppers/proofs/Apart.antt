@@ -1,10 +1,10 @@
 -- The rows of the table stand in order, each once.
-use Rattle.std.proofs.Common.{◌≡◌, ◌⊎◌, inl, inr, ℕ, zero, suc, ◌+◌, ◌<◌, ◌≤◌, Bool, true, false, if◌then◌else◌, List, [], ◌∷◌, length, slice_get, Some, refl, ap, sym, ◌∙◌, subst, arith, nat_lt}
-use Rattle.std.proofs.lemmas.Bool.{cases_lt, false≢true}
+use Rattle.std.proofs.Common.{◌≡◌, inl, inr, ℕ, zero, suc, ◌+◌, ◌<◌, ◌≤◌, Bool, true, false, if◌then◌else◌, List, [], ◌∷◌, length, slice_get, Some, refl, ap, sym, ◌∙◌, subst, arith, nat_lt}
+use Rattle.std.proofs.lemmas.Bool.{false≢true}
 use Rattle.std.proofs.lemmas.Bool.Decides.{nat_tests}
 use Rattle.bound_uppers.specs.declared.table.Bound.{Bound}
 use Rattle.bound_uppers.specs.declared.table.Bounds.{Bounds}
-use Rattle.bound_uppers.specs.Table.{size_at, together, before, is_later, earlier, variable_of, IsTable, IsRow, StandsBefore, RowsInOrder}
+use Rattle.bound_uppers.specs.Table.{size_at, together, before, is_later, earlier, variable_of, IsRow, StandsBefore, RowsInOrder}
 use Rattle.bound_uppers.proofs.Sizes.{up, before_le, before_cons}
 
 some_more : (o p q s : ℕ) → p ≤ q → (if nat_lt o p then s else 0) ≤ (if nat_lt o q then s else 0)

@@ -1,6 +1,8 @@
 -- Going up from a sig to those that it extends.
 use Rattle.std.proofs.Common.{◌≡◌, ℕ, zero, suc, ◌+◌, ◌-◌, ◌<◌, ◌≤◌, Bool, true, false, if◌then◌else◌, eqb, List, length, Option, Some, None, slice_get, refl, ap, sym, ◌∙◌, subst, arith, ◌++◌, ◌∷◌, [], get_or, length-append, inl, inr}
 use Rattle.std.proofs.lemmas.Bool.{cases_lt, eq-eqb, ne_eqb}
+use Rattle.std.proofs.lemmas.List.{get_or_past}
+use Rattle.std.proofs.lemmas.Option.{slice_get_past}
 use Rattle.core_tree.specs.declared.model.Sig.{Sig}
 use Rattle.core_tree.specs.declared.model.SigKind.{SigKind}
 use Rattle.core_tree.specs.declared.model.SigKind.TheVariants.{Top, Extends, Subset}
@@ -90,11 +92,11 @@ standing_last sigs n k s r le e =
 pub no_tops : (sigs : List Sig) → AreTops sigs 0 []
 no_tops sigs = record { count = refl; each = λ s lt. absurd (omega arith) }
 
-end_at : (xs : List ℕ) (x d : ℕ) → get_or (xs ++ x ∷ []) (length xs) d ≡ x
+pub end_at : {X : Type 0} (xs : List X) (x d : X) → get_or (xs ++ x ∷ []) (length xs) d ≡ x
 end_at [] x d = refl
 end_at (y ∷ xs) x d = end_at xs x d
 
-early_at : (xs : List ℕ) (x k d : ℕ) → k < length xs → get_or (xs ++ x ∷ []) k d ≡ get_or xs k d
+pub early_at : {X : Type 0} (xs : List X) (x : X) (k : ℕ) (d : X) → k < length xs → get_or (xs ++ x ∷ []) k d ≡ get_or xs k d
 early_at [] x k d lt = absurd (omega arith)
 early_at (y ∷ xs) x zero d lt = refl
 early_at (y ∷ xs) x (suc k) d lt = early_at xs x k d (omega arith)
@@ -113,23 +115,13 @@ tops_more sigs n top ups new are is e =
       ]);
     }
 
-no_sig_at : (sigs : List Sig) (s : ℕ) → length sigs ≤ s → slice_get sigs s ≡ None
-no_sig_at [] s le = refl
-no_sig_at (d ∷ sigs) zero le = absurd (omega arith)
-no_sig_at (d ∷ sigs) (suc s) le = no_sig_at sigs s (omega arith)
-
-outside : (xs : List ℕ) (s d : ℕ) → length xs ≤ s → get_or xs s d ≡ d
-outside [] s d le = refl
-outside (x ∷ xs) zero d le = absurd (omega arith)
-outside (x ∷ xs) (suc s) d le = outside xs s d (omega arith)
-
 no_parent_at : (sigs : List Sig) (s : ℕ) → length sigs ≤ s → parent_at sigs s ≡ None
-no_parent_at sigs s le = ap (λ (o : Option Sig). by_sig {X = Option ℕ} None (λ d. by_parent None (λ p. Some p) d.kind) o) (no_sig_at sigs s le)
+no_parent_at sigs s le = ap (λ (o : Option Sig). by_sig {X = Option ℕ} None (λ d. by_parent None (λ p. Some p) d.kind) o) (slice_get_past sigs s le)
 
 pub tops_all : (sigs : List Sig) (n : ℕ) (ups : List ℕ) → length sigs ≤ n → n ≤ length sigs → AreTops sigs n ups → HasTops sigs ups
 tops_all sigs n ups low high are s = elim (cases_lt s n) [
   | inl less ↦ are.each s less
-  | inr far ↦ let own = are.count in outside ups s s (omega (arith, own, far)) ∙ sym (top_stays sigs (length sigs) s (no_parent_at sigs s (omega (arith, far, low))))
+  | inr far ↦ let own = are.count in get_or_past ups s s (omega (arith, own, far)) ∙ sym (top_stays sigs (length sigs) s (no_parent_at sigs s (omega (arith, far, low))))
 ]
 
 -- ---- one sig under another

@@ -1,11 +1,10 @@
 -- Lassos, and the sequences that they show.
-use Rattle.std.proofs.Common.{◌≡◌, ◌≢◌, ◌⊎◌, inl, inr, ℕ, ◌+◌, ◌-◌, ◌*◌, ◌/◌, ◌%◌, ◌<◌, ◌≤◌, List, Option, Some, None, length, take, slice_get, nat_lt, if◌then◌else◌, zero, suc, [], ◌∷◌, refl, ap, sym, ◌∙◌, subst, arith, Result, Ok, Err, IfOk}
+use Rattle.std.proofs.Common.{◌≡◌, ◌≢◌, ◌⊎◌, inl, inr, ℕ, ◌+◌, ◌-◌, ◌*◌, ◌/◌, ◌%◌, ◌<◌, ◌≤◌, List, length, take, slice_get, zero, suc, [], ◌∷◌, refl, ap, sym, ◌∙◌, subst, arith, Result, Ok, Err, IfOk}
 use Rattle.std.specs.Prelude.{slice_index}
 use Rattle.std.proofs.Math.Nat.{mod-add-div', mod-eq_of_lt, mod-lt, add-mod_right}
 use Rattle.std.proofs.lemmas.Bool.{cases_lt}
 use Rattle.std.proofs.lemmas.Bool.Decides.{nat_tests}
 use Rattle.std.proofs.lemmas.List.{length-take-le}
-use Rattle.core_tuples.specs.Sets.{TupleList}
 use Rattle.core_meaning.specs.Sequence.{LassoValue, place_of, period}
 use Rattle.bound_uppers.specs.Shortest.{shown, IsSameSequence, IsLasso, HasFewestStates, HasEarliestLoop}
 use Rattle.bound_uppers.specs.Repeats.{AreFirsts, IsFirst, Repeats}

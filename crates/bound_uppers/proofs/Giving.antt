@@ -1,9 +1,10 @@
 -- What the table gives sigs, as sets.
-use Rattle.std.proofs.Common.{◌≡◌, ◌⊎◌, ◌↔◌, inl, inr, ℕ, zero, suc, ◌+◌, ◌-◌, ◌<◌, ◌≤◌, eqb, Bool, true, false, if◌then◌else◌, IsTrue, not, ◌&&◌, List, [], ◌∷◌, ◌++◌, length, length-append, take, get_or, slice_get, slice_index, Option, Some, None, All, Contains, refl, ap, sym, ◌∙◌, subst, arith}
+use Rattle.std.proofs.Common.{◌≡◌, ◌⊎◌, ◌↔◌, inl, inr, ℕ, zero, suc, ◌+◌, ◌-◌, ◌<◌, ◌≤◌, eqb, Bool, true, false, if◌then◌else◌, IsTrue, not, ◌&&◌, List, [], ◌∷◌, ◌++◌, length, length-append, get_or, slice_get, slice_index, Option, Some, None, All, refl, ap, sym, ◌∙◌, subst, arith}
 use Rattle.std.proofs.lemmas.Bool.{cases_lt, cases_eq, eq-eqb, ne_eqb, eqb-true, false≢true}
-use Rattle.std.proofs.lemmas.Option.{slice_get_within}
+use Rattle.std.proofs.lemmas.List.{get_or_past}
+use Rattle.std.proofs.lemmas.Option.{slice_get_past, slice_get_within}
 use Rattle.std.proofs.lemmas.List.Elements.{All-nil, All-push}
-use Rattle.core_tuples.specs.Sets.{TupleList, IsTupleSet, In, HasJust}
+use Rattle.core_tuples.specs.Sets.{TupleList, In, HasJust}
 use Rattle.core_tuples.specs.Order.{no_members}
 use Rattle.core_tree.specs.declared.model.Model.{Model}
 use Rattle.core_tree.specs.declared.model.Sig.{Sig}
@@ -11,7 +12,7 @@ use Rattle.core_tree.specs.declared.model.Column.TheVariants.{Int as IntColumn}
 use Rattle.core_tree.specs.Types.{by_sig}
 use Rattle.core_meaning.specs.declared.scopes.SigScope.{SigScope}
 use Rattle.core_meaning.specs.declared.scopes.Scopes.{Scopes}
-use Rattle.core_meaning.specs.Kept.{first_atom, universe_size, or_zero_number, IsAtomOf}
+use Rattle.core_meaning.specs.Kept.{first_atom, universe_size, or_zero_number}
 use Rattle.bound_uppers.specs.declared.numbers.AtomRange.{AtomRange}
 use Rattle.bound_uppers.specs.declared.numbers.AtomRanges.{AtomRanges}
 use Rattle.bound_uppers.specs.declared.given.AtomSets.{AtomSets}
@@ -21,7 +22,7 @@ use Rattle.bound_uppers.specs.Owned.{AreConstants, HasStanding}
 use Rattle.bound_uppers.specs.Given.{IsGiven, InColumnTable}
 use Rattle.bound_uppers.specs.AtomSets.{set_at, IsColumn, AreGiven, InSigSet, AreSigSets}
 use Rattle.bound_uppers.proofs.Exact.{those, of_integers, option_cases, nobody, sig_span, lacks_span}
-use Rattle.bound_uppers.proofs.Owning.{owns_is, none_owns, outside_at, no_sig, top_outside, same_either}
+use Rattle.bound_uppers.proofs.Owning.{owns_is, none_owns, top_outside, same_either}
 use Rattle.bound_uppers.proofs.Sketching.{get_early, get_new}
 
 -- ---- one atom more, or none
@@ -199,7 +200,7 @@ mark_is sigs marks s are = elim (cases_lt s (length sigs)) [
   | inl less ↦ are.each s less
   | inr far ↦
       let count = are.count in
-      outside_at marks s false (omega (arith, count, far)) ∙ sym (ap (λ (o : Option Sig). by_sig false is_single o && not (is_extended sigs s)) (no_sig sigs s far))
+      get_or_past marks s false (omega (arith, count, far)) ∙ sym (ap (λ (o : Option Sig). by_sig false is_single o && not (is_extended sigs s)) (slice_get_past sigs s far))
 ]
 
 pub owns_of : (sigs : List Sig) (numbers : List SigScope) (marks : List Bool) (found : List ℕ) (s top : ℕ) (owns : Bool) → AreConstants sigs (length sigs) marks → top ≡ top_of sigs s → found ≡ owners sigs numbers top → owns ≡ (get_or marks s false && not (eqb (length found) 0)) → owns ≡ does_own sigs numbers s
@@ -231,7 +232,7 @@ tops_more ups n top lt is own each s low = elim (cases_lt s n) [
 
 -- behind the list each sig is its own
 pub tops_all : (ups : List ℕ) (n : ℕ) → length ups ≤ n → ((s : ℕ) → s < n → top_at ups (top_at ups s) ≡ top_at ups s) → IsTrue true → (s : ℕ) → top_at ups (top_at ups s) ≡ top_at ups s
-tops_all ups n le each on s = elim (cases_lt s n) [ inl less ↦ each s less | inr far ↦ ap (λ (m : ℕ). top_at ups m) (outside_at ups s s (omega (arith, far, le))) ]
+tops_all ups n le each on s = elim (cases_lt s n) [ inl less ↦ each s less | inr far ↦ ap (λ (m : ℕ). top_at ups m) (get_or_past ups s s (omega (arith, far, le))) ]
 
 -- ---- all kinds
 
@@ -239,11 +240,6 @@ pub item_there : {X : Type 0} (xs : List X) (k : ℕ) (d : X) → k < length xs 
 item_there [] k d lt = absurd (omega arith)
 item_there (x ∷ xs) zero d lt = refl
 item_there (x ∷ xs) (suc k) d lt = item_there xs k d (omega arith)
-
-nothing_there : (numbers : List SigScope) (k : ℕ) → length numbers ≤ k → slice_get numbers k ≡ None
-nothing_there [] k le = refl
-nothing_there (x ∷ numbers) zero le = absurd (omega arith)
-nothing_there (x ∷ numbers) (suc k) le = nothing_there numbers k (omega arith)
 
 same_number : (a b : ℕ) → a ∷ [] ≡ b ∷ [] → b ≡ a
 same_number a b e = cc
@@ -269,7 +265,7 @@ module _ (model : Model) (scopes : Scopes) (spans : AtomRanges) (ups standing : 
   column_at k true e = column
   column_at k false e = elim (cases_lt k (length sets.sigs.items)) [
     | inl less ↦ are.columns k sets.none less
-    | inr far ↦ subst IsColumn (sym (outside_at sets.sigs.items k sets.none far)) empty
+    | inr far ↦ subst IsColumn (sym (get_or_past sets.sigs.items k sets.none far)) empty
   ]
 
   integer_is : (a : ℕ) → In (a ∷ []) sets.integers ↔ (InColumnTable model scopes IntColumn a × (a < universe_size scopes))
@@ -302,7 +298,7 @@ module _ (model : Model) (scopes : Scopes) (spans : AtomRanges) (ups standing : 
   nothing_of : (k a : ℕ) → (k ≡ integers_kind → ⊥) → length model.sigs ≤ k → In (a ∷ []) (set_at sets k) → ⊥
   nothing_of k a other far h =
       let count = are.count in
-      let is : set_at sets k ≡ record { arity = 1; tuples = [] } = set_of_sig k other ∙ (outside_at sets.sigs.items k sets.none (omega (arith, count, far)) ∙ none) in
+      let is : set_at sets k ≡ record { arity = 1; tuples = [] } = set_of_sig k other ∙ (get_or_past sets.sigs.items k sets.none (omega (arith, count, far)) ∙ none) in
       no_members (a ∷ []) (subst (λ (x : TupleList). In (a ∷ []) x) is h)
 
   nothing_lacks : (r a : ℕ) → length model.sigs ≤ r → In (a ∷ []) (set_at sets (sig_kind r)) → ⊥
@@ -316,9 +312,9 @@ module _ (model : Model) (scopes : Scopes) (spans : AtomRanges) (ups standing : 
 
   no_atom : (r a : ℕ) → length model.sigs ≤ r → IsGiven model scopes r a → ⊥
   no_atom r a far h =
-      let itself : top_of model.sigs r ≡ r = top_outside model.sigs (length model.sigs) r (no_sig model.sigs r far) in
+      let itself : top_of model.sigs r ≡ r = top_outside model.sigs (length model.sigs) r (slice_get_past model.sigs r far) in
       let range = subst (λ (t : ℕ). InTop model scopes t a) itself h.atom in
-      let high = subst (λ (o : Option SigScope). a < first_atom scopes.numbers r + or_zero_number o) (nothing_there scopes.numbers r (omega (arith, far, counted))) range.1 in
+      let high = subst (λ (o : Option SigScope). a < first_atom scopes.numbers r + or_zero_number o) (slice_get_past scopes.numbers r (omega (arith, far, counted))) range.1 in
       let low = range.0 in
       absurd (omega (arith, low, high))
 

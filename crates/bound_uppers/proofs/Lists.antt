@@ -1,5 +1,5 @@
 -- The tuples of a set.
-use Rattle.std.proofs.Common.{◌≡◌, ℕ, zero, suc, ◌+◌, ◌<◌, List, [], ◌∷◌, length, All, Some, slice_get, subst, ap, refl, ◌∙◌, arith}
+use Rattle.std.proofs.Common.{◌≡◌, ℕ, zero, suc, ◌<◌, List, [], ◌∷◌, length, All, Some, slice_get, subst, ap, refl, ◌∙◌, arith}
 use Rattle.core_tuples.specs.Sets.{TupleList, IsTupleSet}
 use Rattle.core_tuples.specs.Index.{IsNumber}
 

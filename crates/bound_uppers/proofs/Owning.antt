@@ -5,8 +5,8 @@ use Rattle.std.proofs.lemmas.Bool.{cases_lt, cases_eq, eq-eqb, ne_eqb, ltb-true,
 use Rattle.std.proofs.lemmas.List.Elements.{filter-append}
 use Rattle.std.proofs.lemmas.List.Folds.{list_any_more}
 use Rattle.std.proofs.lemmas.Grind.{get_or-set_at}
-use Rattle.std.proofs.lemmas.List.{get_or-set_other}
-use Rattle.std.proofs.lemmas.Option.{get_or_from_slice_get}
+use Rattle.std.proofs.lemmas.List.{get_or_past, get_or-set_other, length-set, append-nil}
+use Rattle.std.proofs.lemmas.Option.{slice_get_past, get_or_from_slice_get}
 use Rattle.core_tuples.specs.Order.{cons_cases, cons_here, cons_later, no_members, take_all}
 use Rattle.core_tree.specs.declared.model.Sig.{Sig}
 use Rattle.core_tree.specs.declared.model.SigKind.{SigKind}
@@ -17,23 +17,10 @@ use Rattle.core_meaning.specs.Kept.{top_above}
 use Rattle.bound_uppers.specs.Kinds.{top_at, HasTops}
 use Rattle.bound_uppers.specs.Own.{is_single, does_extend, is_constant, is_constant_of, top_of, constants, fits, owners, does_own, stands_as, HasOrigins}
 use Rattle.bound_uppers.specs.Owned.{marked, extended_at, AreExtended, AreConstants, HasLists, AreStanding, HasStanding}
+use Rattle.bound_uppers.proofs.Climbing.{end_at, early_at}
 use Rattle.bound_uppers.proofs.Ranks.{range_up}
 
 -- ---- lists that grow at the end
-
-end_at : {X : Type 0} (xs : List X) (x d : X) → get_or (xs ++ x ∷ []) (length xs) d ≡ x
-end_at [] x d = refl
-end_at (y ∷ xs) x d = end_at xs x d
-
-early_at : {X : Type 0} (xs : List X) (x : X) (k : ℕ) (d : X) → k < length xs → get_or (xs ++ x ∷ []) k d ≡ get_or xs k d
-early_at [] x k d lt = absurd (omega arith)
-early_at (y ∷ xs) x zero d lt = refl
-early_at (y ∷ xs) x (suc k) d lt = early_at xs x k d (omega arith)
-
-pub outside_at : {X : Type 0} (xs : List X) (k : ℕ) (d : X) → length xs ≤ k → get_or xs k d ≡ d
-outside_at [] k d le = refl
-outside_at (x ∷ xs) zero d le = absurd (omega arith)
-outside_at (x ∷ xs) (suc k) d le = outside_at xs k d (omega arith)
 
 -- each item is the one of a function, and one more
 pushed_each : {X : Type 0} (f d : ℕ → X) (n : ℕ) (x : X) (all new : List X) → length all ≡ n → ((s : ℕ) → s < n → get_or all s (d s) ≡ f s) → x ≡ f n → new ≡ all ++ x ∷ [] → (s : ℕ) → s < n + 1 → get_or new s (d s) ≡ f s
@@ -51,11 +38,6 @@ sig_there : (sigs : List Sig) (n : ℕ) (d : Sig) → n < length sigs → d ≡ 
 sig_there [] n d lt e = absurd (omega arith)
 sig_there (c ∷ sigs) zero d lt e = ap (λ (x : Sig). Some x) (sym e)
 sig_there (c ∷ sigs) (suc n) d lt e = sig_there sigs n d (omega arith) e
-
-pub no_sig : (sigs : List Sig) (s : ℕ) → length sigs ≤ s → slice_get sigs s ≡ None
-no_sig [] s le = refl
-no_sig (d ∷ sigs) zero le = absurd (omega arith)
-no_sig (d ∷ sigs) (suc s) le = no_sig sigs s (omega arith)
 
 -- ---- sigs that are extended
 
@@ -84,17 +66,12 @@ mark_kind marks Top s lt = sym (or_false (get_or marks s false))
 mark_kind marks (Extends p) s lt = marked_at marks p s lt
 mark_kind marks (Subset ps) s lt = sym (or_false (get_or marks s false))
 
-set_count : (marks : List Bool) (p : ℕ) → length (set marks p true) ≡ length marks
-set_count [] p = refl
-set_count (m ∷ marks) zero = refl
-set_count (m ∷ marks) (suc p) = ap suc (set_count marks p)
-
 kind_count : (marks : List Bool) (kind : SigKind) → length (by_parent marks (marked marks) kind) ≡ length marks
 kind_count marks Top = refl
 kind_count marks (Extends p) = by_test (nat_lt p (length marks))
   where
     by_test : (b : Bool) → length (if b then set marks p true else marks) ≡ length marks
-    by_test true = set_count marks p
+    by_test true = length-set marks p true
     by_test false = refl
 kind_count marks (Subset ps) = refl
 
@@ -145,10 +122,6 @@ filter_next p n =
 pub lists_none : (sigs : List Sig) (lists : List (List ℕ)) → length lists ≡ length sigs → ((t : ℕ) → get_or lists t [] ≡ []) → HasLists sigs 0 lists
 lists_none sigs lists count none = record { count = count; each = λ top lt. none top }
 
-none_more : (xs : List ℕ) → xs ≡ xs ++ []
-none_more [] = refl
-none_more (x ∷ xs) = ap (λ (ys : List ℕ). x ∷ ys) (none_more xs)
-
 -- the list of a number, with one more in it where it is the one that grows
 added_at : (lists : List (List ℕ)) (n s t : ℕ) → t < length lists → get_or (extended_at lists n s) t [] ≡ get_or lists t [] ++ cond (eqb n t) (s ∷ []) []
 added_at lists n s t lt = by_test (cases_eq n t) (nat_lt n (length lists)) refl
@@ -164,24 +137,19 @@ added_at lists n s t lt = by_test (cases_eq n t) (nat_lt n (length lists)) refl
         get_or-set_at lists n t (get_or lists n [] ++ s ∷ []) [] (sym same) (ltb-true n (length lists) e)
         ∙ (ap (λ (k : ℕ). get_or lists k [] ++ s ∷ []) same ∙ same_end true (eq-eqb n t same))
     by_test (inl same) false e = let far : length lists ≤ n = ltb-false n (length lists) e in absurd (omega (arith, far, lt, same))
-    by_test (inr other) true e = get_or-set_other lists n t (get_or lists n [] ++ s ∷ []) [] (λ f. other (sym f)) ∙ (none_more (get_or lists t []) ∙ same_end false (ne_eqb n t other))
-    by_test (inr other) false e = none_more (get_or lists t []) ∙ same_end false (ne_eqb n t other)
+    by_test (inr other) true e = get_or-set_other lists n t (get_or lists n [] ++ s ∷ []) [] (λ f. other (sym f)) ∙ (sym (append-nil (get_or lists t [])) ∙ same_end false (ne_eqb n t other))
+    by_test (inr other) false e = sym (append-nil (get_or lists t [])) ∙ same_end false (ne_eqb n t other)
 
 extended_count : (lists : List (List ℕ)) (n s : ℕ) → length (extended_at lists n s) ≡ length lists
 extended_count lists n s = by_test (nat_lt n (length lists))
   where
-    set_length : (xs : List (List ℕ)) (k : ℕ) (y : List ℕ) → length (set xs k y) ≡ length xs
-    set_length [] k y = refl
-    set_length (x ∷ xs) zero y = refl
-    set_length (x ∷ xs) (suc k) y = ap suc (set_length xs k y)
-
     by_test : (b : Bool) → length (if b then set lists n (get_or lists n [] ++ s ∷ []) else lists) ≡ length lists
-    by_test true = set_length lists n (get_or lists n [] ++ s ∷ [])
+    by_test true = length-set lists n (get_or lists n [] ++ s ∷ [])
     by_test false = refl
 
 -- a sig that is no constant, and one that is
 skipped : (lists : List (List ℕ)) (t n top : ℕ) (b : Bool) → b ≡ false → get_or lists t [] ≡ get_or lists t [] ++ cond (b && eqb top t) (n ∷ []) []
-skipped lists t n top b off = none_more (get_or lists t []) ∙ ap (λ (c : Bool). get_or lists t [] ++ cond (c && eqb top t) (n ∷ []) []) (sym off)
+skipped lists t n top b off = sym (append-nil (get_or lists t [])) ∙ ap (λ (c : Bool). get_or lists t [] ++ cond (c && eqb top t) (n ∷ []) []) (sym off)
 
 lists_turn : (lists : List (List ℕ)) (t n top : ℕ) (b : Bool) → t < length lists → get_or (if b then extended_at lists top n else lists) t [] ≡ get_or lists t [] ++ cond (b && eqb top t) (n ∷ []) []
 lists_turn lists t n top true lt = added_at lists top n t lt
@@ -247,7 +215,7 @@ in_range a (suc n) s low high = elim (cases_eq s a) [
 there_within : (sigs : List Sig) (s : ℕ) → by_sig false is_single (slice_get sigs s) ≡ true → s < length sigs
 there_within sigs s on = elim (cases_lt s (length sigs)) [
   | inl less ↦ less
-  | inr far ↦ absurd (false≢true (sym (ap (λ (o : Option Sig). by_sig false is_single o) (no_sig sigs s far)) ∙ on))
+  | inr far ↦ absurd (false≢true (sym (ap (λ (o : Option Sig). by_sig false is_single o) (slice_get_past sigs s far)) ∙ on))
 ]
 
 pub constant_within : (sigs : List Sig) (s : ℕ) → is_constant sigs s ≡ true → s < length sigs
@@ -320,8 +288,8 @@ standing_all sigs numbers n all low high are s = elim (cases_lt s n) [
   | inl less ↦ are.each s less
   | inr far ↦
       let count = are.count in
-      let top : top_of sigs s ≡ s = top_outside sigs (length sigs) s (no_sig sigs s (omega (arith, far, low))) in
-      outside_at all s s (omega (arith, count, far)) ∙ sym (same_either (eqb (length (owners sigs numbers (top_of sigs s))) 0) (top_of sigs s) s top)
+      let top : top_of sigs s ≡ s = top_outside sigs (length sigs) s (slice_get_past sigs s (omega (arith, far, low))) in
+      get_or_past all s s (omega (arith, count, far)) ∙ sym (same_either (eqb (length (owners sigs numbers (top_of sigs s))) 0) (top_of sigs s) s top)
 ]
 
 -- ---- origins

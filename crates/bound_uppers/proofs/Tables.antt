@@ -1,5 +1,5 @@
 -- The bounds of a model's relations, as a table.
-use Rattle.std.proofs.Common.{◌≡◌, ℕ, ◌+◌, ◌<◌, ◌≤◌, Bool, List, ◌∷◌, [], ◌++◌, length, take, slice_get, slice_index, Some, refl, ap, sym, ◌∙◌, arith, map, get_or, subst, length-append}
+use Rattle.std.proofs.Common.{◌≡◌, ℕ, ◌+◌, ◌<◌, Bool, List, ◌∷◌, [], ◌++◌, length, take, slice_get, slice_index, Some, ap, sym, ◌∙◌, arith, map, subst, length-append}
 use Rattle.std.specs.List.{range_with_len}
 use Rattle.std.proofs.lemmas.List.{take_more, length-map}
 use Rattle.std.proofs.lemmas.List.FromFn.{length-range_with_len}
@@ -8,7 +8,6 @@ use Rattle.core_tree.specs.declared.model.Model.{Model}
 use Rattle.core_tree.specs.declared.model.Sig.{Sig}
 use Rattle.core_tree.specs.declared.model.Field.{Field}
 use Rattle.bound_uppers.specs.declared.table.Bound.{Bound}
-use Rattle.bound_uppers.specs.declared.table.Bounds.{Bounds}
 use Rattle.bound_uppers.specs.Table.{IsTable, is_fixed, are_fixed}
 use Rattle.bound_uppers.specs.Order.{with_owner, standings, order_in, AreOrders}
 use Rattle.bound_uppers.proofs.Sizes.{get_map}

@@ -6,7 +6,7 @@ use Rattle.std.proofs.lemmas.Bool.{cases_lt}
 use Rattle.std.proofs.lemmas.List.FromFn.{length-map-range_with_len}
 use Rattle.core_tuples.specs.Sets.{TupleList}
 use Rattle.core_meaning.specs.Sequence.{LassoValue, place_of, period}
-use Rattle.bound_uppers.specs.Shortest.{shown, IsSameSequence, IsLasso, Unrolls}
+use Rattle.bound_uppers.specs.Shortest.{shown, IsLasso, Unrolls}
 use Rattle.bound_uppers.proofs.Cut.{place_before, place_by, place_within, loop_period}
 use Rattle.bound_uppers.proofs.Period.{rounds}
 

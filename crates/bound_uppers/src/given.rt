@@ -64,7 +64,7 @@ fn add_given(alloc: Global, set: &mut TupleSet, is_given: bool, atom: u32) -> Re
 }
 
 /// The atoms of a top-level sig that the table gives to a sig, where it is known who owns them.
-#[tactic(auto, using(crate::proofs::Giving::given_none, crate::proofs::Giving::given_more, crate::proofs::Giving::given_all))]
+#[tactic(auto, using(crate::proofs::Giving::given_none))]
 fn given_atoms(
     alloc: Global,
     sigs: &[Sig],
@@ -85,7 +85,6 @@ fn given_atoms(
 }
 
 /// What the table gives a sig.
-#[tactic(auto, using(crate::proofs::Giving::sig_given))]
 fn sig_set(
     alloc: Global,
     model: &Model,
@@ -140,7 +139,7 @@ fn own_set(
 }
 
 /// What the table gives each sig that stands as itself.
-#[tactic(auto, using(crate::proofs::Giving::sets_none, crate::proofs::Giving::sets_more, crate::proofs::Giving::sets_all))]
+#[tactic(auto, using(crate::proofs::Giving::sets_none))]
 fn sig_sets(
     alloc: Global,
     model: &Model,
@@ -185,7 +184,6 @@ pub fn are_tops(ups: &[u32]) -> bool
 }
 
 /// What the table gives the kinds of columns.
-#[tactic(auto, using(crate::proofs::Giving::are_given))]
 pub fn atom_sets(
     alloc: Global,
     model: &Model,

@@ -1,4 +1,4 @@
-use Rattle.std.proofs.Common.{◌≡◌, ◌+◌, ◌∙◌, arith}
+use Rattle.std.proofs.Common.{◌+◌, ◌∙◌, arith}
 use Rattle.bound_uppers.specs.Table.{truth}
 use Rattle.bound_uppers.proofs.Choosing.{chosen_next}
 use Rattle.bound_uppers.proofs.decoding.true_tuples.Goals as goal

@@ -1,4 +1,4 @@
-use Rattle.std.proofs.Common.{◌≡◌, ◌+◌, ◌≤◌, ℕ, length, ap, sym, ◌∙◌, subst, arith}
+use Rattle.std.proofs.Common.{◌+◌, ℕ, length, ap, sym, ◌∙◌, subst, arith}
 use Rattle.core_tuples.specs.Sets.{HasJust}
 use Rattle.bound_uppers.specs.Kinds.{top_at}
 use Rattle.bound_uppers.specs.AtomSets.{InSigSet}

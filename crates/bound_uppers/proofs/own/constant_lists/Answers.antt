@@ -1,4 +1,4 @@
-use Rattle.std.proofs.Common.{◌≡◌, ◌+◌, ap, arith}
+use Rattle.std.proofs.Common.{◌+◌, ap, arith}
 use Rattle.bound_uppers.proofs.Owning.{lists_more}
 use Rattle.bound_uppers.proofs.own.constant_lists.Goals as goal
 

@@ -1,4 +1,4 @@
-use Rattle.std.proofs.Common.{◌≡◌, ◌<◌, length, slice_get, Some, ap, sym, ◌∙◌, arith}
+use Rattle.std.proofs.Common.{◌<◌, length, slice_get, ap, sym, ◌∙◌, arith}
 use Rattle.core_tuples.specs.Order.{take_get}
 use Rattle.bound_uppers.proofs.Cut.{place_before}
 use Rattle.bound_uppers.proofs.shortening.first_states.Goals as goal

@@ -1,4 +1,4 @@
-use Rattle.std.proofs.Common.{◌≡◌, ◌↔◌, ◌∷◌, [], ℕ, List, IsTrue, refl, subst, arith, ◌≤◌}
+use Rattle.std.proofs.Common.{◌↔◌, ℕ, List, IsTrue, refl, subst, arith, ◌≤◌}
 use Rattle.bound_uppers.specs.AtomSets.{InRows}
 use Rattle.bound_uppers.proofs.Sketching.{atom_far, atom_just, atom_off}
 use Rattle.bound_uppers.proofs.uppers.atom_set.Goals as goal
@@ -13,7 +13,6 @@ returns-then-rows_hold c =
     let its = subst (λ (t : List ℕ). IsTrue c.rows_hold.result ↔ InRows c.args.sets.now c.args.rows.now t) c.in_ok-tuple.ensures c.rows_hold.ensures in
     atom_just c.args.sets.now c.args.rows.now c.args.atom _ c.in_ok-set.set refl c.rows_hold.result c.if-rows_hold.true its c.in_ok-set.ensures
 
--- not tried: the names of the steps are a guess
 pub returns : goal.returns
 returns c =
     let its = subst (λ (t : List ℕ). IsTrue c.rows_hold.result ↔ InRows c.args.sets.now c.args.rows.now t) c.in_ok-tuple.ensures c.rows_hold.ensures in

@@ -1,7 +1,6 @@
-use Rattle.std.proofs.Common.{◌≡◌, ◌∙◌, ℕ, List, length, map, subst, sym}
+use Rattle.std.proofs.Common.{◌≡◌, ◌∙◌, ℕ, List, length, subst}
 use Rattle.core_tree.specs.declared.model.Field.{Field}
 use Rattle.core_tree.specs.declared.model.Model.{Model}
-use Rattle.bound_uppers.specs.declared.table.Bound.{Bound}
 use Rattle.bound_uppers.specs.Order.{standings, AreOrders}
 use Rattle.bound_uppers.proofs.Tables.{table_is, orders_are}
 use Rattle.bound_uppers.proofs.uppers.table_of.Goals as goal
