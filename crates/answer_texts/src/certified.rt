@@ -54,7 +54,8 @@ pub fn above_part(
     cnf: &Cnf,
     lines: &LineList,
 ) -> Result<Vec<u8>, AllocError>
-    ensures { IfOk result (λ text. text.items ≡ above_part part trace.now table.now cnf.now lines.now) }
+    ensures { IfOk result (λ text. text.items ≡ above_part part trace.now table.now cnf.now
+        lines.now) }
 {
     match part {
         Part::Answer => copied(alloc, trace),
@@ -107,7 +108,8 @@ pub fn core_part(
     cnf: &Cnf,
     lines: &LineList,
 ) -> Result<Vec<u8>, AllocError>
-    ensures { IfOk result (λ text. text.items ≡ core_part part states facts.now table.now cnf.now lines.now) }
+    ensures { IfOk result (λ text. text.items ≡ core_part part states facts.now table.now cnf.now
+        lines.now) }
 {
     match part {
         Part::Answer => core_lines(alloc, states, facts),

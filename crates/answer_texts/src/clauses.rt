@@ -36,7 +36,8 @@ pub fn push_block(
     cnf: &Cnf,
     lines: &LineList,
 ) -> Result<(), AllocError>
-    ensures { OnOk result (out.new.items ≡ out.old.items ++ block_text heading.now table.now cnf.now lines.now) }
+    ensures { OnOk result (out.new.items ≡ out.old.items
+        ++ block_text heading.now table.now cnf.now lines.now) }
 {
     out.extend_from_slice(b"clauses\n")?;
     let clauses = print_cnf(alloc, table, cnf)?;
@@ -82,7 +83,8 @@ pub fn absent_text(
     cnf: &Cnf,
     lines: &LineList,
 ) -> Result<Vec<u8>, AllocError>
-    ensures { IfOk result (λ text. text.items ≡ absent_text part states table.now cnf.now lines.now) }
+    ensures { IfOk result (λ text. text.items ≡ absent_text part states table.now cnf.now
+        lines.now) }
 {
     match part {
         Part::Answer => none_alone(alloc, states),
@@ -100,7 +102,8 @@ pub fn unknown_text(
     cnf: &Cnf,
     lines: &LineList,
 ) -> Result<Vec<u8>, AllocError>
-    ensures { IfOk result (λ text. text.items ≡ unknown_text conflicts table.now cnf.now lines.now) }
+    ensures { IfOk result (λ text. text.items ≡ unknown_text conflicts table.now cnf.now
+        lines.now) }
 {
     let mut out = Vec::new(alloc);
     push_unknown(&mut out, conflicts)?;

@@ -50,7 +50,8 @@ fn text_label(alloc: Global, loaded: &Loaded, text: u32) -> Result<Name, AllocEr
 /// The name of the text that the instance of this number has, where both are there.
 #[tactic(auto, using(std::proofs::lemmas::Option::slice_get_past))]
 fn source_label(alloc: Global, loaded: &Loaded, instance: u32) -> Result<Name, AllocError>
-    ensures { IfOk result (λ name. name ≡ source_label loaded.now.texts (slice_get loaded.now.instances instance)) }
+    ensures { IfOk result (λ name. name ≡ source_label loaded.now.texts
+        (slice_get loaded.now.instances instance)) }
 {
     let number = instance as usize;
     if number >= loaded.instances.len() {
@@ -62,7 +63,8 @@ fn source_label(alloc: Global, loaded: &Loaded, instance: u32) -> Result<Name, A
 /// The label of the instance of this number, where it is there.
 #[tactic(auto, using(std::proofs::lemmas::Option::slice_get_past))]
 fn instance_label(alloc: Global, loaded: &Loaded, instance: u32) -> Result<Name, AllocError>
-    ensures { IfOk result (λ name. name ≡ instance_label (slice_get loaded.now.instances instance)) }
+    ensures { IfOk result (λ name. name ≡ instance_label
+        (slice_get loaded.now.instances instance)) }
 {
     let number = instance as usize;
     if number >= loaded.instances.len() {
@@ -79,7 +81,8 @@ pub fn fact_name(
     place: Position,
     name: &Option<Name>,
 ) -> Result<FactName, AllocError>
-    ensures { IfOk result (λ fact. fact ≡ fact_name loaded.now.texts loaded.now.instances instance place name.now) }
+    ensures { IfOk result (λ fact. fact ≡ fact_name loaded.now.texts loaded.now.instances instance
+        place name.now) }
 {
     Ok(FactName {
         text: source_label(alloc, loaded, instance)?,

@@ -30,7 +30,9 @@ fn add_line(
     number: u64,
     paragraph: &Paragraph,
 ) -> Result<u64, AllocError>
-    ensures { IfOk result (λ next. (rest : List Command) → text.new.items ++ lines_from next rest ≡ text.old.items ++ lines_from number (command_in paragraph.now ++ rest)) }
+    ensures { IfOk result (λ next. (rest : List Command) →
+        text.new.items ++ lines_from next rest ≡ text.old.items
+        ++ lines_from number (command_in paragraph.now ++ rest)) }
 {
     match paragraph {
         Paragraph::Command(command) => {
@@ -59,7 +61,8 @@ fn titled_line(
     place: Position,
     title: &str,
 ) -> Result<String, AllocError>
-    ensures { IfOk result (λ line. string_bytes line ≡ titled_line number keyword.now place title.now) }
+    ensures { IfOk result (λ line. string_bytes line
+        ≡ titled_line number keyword.now place title.now) }
 {
     let line = place.line;
     let column = place.column;

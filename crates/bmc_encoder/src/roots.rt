@@ -99,7 +99,8 @@ fn beginnings<G: Gates>(
 ) -> Result<NodeList, AllocError>
     requires { AllIn (G.belongs gates.now) all.now }
     ensures belongs { IfOk result (λ firsts. AllIn (G.belongs gates.now) firsts) }
-    ensures firsts { IfOk result (λ firsts. AreFirsts (G.node_value gates.now) frame.now.windows.items all.now firsts) }
+    ensures firsts { IfOk result (λ firsts. AreFirsts (G.node_value gates.now)
+        frame.now.windows.items all.now firsts) }
 {
     let mut firsts = NodeList::new(alloc);
     for number in 0..frame.windows.len() {
@@ -122,7 +123,9 @@ fn value_at_loop<G: Gates>(
     requires all { AllIn (G.belongs gates.old) all.now }
     ensures keeps { Keeps G.belongs G.node_value gates.old gates.new }
     ensures belongs { IfOk result (λ n. G.belongs gates.new n) }
-    ensures value { IfOk result (λ n. (x : ℕ → Bool) (loop : ℕ) (s : Window) → slice_get frame.now.windows.items loop ≡ Some s → IsOnly (G.node_value gates.old x) choices.now loop
+    ensures value { IfOk result (λ n. (x : ℕ → Bool) (loop : ℕ) (s : Window) →
+        slice_get frame.now.windows.items loop ≡ Some s →
+        IsOnly (G.node_value gates.old x) choices.now loop
         → G.node_value gates.new x n ≡ row_value (G.node_value gates.old x) all.now s.start) }
 {
     let firsts = beginnings(alloc, gates, frame, all)?;
@@ -148,7 +151,8 @@ fn root_of<G: Gates>(
     requires universe { IsUniverseOf scopes.now universe }
     ensures keeps { Keeps G.belongs G.node_value gates.old gates.new }
     ensures belongs { IfOk result (λ n. G.belongs gates.new n) }
-    ensures says { IfOk result (λ n. AreChoices (G.node_value gates.old) bounds.now.states table.now.loops choices.now
+    ensures says { IfOk result (λ n. AreChoices (G.node_value gates.old) bounds.now.states
+        table.now.loops choices.now
         → SaysRoot (G.node_value gates.new) bounds.now table.now scopes.now formula.now n) }
 {
     let frame = frame_of(alloc, bounds.states, depth_of(formula))?;
@@ -184,8 +188,10 @@ fn add_roots<G: Gates>(
     ensures keeps { Keeps G.belongs G.node_value gates.old gates.new }
     ensures belongs { AllIn (G.belongs gates.new) roots.new }
     ensures count { OnOk result (length roots.new ≡ length roots.old + length target.now.formulas) }
-    ensures kept { OnOk result ((k : ℕ) (n : CircuitNode) → slice_get roots.old k ≡ Some n → slice_get roots.new k ≡ Some n) }
-    ensures says { OnOk result (AreChoices (G.node_value gates.old) bounds.now.states table.now.loops choices.now
+    ensures kept { OnOk result ((k : ℕ) (n : CircuitNode) → slice_get roots.old k ≡ Some n →
+        slice_get roots.new k ≡ Some n) }
+    ensures says { OnOk result (AreChoices (G.node_value gates.old) bounds.now.states
+        table.now.loops choices.now
         → (k : ℕ) (f : FormulaTree) (n : CircuitNode) → slice_get target.now.formulas k ≡ Some f → slice_get roots.new (length roots.old + k) ≡ Some n
         → SaysRoot (G.node_value gates.new) bounds.now table.now target.now.scopes f n) }
 {
@@ -218,7 +224,9 @@ pub fn encode<G: Gates>(
     ensures belongs { IfOk result (λ e. G.belongs gates.new e.sure) }
     ensures roots { IfOk result (λ e. AllIn (G.belongs gates.new) e.roots) }
     ensures count { IfOk result (λ e. length e.roots ≡ length target.now.formulas + 1) }
-    ensures table { IfOk result (λ e. (table : VariableTable) × IsEncoded bounds.now target.now.scopes target.now.formulas table (G.node_value gates.new) e.sure e.roots) }
+    ensures table { IfOk result (λ e. (table : VariableTable)
+        × IsEncoded bounds.now target.now.scopes target.now.formulas table (G.node_value gates.new)
+        e.sure e.roots) }
 {
     let table = layout(alloc, bounds)?;
     let choices = loop_choices(alloc, gates, bounds.states, table.loops)?;

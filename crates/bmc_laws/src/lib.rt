@@ -18,8 +18,16 @@ ghost use Rattle.bmc_laws.specs.Encoding.{EncodesWith};
 /// that satisfies both; and each lasso within the bounds that satisfies both has an assignment that
 /// satisfies the clauses and tells of it.
 pub fn encodings_tell()
-    ensures sound { (model : Model) (scopes : Scopes) (facts : List Fact) (command : Claim) (bounds : Bounds) (variables : ℕ) (clauses : List (List ℤ)) → EncodesWith model scopes facts command bounds variables clauses → (values : List Bool) → IsSolution variables clauses values → (lasso : LassoValue) × IsCandidate bounds lasso × Agrees bounds values lasso × SatisfiesWith model scopes lasso facts command }
-    ensures complete { (model : Model) (scopes : Scopes) (facts : List Fact) (command : Claim) (bounds : Bounds) (variables : ℕ) (clauses : List (List ℤ)) → EncodesWith model scopes facts command bounds variables clauses → (lasso : LassoValue) → IsCandidate bounds lasso → SatisfiesWith model scopes lasso facts command → (values : List Bool) × IsSolution variables clauses values × Agrees bounds values lasso }
+    ensures sound { (model : Model) (scopes : Scopes) (facts : List Fact) (command : Claim)
+        (bounds : Bounds) (variables : ℕ) (clauses : List (List ℤ)) →
+        EncodesWith model scopes facts command bounds variables clauses → (values : List Bool) →
+        IsSolution variables clauses values → (lasso : LassoValue) × IsCandidate bounds lasso
+        × Agrees bounds values lasso × SatisfiesWith model scopes lasso facts command }
+    ensures complete { (model : Model) (scopes : Scopes) (facts : List Fact) (command : Claim)
+        (bounds : Bounds) (variables : ℕ) (clauses : List (List ℤ)) →
+        EncodesWith model scopes facts command bounds variables clauses → (lasso : LassoValue) →
+        IsCandidate bounds lasso → SatisfiesWith model scopes lasso facts command →
+        (values : List Bool) × IsSolution variables clauses values × Agrees bounds values lasso }
 {}
 
 ghost use Rattle.bmc_laws.specs.TableTold.{CandidatesAreTold};

@@ -47,7 +47,9 @@ fn marked_sets<G: Gates>(
     ensures keeps { Keeps G.belongs G.node_value gates.old gates.new }
     ensures stored { OnOk result (AreStored (G.belongs gates.new) store.new) }
     ensures grows { OnOk result (Grows store.old store.new) }
-    ensures kept { IfOk result (λ v. (depth : ℕ) (leaf : Leaf) → IsReading (reading_of setting.now depth) → IsLeafAt setting.now.bounds.now.relations leaf number
+    ensures kept { IfOk result (λ v. (depth : ℕ) (leaf : Leaf) →
+        IsReading (reading_of setting.now depth) →
+        IsLeafAt setting.now.bounds.now.relations leaf number
         → (v.items ≡ []) ⊎ AreOf (reading_of setting.now depth) (G.node_value gates.new) store.new.matrices.items leaf v.items) }
 {
     if !is_marked {
@@ -82,7 +84,9 @@ pub fn kept_of<G: Gates>(
     ensures keeps { Keeps G.belongs G.node_value gates.old gates.new }
     ensures stored { OnOk result (AreStored (G.belongs gates.new) store.new) }
     ensures rows { OnOk result (store.new.rows.items ≡ store.old.rows.items) }
-    ensures kept { IfOk result (λ all. (depth : ℕ) → IsReading (reading_of setting.now depth) → AreKept (reading_of setting.now depth) (G.node_value gates.new) store.new.matrices.items all.items) }
+    ensures kept { IfOk result (λ all. (depth : ℕ) → IsReading (reading_of setting.now depth) →
+        AreKept (reading_of setting.now depth) (G.node_value gates.new) store.new.matrices.items
+        all.items) }
 {
     let marks = marks_of(alloc, leaves_of(setting), formula)?;
     let mut kept: Vec<Vec<usize>> = Vec::new(alloc);

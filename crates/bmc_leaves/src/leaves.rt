@@ -35,7 +35,8 @@ pub fn no_set<G: Gates>(
     requires { AreStored (G.belongs gates.now) store.old }
     ensures stored { OnOk result (AreStored (G.belongs gates.now) store.new) }
     ensures grows { OnOk result (Grows store.old store.new) }
-    ensures right { IfOk result (λ numbers. (depth : ℕ) (atoms : Atoms) → IsReading (reading_of setting.now depth)
+    ensures right { IfOk result (λ numbers. (depth : ℕ) (atoms : Atoms) →
+        IsReading (reading_of setting.now depth)
         → AreRight (under (reading_of setting.now depth) atoms) (G.node_value gates.now) store.new.matrices.items nothing numbers.items) }
 {
     let matrix = Matrix::empty(alloc, 1);
@@ -57,7 +58,8 @@ fn add_state<G: Gates>(
     ensures keeps { Keeps G.belongs G.node_value gates.old gates.new }
     ensures stored { OnOk result (AreStored (G.belongs gates.new) store.new) }
     ensures grows { OnOk result (Grows store.old store.new) }
-    ensures adds { IfOk result (λ k. AddsState (G.node_value gates.new) store.new.matrices.items bound.now cells state k) }
+    ensures adds { IfOk result (λ k. AddsState (G.node_value gates.new) store.new.matrices.items
+        bound.now cells state k) }
 {
     let first = first_variable(cells, bound.fixed, state)?;
     let matrix = relation_matrix(alloc, gates, &bound.upper, first)?;
@@ -78,7 +80,8 @@ fn add_states<G: Gates>(
     ensures keeps { Keeps G.belongs G.node_value gates.old gates.new }
     ensures stored { OnOk result (AreStored (G.belongs gates.new) store.new) }
     ensures grows { OnOk result (Grows store.old store.new) }
-    ensures sets { IfOk result (λ numbers. AtStates (G.node_value gates.new) store.new.matrices.items bound.now cells states numbers.items) }
+    ensures sets { IfOk result (λ numbers. AtStates (G.node_value gates.new)
+        store.new.matrices.items bound.now cells states numbers.items) }
 {
     let mut numbers = Vec::new(alloc);
     for state in 0..states {
@@ -101,7 +104,9 @@ fn fixed_sets<G: Gates>(
     ensures keeps { Keeps G.belongs G.node_value gates.old gates.new }
     ensures stored { OnOk result (AreStored (G.belongs gates.new) store.new) }
     ensures grows { OnOk result (Grows store.old store.new) }
-    ensures sets { IfOk result (λ numbers. bound.now.fixed ≡ true → AtShown (G.node_value gates.new) store.new.matrices.items bound.now cells setting.now.bounds.now.states setting.now.frame.now.shown.items numbers.items) }
+    ensures sets { IfOk result (λ numbers. bound.now.fixed ≡ true →
+        AtShown (G.node_value gates.new) store.new.matrices.items bound.now cells
+        setting.now.bounds.now.states setting.now.frame.now.shown.items numbers.items) }
 {
     let numbers = add_states(alloc, gates, store, bound, cells, 1)?;
     let row = repeated(alloc, found_at(&numbers, 0), setting.frame.shown.len())?;
@@ -121,7 +126,9 @@ fn moving_sets<G: Gates>(
     ensures keeps { Keeps G.belongs G.node_value gates.old gates.new }
     ensures stored { OnOk result (AreStored (G.belongs gates.new) store.new) }
     ensures grows { OnOk result (Grows store.old store.new) }
-    ensures sets { IfOk result (λ numbers. AtShown (G.node_value gates.new) store.new.matrices.items bound.now cells setting.now.bounds.now.states setting.now.frame.now.shown.items numbers.items) }
+    ensures sets { IfOk result (λ numbers. AtShown (G.node_value gates.new) store.new.matrices.items
+        bound.now cells setting.now.bounds.now.states setting.now.frame.now.shown.items
+        numbers.items) }
 {
     let numbers = add_states(alloc, gates, store, bound, cells, setting.bounds.states)?;
     let row = moved(alloc, &numbers, &setting.frame.shown)?;
@@ -141,7 +148,9 @@ fn shown_sets<G: Gates>(
     ensures keeps { Keeps G.belongs G.node_value gates.old gates.new }
     ensures stored { OnOk result (AreStored (G.belongs gates.new) store.new) }
     ensures grows { OnOk result (Grows store.old store.new) }
-    ensures sets { IfOk result (λ numbers. AtShown (G.node_value gates.new) store.new.matrices.items bound.now cells setting.now.bounds.now.states setting.now.frame.now.shown.items numbers.items) }
+    ensures sets { IfOk result (λ numbers. AtShown (G.node_value gates.new) store.new.matrices.items
+        bound.now cells setting.now.bounds.now.states setting.now.frame.now.shown.items
+        numbers.items) }
 {
     if bound.fixed {
         let row = fixed_sets(alloc, gates, store, setting, bound, cells)?;
@@ -163,7 +172,9 @@ pub fn relation_sets<G: Gates>(
     ensures keeps { Keeps G.belongs G.node_value gates.old gates.new }
     ensures stored { OnOk result (AreStored (G.belongs gates.new) store.new) }
     ensures grows { OnOk result (Grows store.old store.new) }
-    ensures of { IfOk result (λ numbers. (depth : ℕ) → IsReading (reading_of setting.now depth) → AreOf (reading_of setting.now depth) (G.node_value gates.new) store.new.matrices.items (of_relation number) numbers.items) }
+    ensures of { IfOk result (λ numbers. (depth : ℕ) → IsReading (reading_of setting.now depth) →
+        AreOf (reading_of setting.now depth) (G.node_value gates.new) store.new.matrices.items
+        (of_relation number) numbers.items) }
 {
     let relations = setting.bounds.relations.as_slice();
     let cells = setting.layout.relations.as_slice();
@@ -187,7 +198,8 @@ pub fn name_sets<G: Gates>(
     requires { AreStored (G.belongs gates.now) store.old }
     ensures stored { OnOk result (AreStored (G.belongs gates.now) store.new) }
     ensures grows { OnOk result (Grows store.old store.new) }
-    ensures right { IfOk result (λ numbers. (depth : ℕ) (atoms : Atoms) (x : ℕ) → IsReading (reading_of setting.now depth) → atom ≡ atom_in atoms x
+    ensures right { IfOk result (λ numbers. (depth : ℕ) (atoms : Atoms) (x : ℕ) →
+        IsReading (reading_of setting.now depth) → atom ≡ atom_in atoms x
         → AreRight (under (reading_of setting.now depth) atoms) (G.node_value gates.now) store.new.matrices.items (named x) numbers.items) }
 {
     let matrix = atom_matrix(alloc, gates, atom)?;
@@ -216,7 +228,9 @@ pub fn integer_sets<G: Gates>(
     requires { AreStored (G.belongs gates.now) store.old }
     ensures stored { OnOk result (AreStored (G.belongs gates.now) store.new) }
     ensures grows { OnOk result (Grows store.old store.new) }
-    ensures of { IfOk result (λ numbers. (depth : ℕ) → IsReading (reading_of setting.now depth) → AreOf (reading_of setting.now depth) (G.node_value gates.now) store.new.matrices.items of_int numbers.items) }
+    ensures of { IfOk result (λ numbers. (depth : ℕ) → IsReading (reading_of setting.now depth) →
+        AreOf (reading_of setting.now depth) (G.node_value gates.now) store.new.matrices.items
+        of_int numbers.items) }
 {
     let first = setting.universe.atoms;
     let integers = integer_count(setting.universe.bits);
@@ -247,8 +261,11 @@ fn sig_sets<G: Gates>(
     ensures keeps { Keeps G.belongs G.node_value gates.old gates.new }
     ensures stored { OnOk result (AreStored (G.belongs gates.new) store.new) }
     ensures grows { OnOk result (Grows store.old store.new) }
-    ensures of { IfOk result (λ numbers. (depth : ℕ) → IsReading (reading_of setting.now depth) → AreOf (reading_of setting.now depth) (G.node_value gates.new) store.new.matrices.items (of_relation number) numbers.items) }
-    ensures column { OnOk result ((depth : ℕ) → IsReading (reading_of setting.now depth) → HasOneColumn (reading_of setting.now depth) number) }
+    ensures of { IfOk result (λ numbers. (depth : ℕ) → IsReading (reading_of setting.now depth) →
+        AreOf (reading_of setting.now depth) (G.node_value gates.new) store.new.matrices.items
+        (of_relation number) numbers.items) }
+    ensures column { OnOk result ((depth : ℕ) → IsReading (reading_of setting.now depth) →
+        HasOneColumn (reading_of setting.now depth) number) }
 {
     let relations = setting.bounds.relations.as_slice();
     let cells = setting.layout.relations.as_slice();
@@ -282,7 +299,8 @@ fn with_sig<G: Gates>(
     all: &[usize],
 ) -> Result<Vec<usize>, AllocError>
     requires store { AreStored (G.belongs gates.old) store.old }
-    requires top { slice_get (map (λ (s : ScopeOfSig). s.top) setting.now.scopes.now.numbers) number ≡ Some true }
+    requires top { slice_get (map (λ (s : ScopeOfSig). s.top) setting.now.scopes.now.numbers) number
+        ≡ Some true }
     ensures keeps { Keeps G.belongs G.node_value gates.old gates.new }
     ensures stored { OnOk result (AreStored (G.belongs gates.new) store.new) }
     ensures grows { OnOk result (Grows store.old store.new) }
@@ -333,7 +351,9 @@ pub fn univ_sets<G: Gates>(
     ensures keeps { Keeps G.belongs G.node_value gates.old gates.new }
     ensures stored { OnOk result (AreStored (G.belongs gates.new) store.new) }
     ensures grows { OnOk result (Grows store.old store.new) }
-    ensures of { IfOk result (λ numbers. (depth : ℕ) → IsReading (reading_of setting.now depth) → AreOf (reading_of setting.now depth) (G.node_value gates.new) store.new.matrices.items of_univ numbers.items) }
+    ensures of { IfOk result (λ numbers. (depth : ℕ) → IsReading (reading_of setting.now depth) →
+        AreOf (reading_of setting.now depth) (G.node_value gates.new) store.new.matrices.items
+        of_univ numbers.items) }
 {
     let mut all = integer_sets(alloc, gates, store, setting)?;
     let sigs = setting.scopes.numbers.as_slice();
@@ -354,7 +374,9 @@ pub fn iden_sets<G: Gates>(
     ensures keeps { Keeps G.belongs G.node_value gates.old gates.new }
     ensures stored { OnOk result (AreStored (G.belongs gates.new) store.new) }
     ensures grows { OnOk result (Grows store.old store.new) }
-    ensures of { IfOk result (λ numbers. (depth : ℕ) → IsReading (reading_of setting.now depth) → AreOf (reading_of setting.now depth) (G.node_value gates.new) store.new.matrices.items of_iden numbers.items) }
+    ensures of { IfOk result (λ numbers. (depth : ℕ) → IsReading (reading_of setting.now depth) →
+        AreOf (reading_of setting.now depth) (G.node_value gates.new) store.new.matrices.items
+        of_iden numbers.items) }
 {
     let all = univ_sets(alloc, gates, store, setting)?;
     let identity = Operator::OfSets(SetOperator::Identity);

@@ -67,7 +67,8 @@ fn in_state<G: Gates>(
     state: u32,
 ) -> Result<Node, AllocError>
     ensures keeps { Keeps G.belongs G.node_value gates.old gates.new }
-    ensures is { IfOk result (λ n. Computes G.belongs G.node_value gates.new n (λ x. x (first_at fixed cells state + place))) }
+    ensures is { IfOk result (λ n. Computes G.belongs G.node_value gates.new n
+        (λ x. x (first_at fixed cells state + place))) }
 {
     let first = first_variable(cells, fixed, state)?;
     let variable = sum_of(first, place as u64)?;
@@ -85,7 +86,8 @@ fn ever<G: Gates>(
 ) -> Result<Node, AllocError>
     ensures keeps { Keeps G.belongs G.node_value gates.old gates.new }
     ensures belongs { IfOk result (λ n. G.belongs gates.new n) }
-    ensures ever { IfOk result (λ n. (x : ℕ → Bool) → (G.node_value gates.new x n ≡ true) ↔ IsEver x fixed cells states place) }
+    ensures ever { IfOk result (λ n. (x : ℕ → Bool) → (G.node_value gates.new x n ≡ true)
+        ↔ IsEver x fixed cells states place) }
 {
     let mut any = gates.constant(false);
     for state in 0..states {
@@ -213,7 +215,8 @@ fn number_kept<G: Gates>(
     requires { 0 < bounds.now.states }
     ensures keeps { Keeps G.belongs G.node_value gates.old gates.new }
     ensures belongs { IfOk result (λ n. G.belongs gates.new n) }
-    ensures kept { IfOk result (λ n. (x : ℕ → Bool) (w : World) (scope : ScopeOfSig) → Decodes bounds.now layout.now x w.lasso
+    ensures kept { IfOk result (λ n. (x : ℕ → Bool) (w : World) (scope : ScopeOfSig) →
+        Decodes bounds.now layout.now x w.lasso
         → scope.number ≡ Some number → scope.exact ≡ exact → (G.node_value gates.new x n ≡ true) ↔ KeepsNumber w sig scope) }
 {
     let relations = bounds.relations.as_slice();
@@ -244,7 +247,8 @@ fn sig_keeps<G: Gates>(
     requires { 0 < bounds.now.states }
     ensures keeps { Keeps G.belongs G.node_value gates.old gates.new }
     ensures belongs { IfOk result (λ n. G.belongs gates.new n) }
-    ensures kept { IfOk result (λ n. (x : ℕ → Bool) (w : World) → Decodes bounds.now layout.now x w.lasso
+    ensures kept { IfOk result (λ n. (x : ℕ → Bool) (w : World) →
+        Decodes bounds.now layout.now x w.lasso
         → (G.node_value gates.new x n ≡ true) ↔ KeepsNumber w sig scope) }
 {
     match scope.number {
@@ -271,7 +275,8 @@ pub fn keeps_numbers<G: Gates>(
     requires { 0 < bounds.now.states }
     ensures keeps { Keeps G.belongs G.node_value gates.old gates.new }
     ensures belongs { IfOk result (λ n. G.belongs gates.new n) }
-    ensures kept { IfOk result (λ n. (x : ℕ → Bool) (w : World) → Decodes bounds.now layout.now x w.lasso
+    ensures kept { IfOk result (λ n. (x : ℕ → Bool) (w : World) →
+        Decodes bounds.now layout.now x w.lasso
         → (G.node_value gates.new x n ≡ true) ↔ KeepsAll scopes.now.numbers w) }
 {
     let mut all = gates.constant(true);

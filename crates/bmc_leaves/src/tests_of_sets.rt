@@ -26,7 +26,8 @@ fn push_some<G: Gates>(
     ensures keeps { Keeps G.belongs G.node_value gates.old gates.new }
     ensures stored { OnOk result (AreStored (G.belongs gates.new) store.new) }
     ensures beside { OnOk result (AreBeside store.old store.new) }
-    ensures right { OnOk result ((r : Reading) (a : Term) → AreRight r (G.node_value gates.old) store.old.matrices.items a set.now
+    ensures right { OnOk result ((r : Reading) (a : Term) →
+        AreRight r (G.node_value gates.old) store.old.matrices.items a set.now
         → HasTop store.old.rows.items store.new.rows.items (IsRight r (G.node_value gates.new) (asks_for Quantity.Some a))) }
 {
     let question = TestOperator::OfSets(Question::Some);
@@ -45,7 +46,8 @@ fn push_lone<G: Gates>(
     ensures keeps { Keeps G.belongs G.node_value gates.old gates.new }
     ensures stored { OnOk result (AreStored (G.belongs gates.new) store.new) }
     ensures beside { OnOk result (AreBeside store.old store.new) }
-    ensures right { OnOk result ((r : Reading) (a : Term) → AreRight r (G.node_value gates.old) store.old.matrices.items a set.now
+    ensures right { OnOk result ((r : Reading) (a : Term) →
+        AreRight r (G.node_value gates.old) store.old.matrices.items a set.now
         → HasTop store.old.rows.items store.new.rows.items (IsRight r (G.node_value gates.new) (asks_for Quantity.Lone a))) }
 {
     let question = TestOperator::OfSets(Question::Lone);
@@ -64,7 +66,8 @@ fn push_one<G: Gates>(
     ensures keeps { Keeps G.belongs G.node_value gates.old gates.new }
     ensures stored { OnOk result (AreStored (G.belongs gates.new) store.new) }
     ensures beside { OnOk result (AreBeside store.old store.new) }
-    ensures right { OnOk result ((r : Reading) (a : Term) → AreRight r (G.node_value gates.old) store.old.matrices.items a set.now
+    ensures right { OnOk result ((r : Reading) (a : Term) →
+        AreRight r (G.node_value gates.old) store.old.matrices.items a set.now
         → HasTop store.old.rows.items store.new.rows.items (IsRight r (G.node_value gates.new) (asks_for Quantity.One a))) }
 {
     push_some(alloc, gates, store, set)?;
@@ -84,7 +87,8 @@ fn push_no<G: Gates>(
     ensures keeps { Keeps G.belongs G.node_value gates.old gates.new }
     ensures stored { OnOk result (AreStored (G.belongs gates.new) store.new) }
     ensures beside { OnOk result (AreBeside store.old store.new) }
-    ensures right { OnOk result ((r : Reading) (a : Term) → AreRight r (G.node_value gates.old) store.old.matrices.items a set.now
+    ensures right { OnOk result ((r : Reading) (a : Term) →
+        AreRight r (G.node_value gates.old) store.old.matrices.items a set.now
         → HasTop store.old.rows.items store.new.rows.items (IsRight r (G.node_value gates.new) (asks_for Quantity.No a))) }
 {
     push_some(alloc, gates, store, set)?;
@@ -104,7 +108,8 @@ pub fn push_tested<G: Gates>(
     ensures keeps { Keeps G.belongs G.node_value gates.old gates.new }
     ensures stored { OnOk result (AreStored (G.belongs gates.new) store.new) }
     ensures beside { OnOk result (AreBeside store.old store.new) }
-    ensures right { OnOk result ((r : Reading) (a : Term) → AreRight r (G.node_value gates.old) store.old.matrices.items a set.now
+    ensures right { OnOk result ((r : Reading) (a : Term) →
+        AreRight r (G.node_value gates.old) store.old.matrices.items a set.now
         → HasTop store.old.rows.items store.new.rows.items (IsRight r (G.node_value gates.new) (asks_for quantity a))) }
 {
     match quantity {
@@ -160,7 +165,9 @@ pub fn push_inside<G: Gates>(
     ensures keeps { Keeps G.belongs G.node_value gates.old gates.new }
     ensures stored { OnOk result (AreStored (G.belongs gates.new) store.new) }
     ensures beside { OnOk result (AreBeside store.old store.new) }
-    ensures right { OnOk result ((r : Reading) (e f : Term) → AreRight r (G.node_value gates.old) store.old.matrices.items e a.now → AreRight r (G.node_value gates.old) store.old.matrices.items f b.now
+    ensures right { OnOk result ((r : Reading) (e f : Term) →
+        AreRight r (G.node_value gates.old) store.old.matrices.items e a.now →
+        AreRight r (G.node_value gates.old) store.old.matrices.items f b.now
         → HasTop store.old.rows.items store.new.rows.items (IsRight r (G.node_value gates.new) (lies_in e f))) }
 {
     let question = TestOperator::OfSets(Question::Inside);
@@ -180,7 +187,9 @@ pub fn push_equal<G: Gates>(
     ensures keeps { Keeps G.belongs G.node_value gates.old gates.new }
     ensures stored { OnOk result (AreStored (G.belongs gates.new) store.new) }
     ensures beside { OnOk result (AreBeside store.old store.new) }
-    ensures right { OnOk result ((r : Reading) (e f : Term) → AreRight r (G.node_value gates.old) store.old.matrices.items e a.now → AreRight r (G.node_value gates.old) store.old.matrices.items f b.now
+    ensures right { OnOk result ((r : Reading) (e f : Term) →
+        AreRight r (G.node_value gates.old) store.old.matrices.items e a.now →
+        AreRight r (G.node_value gates.old) store.old.matrices.items f b.now
         → HasTop store.old.rows.items store.new.rows.items (IsRight r (G.node_value gates.new) (equals e f))) }
 {
     push_inside(alloc, gates, store, a, b)?;
@@ -202,7 +211,9 @@ fn push_lying<G: Gates>(
     ensures keeps { Keeps G.belongs G.node_value gates.old gates.new }
     ensures stored { OnOk result (AreStored (G.belongs gates.new) store.new) }
     ensures beside { OnOk result (AreBeside store.old store.new) }
-    ensures right { OnOk result ((r : Reading) (e f : Term) → AreRight r (G.node_value gates.old) store.old.matrices.items e a.now → AreRight r (G.node_value gates.old) store.old.matrices.items f b.now
+    ensures right { OnOk result ((r : Reading) (e f : Term) →
+        AreRight r (G.node_value gates.old) store.old.matrices.items e a.now →
+        AreRight r (G.node_value gates.old) store.old.matrices.items f b.now
         → HasTop store.old.rows.items store.new.rows.items (SaysBoth r (G.node_value gates.new) (lies_in e f) (asks_for quantity e))) }
 {
     push_inside(alloc, gates, store, a, b)?;
@@ -225,7 +236,9 @@ pub fn push_within<G: Gates>(
     ensures keeps { Keeps G.belongs G.node_value gates.old gates.new }
     ensures stored { OnOk result (AreStored (G.belongs gates.new) store.new) }
     ensures beside { OnOk result (AreBeside store.old store.new) }
-    ensures right { OnOk result ((r : Reading) (e f : Term) → AsksNothing f → AreRight r (G.node_value gates.old) store.old.matrices.items e a.now → AreRight r (G.node_value gates.old) store.old.matrices.items f b.now
+    ensures right { OnOk result ((r : Reading) (e f : Term) → AsksNothing f →
+        AreRight r (G.node_value gates.old) store.old.matrices.items e a.now →
+        AreRight r (G.node_value gates.old) store.old.matrices.items f b.now
         → HasTop store.old.rows.items store.new.rows.items (IsRight r (G.node_value gates.new) (within e word f))) }
 {
     match word {

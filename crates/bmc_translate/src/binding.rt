@@ -194,7 +194,8 @@ fn plan_atom<'a>(
     number: usize,
     mark: Mark,
 ) -> Result<(), AllocError>
-    ensures { OnOk result (TakesAtom (claim_of formula.now) (variable_of variable.now) tuple.now scope nodes number mark plan.old plan.new) }
+    ensures { OnOk result (TakesAtom (claim_of formula.now) (variable_of variable.now) tuple.now
+        scope nodes number mark plan.old plan.new) }
 {
     let numbers = tuple.numbers();
     if numbers.len() != 1 {
@@ -222,7 +223,8 @@ fn plan_atoms<'a>(
     nodes: usize,
     mark: Mark,
 ) -> Result<(), AllocError>
-    ensures { OnOk result (TakesAtoms (claim_of formula.now) (variable_of variable.now) tuples.now scope nodes mark 0 plan.old plan.new) }
+    ensures { OnOk result (TakesAtoms (claim_of formula.now) (variable_of variable.now) tuples.now
+        scope nodes mark 0 plan.old plan.new) }
 {
     for place in 0..tuples.len() {
         let number = tuples.len() - 1 - place;
@@ -246,7 +248,8 @@ pub fn bind_all<'a, G: Gates>(
 ) -> Result<(), AllocError>
     requires { AreStored (G.belongs gates.now) store.old }
     ensures stored { OnOk result (AreStored (G.belongs gates.now) store.new) }
-    ensures goes { OnOk result (GoesOn setting.now (Task.ForAll formula.entry variable.entry scope) (G.node_value gates.now) (G.node_value gates.now) store.old store.new plan.old plan.new) }
+    ensures goes { OnOk result (GoesOn setting.now (Task.ForAll formula.entry variable.entry scope)
+        (G.node_value gates.now) (G.node_value gates.now) store.old store.new plan.old plan.new) }
 {
     let bound = pop_value(alloc, plan);
     let count = setting.frame.shown.len();

@@ -28,7 +28,8 @@ fn plan_sets_test<'a>(
     scope: usize,
     last: RowStep,
 ) -> Result<(), AllocError>
-    ensures { OnOk result (ArePlanned plan.old plan.new (Task.Sets a.entry scope ∷ Task.Sets b.entry scope ∷ Task.Rows last ∷ [])) }
+    ensures { OnOk result (ArePlanned plan.old plan.new
+        (Task.Sets a.entry scope ∷ Task.Sets b.entry scope ∷ Task.Rows last ∷ [])) }
 {
     first_three(
         plan,
@@ -45,7 +46,8 @@ fn plan_set_test<'a>(
     scope: usize,
     last: RowStep,
 ) -> Result<(), AllocError>
-    ensures { OnOk result (ArePlanned plan.old plan.new (Task.Sets a.entry scope ∷ Task.Rows last ∷ [])) }
+    ensures { OnOk result (ArePlanned plan.old plan.new
+        (Task.Sets a.entry scope ∷ Task.Rows last ∷ [])) }
 {
     first_two(plan, Task::Sets(a, scope), Task::Rows(last))
 }
@@ -58,7 +60,8 @@ fn plan_two<'a>(
     scope: usize,
     step: RowStep,
 ) -> Result<(), AllocError>
-    ensures { OnOk result (ArePlanned plan.old plan.new (Task.Holds f.entry scope ∷ Task.Holds g.entry scope ∷ Task.Rows step ∷ [])) }
+    ensures { OnOk result (ArePlanned plan.old plan.new
+        (Task.Holds f.entry scope ∷ Task.Holds g.entry scope ∷ Task.Rows step ∷ [])) }
 {
     first_three(
         plan,
@@ -75,7 +78,8 @@ fn plan_one<'a>(
     scope: usize,
     step: RowStep,
 ) -> Result<(), AllocError>
-    ensures { OnOk result (ArePlanned plan.old plan.new (Task.Holds f.entry scope ∷ Task.Rows step ∷ [])) }
+    ensures { OnOk result (ArePlanned plan.old plan.new
+        (Task.Holds f.entry scope ∷ Task.Rows step ∷ [])) }
 {
     first_two(plan, Task::Holds(f, scope), Task::Rows(step))
 }
@@ -100,7 +104,8 @@ fn open_inside<'a>(
     scope: usize,
 ) -> Result<Option<bool>, AllocError>
     requires { claim_of formula.now ≡ lies_in (term_of a.now) (term_of b.now) }
-    ensures { IfOk result (λ row. IsOpenedWith row (Task.Holds formula.entry scope) plan.old plan.new) }
+    ensures { IfOk result (λ row. IsOpenedWith row (Task.Holds formula.entry scope) plan.old
+        plan.new) }
 {
     let question = RowStep::Asked(TestOperator::OfSets(Question::Inside));
     plan_sets_test(plan, a, b, scope, question)?;
@@ -118,7 +123,8 @@ fn open_equal<'a>(
     scope: usize,
 ) -> Result<Option<bool>, AllocError>
     requires { claim_of formula.now ≡ equals (term_of a.now) (term_of b.now) }
-    ensures { IfOk result (λ row. IsOpenedWith row (Task.Holds formula.entry scope) plan.old plan.new) }
+    ensures { IfOk result (λ row. IsOpenedWith row (Task.Holds formula.entry scope) plan.old
+        plan.new) }
 {
     plan_sets_test(plan, a, b, scope, RowStep::Equal)?;
     // for the proof: only the clauses name the formula
@@ -164,7 +170,8 @@ fn open_within<'a>(
     scope: usize,
 ) -> Result<Option<bool>, AllocError>
     requires { claim_of formula.now ≡ lies_within (term_of a.now) word (term_of b.now) }
-    ensures { IfOk result (λ row. IsOpenedWith row (Task.Holds formula.entry scope) plan.old plan.new) }
+    ensures { IfOk result (λ row. IsOpenedWith row (Task.Holds formula.entry scope) plan.old
+        plan.new) }
 {
     // for the proof: only the clauses name the formula
     let _ = formula;
@@ -186,7 +193,8 @@ fn open_test<'a>(
     scope: usize,
 ) -> Result<Option<bool>, AllocError>
     requires { claim_of formula.now ≡ asks_for quantity (term_of a.now) }
-    ensures { IfOk result (λ row. IsOpenedWith row (Task.Holds formula.entry scope) plan.old plan.new) }
+    ensures { IfOk result (λ row. IsOpenedWith row (Task.Holds formula.entry scope) plan.old
+        plan.new) }
 {
     plan_set_test(plan, a, scope, RowStep::Tested(quantity))?;
     // for the proof: only the clauses name the formula
@@ -202,7 +210,8 @@ fn open_not<'a>(
     scope: usize,
 ) -> Result<Option<bool>, AllocError>
     requires { claim_of formula.now ≡ negation (claim_of f.now) }
-    ensures { IfOk result (λ row. IsOpenedWith row (Task.Holds formula.entry scope) plan.old plan.new) }
+    ensures { IfOk result (λ row. IsOpenedWith row (Task.Holds formula.entry scope) plan.old
+        plan.new) }
 {
     plan_one(plan, f, scope, RowStep::Negate)?;
     // for the proof: only the clauses name the formula
@@ -218,7 +227,8 @@ fn open_every<'a>(
     scope: usize,
 ) -> Result<Option<bool>, AllocError>
     requires { claim_of formula.now ≡ every (claim_list (map claim_of list.now)) }
-    ensures { IfOk result (λ row. IsOpenedWith row (Task.Holds formula.entry scope) plan.old plan.new) }
+    ensures { IfOk result (λ row. IsOpenedWith row (Task.Holds formula.entry scope) plan.old
+        plan.new) }
 {
     plan_every(plan, list, scope)?;
     // for the proof: only the clauses name the formula
@@ -235,7 +245,8 @@ fn open_neighbour<'a>(
     scope: usize,
 ) -> Result<Option<bool>, AllocError>
     requires { claim_of formula.now ≡ temporal op (claim_of f.now) }
-    ensures { IfOk result (λ row. IsOpenedWith row (Task.Holds formula.entry scope) plan.old plan.new) }
+    ensures { IfOk result (λ row. IsOpenedWith row (Task.Holds formula.entry scope) plan.old
+        plan.new) }
 {
     // for the proof: only the clauses name the formula
     let _ = formula;
@@ -262,7 +273,8 @@ fn open_along<'a>(
     scope: usize,
 ) -> Result<Option<bool>, AllocError>
     requires { claim_of formula.now ≡ temporal_pair op (claim_of f.now) (claim_of g.now) }
-    ensures { IfOk result (λ row. IsOpenedWith row (Task.Holds formula.entry scope) plan.old plan.new) }
+    ensures { IfOk result (λ row. IsOpenedWith row (Task.Holds formula.entry scope) plan.old
+        plan.new) }
 {
     // for the proof: only the clauses name the formula
     let _ = formula;
@@ -289,7 +301,8 @@ fn open_connect<'a>(
     scope: usize,
 ) -> Result<Option<bool>, AllocError>
     requires { claim_of formula.now ≡ connect op (claim_of f.now) (claim_of g.now) }
-    ensures { IfOk result (λ row. IsOpenedWith row (Task.Holds formula.entry scope) plan.old plan.new) }
+    ensures { IfOk result (λ row. IsOpenedWith row (Task.Holds formula.entry scope) plan.old
+        plan.new) }
 {
     // for the proof: only the clauses name the formula
     let _ = formula;
@@ -310,7 +323,9 @@ fn plan_choice<'a>(
     h: &'a Formula,
     scope: usize,
 ) -> Result<(), AllocError>
-    ensures { OnOk result (ArePlanned plan.old plan.new (Task.Holds f.entry scope ∷ Task.Holds g.entry scope ∷ Task.Holds h.entry scope ∷ Task.Rows (RowStep.Choose) ∷ [])) }
+    ensures { OnOk result (ArePlanned plan.old plan.new
+        (Task.Holds f.entry scope ∷ Task.Holds g.entry scope ∷ Task.Holds h.entry scope ∷ Task.Rows
+        (RowStep.Choose) ∷ [])) }
 {
     first(plan, Task::Rows(RowStep::Choose))?;
     first_three(
@@ -331,8 +346,10 @@ fn open_choice<'a>(
     h: &'a Formula,
     scope: usize,
 ) -> Result<Option<bool>, AllocError>
-    requires { claim_of formula.now ≡ choose_claim (claim_of f.now) (claim_of g.now) (claim_of h.now) }
-    ensures { IfOk result (λ row. IsOpenedWith row (Task.Holds formula.entry scope) plan.old plan.new) }
+    requires { claim_of formula.now ≡ choose_claim (claim_of f.now) (claim_of g.now)
+        (claim_of h.now) }
+    ensures { IfOk result (λ row. IsOpenedWith row (Task.Holds formula.entry scope) plan.old
+        plan.new) }
 {
     plan_choice(plan, f, g, h, scope)?;
     // for the proof: only the clauses name the formula
@@ -347,7 +364,9 @@ fn plan_all<'a>(
     f: &'a Formula,
     scope: usize,
 ) -> Result<(), AllocError>
-    ensures { OnOk result ((bound : Bor ExprTree) × (bound.now ≡ variable.now.bound) × ArePlanned plan.old plan.new (Task.Sets bound scope ∷ Task.ForAll f.entry variable.entry scope ∷ [])) }
+    ensures { OnOk result ((bound : Bor ExprTree) × (bound.now ≡ variable.now.bound)
+        × ArePlanned plan.old plan.new (Task.Sets bound scope ∷ Task.ForAll f.entry variable.entry
+        scope ∷ [])) }
 {
     let bound = &variable.bound;
     first_two(
@@ -366,8 +385,10 @@ fn open_all<'a>(
     f: &'a Formula,
     scope: usize,
 ) -> Result<Option<bool>, AllocError>
-    requires { claim_of formula.now ≡ for_all (variable_list (map variable_of list.now)) (claim_of f.now) }
-    ensures { IfOk result (λ row. IsOpenedWith row (Task.Holds formula.entry scope) plan.old plan.new) }
+    requires { claim_of formula.now ≡ for_all (variable_list (map variable_of list.now))
+        (claim_of f.now) }
+    ensures { IfOk result (λ row. IsOpenedWith row (Task.Holds formula.entry scope) plan.old
+        plan.new) }
 {
     // for the proof: only the clauses name the formula
     let _ = formula;
@@ -410,7 +431,8 @@ fn open_rest<'a>(
     scope: usize,
 ) -> Result<Option<bool>, AllocError>
     requires { ¬ IsPlain (claim_of formula.now) }
-    ensures { IfOk result (λ row. IsOpenedWith row (Task.Holds formula.entry scope) plan.old plan.new) }
+    ensures { IfOk result (λ row. IsOpenedWith row (Task.Holds formula.entry scope) plan.old
+        plan.new) }
 {
     let row = plan_rest(plan, formula, scope)?;
     Ok(row)
@@ -423,7 +445,8 @@ fn plan_formula<'a>(
     formula: &'a Formula,
     scope: usize,
 ) -> Result<Option<bool>, AllocError>
-    ensures { IfOk result (λ row. IsOpenedWith row (Task.Holds formula.entry scope) plan.old plan.new) }
+    ensures { IfOk result (λ row. IsOpenedWith row (Task.Holds formula.entry scope) plan.old
+        plan.new) }
 {
     match formula {
         Formula::Inside(a, b) => open_inside(plan, formula, a, b, scope),
@@ -455,7 +478,9 @@ fn put_row<G: Gates>(
     requires { AreStored (G.belongs gates.now) store.old }
     ensures stored { OnOk result (AreStored (G.belongs gates.now) store.new) }
     ensures none { OnOk result (row ≡ None → store.new ≡ store.old) }
-    ensures some { OnOk result ((value : Bool) → row ≡ Some value → IsPutRow store.old store.new (G.node_value gates.now) (length setting.now.frame.now.shown.items) value) }
+    ensures some { OnOk result ((value : Bool) → row ≡ Some value →
+        IsPutRow store.old store.new (G.node_value gates.now)
+        (length setting.now.frame.now.shown.items) value) }
 {
     match row {
         None => Ok(()),
@@ -478,7 +503,8 @@ pub fn open_formula<'a, G: Gates>(
 ) -> Result<(), AllocError>
     requires { AreStored (G.belongs gates.now) store.old }
     ensures stored { OnOk result (AreStored (G.belongs gates.now) store.new) }
-    ensures goes { OnOk result (GoesOn setting.now (Task.Holds formula.entry scope) (G.node_value gates.now) (G.node_value gates.now) store.old store.new plan.old plan.new) }
+    ensures goes { OnOk result (GoesOn setting.now (Task.Holds formula.entry scope)
+        (G.node_value gates.now) (G.node_value gates.now) store.old store.new plan.old plan.new) }
 {
     let row = plan_formula(plan, formula, scope)?;
     put_row(alloc, gates, store, setting, row)?;

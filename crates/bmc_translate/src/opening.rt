@@ -112,7 +112,9 @@ fn plan_pair<'a>(
     scope: usize,
     op: SetOperator,
 ) -> Result<(), AllocError>
-    ensures { OnOk result (ArePlanned plan.old plan.new (Task.Sets a.entry scope ∷ Task.Sets b.entry scope ∷ Task.Values (ValueStep.Two (Operator.OfSets op)) ∷ [])) }
+    ensures { OnOk result (ArePlanned plan.old plan.new
+        (Task.Sets a.entry scope ∷ Task.Sets b.entry scope ∷ Task.Values
+        (ValueStep.Two (Operator.OfSets op)) ∷ [])) }
 {
     let step = Task::Values(ValueStep::Two(Operator::OfSets(op)));
     first_three(plan, Task::Sets(a, scope), Task::Sets(b, scope), step)
@@ -125,7 +127,8 @@ fn plan_turned<'a>(
     scope: usize,
     op: SetOperator,
 ) -> Result<(), AllocError>
-    ensures { OnOk result (ArePlanned plan.old plan.new (Task.Sets a.entry scope ∷ Task.Values (ValueStep.One (Operator.OfSets op)) ∷ [])) }
+    ensures { OnOk result (ArePlanned plan.old plan.new
+        (Task.Sets a.entry scope ∷ Task.Values (ValueStep.One (Operator.OfSets op)) ∷ [])) }
 {
     let step = Task::Values(ValueStep::One(Operator::OfSets(op)));
     first_two(plan, Task::Sets(a, scope), step)
@@ -133,7 +136,8 @@ fn plan_turned<'a>(
 
 /// Plans what an expression has at the next positions.
 fn plan_next<'a>(plan: &mut Plan<'a>, a: &'a Expr, scope: usize) -> Result<(), AllocError>
-    ensures { OnOk result (ArePlanned plan.old plan.new (Task.Sets a.entry scope ∷ Task.Values (ValueStep.Next) ∷ [])) }
+    ensures { OnOk result (ArePlanned plan.old plan.new
+        (Task.Sets a.entry scope ∷ Task.Values (ValueStep.Next) ∷ [])) }
 {
     first_two(plan, Task::Sets(a, scope), Task::Values(ValueStep::Next))
 }
@@ -319,7 +323,8 @@ fn open_relation(
     number: usize,
 ) -> Result<(), AllocError>
     ensures inside { OnOk result (number < length setting.now.bounds.now.relations) }
-    ensures put { OnOk result ((v : Vec ℕ Heap) × IsPut plan.old plan.new v × HoldsLeaf plan.old.kept.items number v.items) }
+    ensures put { OnOk result ((v : Vec ℕ Heap) × IsPut plan.old plan.new v
+        × HoldsLeaf plan.old.kept.items number v.items) }
 {
     let value = relation_value(alloc, plan, setting, number)?;
     push_value(plan, value)?;
@@ -389,7 +394,8 @@ fn open_name<G: Gates>(
     requires store { AreStored (G.belongs gates.now) store.old }
     requires name { term_of expr.now ≡ name_of name }
     ensures stored { OnOk result (AreStored (G.belongs gates.now) store.new) }
-    ensures goes { OnOk result (GoesOn setting.now (Task.Sets expr.entry scope) (G.node_value gates.now) (G.node_value gates.now) store.old store.new plan.old plan.new) }
+    ensures goes { OnOk result (GoesOn setting.now (Task.Sets expr.entry scope)
+        (G.node_value gates.now) (G.node_value gates.now) store.old store.new plan.old plan.new) }
 {
     let atom = atom_of(&plan.names, scope, name);
     let value = name_sets(alloc, gates, store, setting, atom)?;
@@ -416,7 +422,9 @@ fn open_constant(
     setting: &Setting,
     behind: usize,
 ) -> Result<(), AllocError>
-    ensures { OnOk result ((v : Vec ℕ Heap) × (number : ℕ) × (number ≡ length setting.now.bounds.now.relations + behind) × IsPut plan.old plan.new v × HoldsLeaf plan.old.kept.items number v.items) }
+    ensures { OnOk result ((v : Vec ℕ Heap) × (number : ℕ)
+        × (number ≡ length setting.now.bounds.now.relations + behind) × IsPut plan.old plan.new v
+        × HoldsLeaf plan.old.kept.items number v.items) }
 {
     let number = constant_number(setting, behind)?;
     let value = kept_value(alloc, plan, number)?;
@@ -491,7 +499,8 @@ fn open_empty<G: Gates>(
     requires store { AreStored (G.belongs gates.now) store.old }
     requires none { term_of expr.now ≡ nothing }
     ensures stored { OnOk result (AreStored (G.belongs gates.now) store.new) }
-    ensures goes { OnOk result (GoesOn setting.now (Task.Sets expr.entry scope) (G.node_value gates.now) (G.node_value gates.now) store.old store.new plan.old plan.new) }
+    ensures goes { OnOk result (GoesOn setting.now (Task.Sets expr.entry scope)
+        (G.node_value gates.now) (G.node_value gates.now) store.old store.new plan.old plan.new) }
 {
     let value = no_set(alloc, gates, store, setting)?;
     push_value(plan, value)?;
@@ -514,7 +523,8 @@ fn open_others<'a, G: Gates>(
     requires store { AreStored (G.belongs gates.now) store.old }
     requires other { IsNoRelation (term_of expr.now) }
     ensures stored { OnOk result (AreStored (G.belongs gates.now) store.new) }
-    ensures opened { OnOk result (IsPlainTerm (term_of expr.now) → (store.new ≡ store.old) × IsOpened (Task.Sets expr.entry scope) plan.old plan.new) }
+    ensures opened { OnOk result (IsPlainTerm (term_of expr.now) → (store.new ≡ store.old)
+        × IsOpened (Task.Sets expr.entry scope) plan.old plan.new) }
 {
     if is_leaf(expr) {
         let value = leaf_sets(alloc, gates, store, plan, setting, expr)?;
@@ -537,7 +547,8 @@ pub fn open_sets<'a, G: Gates>(
 ) -> Result<(), AllocError>
     requires { AreStored (G.belongs gates.now) store.old }
     ensures stored { OnOk result (AreStored (G.belongs gates.now) store.new) }
-    ensures goes { OnOk result (GoesOn setting.now (Task.Sets expr.entry scope) (G.node_value gates.now) (G.node_value gates.now) store.old store.new plan.old plan.new) }
+    ensures goes { OnOk result (GoesOn setting.now (Task.Sets expr.entry scope)
+        (G.node_value gates.now) (G.node_value gates.now) store.old store.new plan.old plan.new) }
 {
     match expr {
         Expr::Sig(sig) => {

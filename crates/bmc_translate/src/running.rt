@@ -43,7 +43,8 @@ fn two_values<G: Gates>(
     requires { AreStored (G.belongs gates.old) store.old }
     ensures keeps { Keeps G.belongs G.node_value gates.old gates.new }
     ensures stored { OnOk result (AreStored (G.belongs gates.new) store.new) }
-    ensures goes { OnOk result (GoesOn setting.now (Task.Values (ValueStep.Two op)) (G.node_value gates.old) (G.node_value gates.new) store.old store.new plan.old plan.new) }
+    ensures goes { OnOk result (GoesOn setting.now (Task.Values (ValueStep.Two op))
+        (G.node_value gates.old) (G.node_value gates.new) store.old store.new plan.old plan.new) }
 {
     let second = pop_value(alloc, plan);
     let first = pop_value(alloc, plan);
@@ -64,7 +65,8 @@ fn one_value<G: Gates>(
     requires { AreStored (G.belongs gates.old) store.old }
     ensures keeps { Keeps G.belongs G.node_value gates.old gates.new }
     ensures stored { OnOk result (AreStored (G.belongs gates.new) store.new) }
-    ensures goes { OnOk result (GoesOn setting.now (Task.Values (ValueStep.One op)) (G.node_value gates.old) (G.node_value gates.new) store.old store.new plan.old plan.new) }
+    ensures goes { OnOk result (GoesOn setting.now (Task.Values (ValueStep.One op))
+        (G.node_value gates.old) (G.node_value gates.new) store.old store.new plan.old plan.new) }
 {
     let value = pop_value(alloc, plan);
     let new = combined(alloc, gates, store, setting.universe, op, &value, &value)?;
@@ -149,7 +151,8 @@ fn value_step<G: Gates>(
     requires { AreStored (G.belongs gates.old) store.old }
     ensures keeps { Keeps G.belongs G.node_value gates.old gates.new }
     ensures stored { OnOk result (AreStored (G.belongs gates.new) store.new) }
-    ensures goes { OnOk result (GoesOn setting.now (Task.Values step) (G.node_value gates.old) (G.node_value gates.new) store.old store.new plan.old plan.new) }
+    ensures goes { OnOk result (GoesOn setting.now (Task.Values step) (G.node_value gates.old)
+        (G.node_value gates.new) store.old store.new plan.old plan.new) }
 {
     match step {
         ValueStep::Two(op) => {
@@ -188,7 +191,8 @@ fn ask_values<G: Gates>(
     requires { AreStored (G.belongs gates.old) store.old }
     ensures keeps { Keeps G.belongs G.node_value gates.old gates.new }
     ensures stored { OnOk result (AreStored (G.belongs gates.new) store.new) }
-    ensures goes { OnOk result (GoesOn setting.now (Task.Rows (RowStep.Asked question)) (G.node_value gates.old) (G.node_value gates.new) store.old store.new plan.old plan.new) }
+    ensures goes { OnOk result (GoesOn setting.now (Task.Rows (RowStep.Asked question))
+        (G.node_value gates.old) (G.node_value gates.new) store.old store.new plan.old plan.new) }
 {
     let second = pop_value(alloc, plan);
     let first = pop_value(alloc, plan);
@@ -209,7 +213,8 @@ fn equal_values<G: Gates>(
     requires { AreStored (G.belongs gates.old) store.old }
     ensures keeps { Keeps G.belongs G.node_value gates.old gates.new }
     ensures stored { OnOk result (AreStored (G.belongs gates.new) store.new) }
-    ensures goes { OnOk result (GoesOn setting.now (Task.Rows (RowStep.Equal)) (G.node_value gates.old) (G.node_value gates.new) store.old store.new plan.old plan.new) }
+    ensures goes { OnOk result (GoesOn setting.now (Task.Rows (RowStep.Equal))
+        (G.node_value gates.old) (G.node_value gates.new) store.old store.new plan.old plan.new) }
 {
     let second = pop_value(alloc, plan);
     let first = pop_value(alloc, plan);
@@ -231,7 +236,8 @@ fn test_value<G: Gates>(
     requires { AreStored (G.belongs gates.old) store.old }
     ensures keeps { Keeps G.belongs G.node_value gates.old gates.new }
     ensures stored { OnOk result (AreStored (G.belongs gates.new) store.new) }
-    ensures goes { OnOk result (GoesOn setting.now (Task.Rows (RowStep.Tested quantity)) (G.node_value gates.old) (G.node_value gates.new) store.old store.new plan.old plan.new) }
+    ensures goes { OnOk result (GoesOn setting.now (Task.Rows (RowStep.Tested quantity))
+        (G.node_value gates.old) (G.node_value gates.new) store.old store.new plan.old plan.new) }
 {
     let value = pop_value(alloc, plan);
     // for the proof: only the clauses name the setting
@@ -252,7 +258,8 @@ fn lies_values<G: Gates>(
     requires { AreStored (G.belongs gates.old) store.old }
     ensures keeps { Keeps G.belongs G.node_value gates.old gates.new }
     ensures stored { OnOk result (AreStored (G.belongs gates.new) store.new) }
-    ensures goes { OnOk result (GoesOn setting.now (Task.Rows (RowStep.Lies word)) (G.node_value gates.old) (G.node_value gates.new) store.old store.new plan.old plan.new) }
+    ensures goes { OnOk result (GoesOn setting.now (Task.Rows (RowStep.Lies word))
+        (G.node_value gates.old) (G.node_value gates.new) store.old store.new plan.old plan.new) }
 {
     let second = pop_value(alloc, plan);
     let first = pop_value(alloc, plan);
@@ -327,7 +334,8 @@ fn stack_step<G: Gates>(
     requires { AreStored (G.belongs gates.old) store.old }
     ensures keeps { Keeps G.belongs G.node_value gates.old gates.new }
     ensures stored { OnOk result (AreStored (G.belongs gates.new) store.new) }
-    ensures goes { OnOk result (RowsGoOn setting.now step (G.node_value gates.old) (G.node_value gates.new) store.old store.new) }
+    ensures goes { OnOk result (RowsGoOn setting.now step (G.node_value gates.old)
+        (G.node_value gates.new) store.old store.new) }
 {
     let count = setting.frame.shown.len();
     match step {
@@ -380,7 +388,8 @@ fn row_step<G: Gates>(
     requires { AreStored (G.belongs gates.old) store.old }
     ensures keeps { Keeps G.belongs G.node_value gates.old gates.new }
     ensures stored { OnOk result (AreStored (G.belongs gates.new) store.new) }
-    ensures goes { OnOk result (GoesOn setting.now (Task.Rows step) (G.node_value gates.old) (G.node_value gates.new) store.old store.new plan.old plan.new) }
+    ensures goes { OnOk result (GoesOn setting.now (Task.Rows step) (G.node_value gates.old)
+        (G.node_value gates.new) store.old store.new plan.old plan.new) }
 {
     match step {
         RowStep::Asked(question) => {
@@ -420,7 +429,8 @@ fn cut_all<G: Gates>(
 )
     requires { AreStored (G.belongs gates.now) store.old }
     ensures stored { AreStored (G.belongs gates.now) store.new }
-    ensures goes { GoesOn setting.now (Task.Cut mark names) (G.node_value gates.now) (G.node_value gates.now) store.old store.new plan.old plan.new }
+    ensures goes { GoesOn setting.now (Task.Cut mark names) (G.node_value gates.now)
+        (G.node_value gates.now) store.old store.new plan.old plan.new }
 {
     // for the proof: only the clauses name the setting
     let _ = setting.frame.states;
@@ -466,7 +476,8 @@ fn step<'a, G: Gates>(
     requires { AreStored (G.belongs gates.old) store.old }
     ensures keeps { Keeps G.belongs G.node_value gates.old gates.new }
     ensures stored { OnOk result (AreStored (G.belongs gates.new) store.new) }
-    ensures goes { OnOk result (GoesOn setting.now (task.entry) (G.node_value gates.old) (G.node_value gates.new) store.old store.new plan.old plan.new) }
+    ensures goes { OnOk result (GoesOn setting.now (task.entry) (G.node_value gates.old)
+        (G.node_value gates.new) store.old store.new plan.old plan.new) }
 {
     match task {
         Task::Sets(expr, scope) => {
@@ -518,8 +529,12 @@ fn advance<'a, G: Gates>(
     requires { AreStored (G.belongs gates.old) store.old }
     ensures keeps { Keeps G.belongs G.node_value gates.old gates.new }
     ensures stored { OnOk result (AreStored (G.belongs gates.new) store.new) }
-    ensures goes { IfOk result (λ more. IsTrue more → Advances setting.now (G.node_value gates.old) (G.node_value gates.new) store.old store.new plan.old plan.new) }
-    ensures ends { IfOk result (λ more. more ≡ false → Ends setting.now (G.node_value gates.old) (G.node_value gates.new) store.old store.new plan.old) }
+    ensures goes { IfOk result (λ more. IsTrue more →
+        Advances setting.now (G.node_value gates.old) (G.node_value gates.new) store.old store.new
+        plan.old plan.new) }
+    ensures ends { IfOk result (λ more. more ≡ false →
+        Ends setting.now (G.node_value gates.old) (G.node_value gates.new) store.old store.new
+        plan.old) }
 {
     match plan.tasks.pop() {
         None => Ok(false),
@@ -541,7 +556,8 @@ pub fn push_formula<G: Gates>(
     requires { AreStored (G.belongs gates.old) store.old }
     ensures keeps { Keeps G.belongs G.node_value gates.old gates.new }
     ensures stored { OnOk result (AreStored (G.belongs gates.new) store.new) }
-    ensures right { OnOk result ((depth : ℕ) → IsReading (reading_of setting.now depth) → IsRead depth (claim_of formula.now) → store.old.rows.items ≡ []
+    ensures right { OnOk result ((depth : ℕ) → IsReading (reading_of setting.now depth) →
+        IsRead depth (claim_of formula.now) → store.old.rows.items ≡ []
         → HasTop [] store.new.rows.items (IsRight (reading_of setting.now depth) (G.node_value gates.new) (claim_of formula.now))) }
 {
     let kept = kept_of(alloc, gates, store, setting, formula)?;

@@ -54,7 +54,9 @@ fn add_tuple(
     requires columns { set.old.arity ≡ upper.now.arity }
     requires place { place < length upper.now.tuples }
     ensures columns { set.new.arity ≡ set.old.arity }
-    ensures tuples { (t : List ℕ) → slice_get upper.now.tuples place ≡ Some t → IsStrictlySortedBy tuple_cmp (set.old.tuples ++ keep stays t []) → OnOk result (set.new.tuples ≡ set.old.tuples ++ keep stays t []) }
+    ensures tuples { (t : List ℕ) → slice_get upper.now.tuples place ≡ Some t →
+        IsStrictlySortedBy tuple_cmp (set.old.tuples ++ keep stays t []) →
+        OnOk result (set.new.tuples ≡ set.old.tuples ++ keep stays t []) }
 {
     if !stays {
         return Ok(());
@@ -67,7 +69,9 @@ fn put(alloc: Global, set: &mut TupleSet, upper: &TupleSet, place: usize) -> Res
     requires columns { set.old.arity ≡ upper.now.arity }
     requires place { place < length upper.now.tuples }
     ensures columns { set.new.arity ≡ set.old.arity }
-    ensures tuples { (t : List ℕ) → slice_get upper.now.tuples place ≡ Some t → IsStrictlySortedBy tuple_cmp (set.old.tuples ++ keep true t []) → OnOk result (set.new.tuples ≡ set.old.tuples ++ keep true t []) }
+    ensures tuples { (t : List ℕ) → slice_get upper.now.tuples place ≡ Some t →
+        IsStrictlySortedBy tuple_cmp (set.old.tuples ++ keep true t []) →
+        OnOk result (set.new.tuples ≡ set.old.tuples ++ keep true t []) }
 {
     // for the proof: this call's clause says that the bound is a set of tuples
     let _count = upper.len();
@@ -86,7 +90,8 @@ fn true_tuples(
     first: u64,
     assignment: &Assignment,
 ) -> Result<TupleSet, AllocError>
-    ensures { IfOk result (λ s. s ≡ record { arity = upper.now.arity; tuples = chosen (λ place. truth assignment.now (first + place)) 0 upper.now.tuples }) }
+    ensures { IfOk result (λ s. s ≡ record { arity = upper.now.arity; tuples = chosen
+        (λ place. truth assignment.now (first + place)) 0 upper.now.tuples }) }
 {
     let mut set = empty_like(alloc, upper);
     for place in 0..upper.len() {
@@ -105,7 +110,8 @@ fn empty_like(alloc: Global, upper: &TupleSet) -> TupleSet
 
 /// The first variable of a relation at a state.
 fn first_of(table: &Layout, relation: usize, state: u32) -> u64
-    ensures { (c : Cells) → slice_get table.now.relations.items relation ≡ Some c → cell_at c state < 2 ^ 64 → result ≡ cell_at c state }
+    ensures { (c : Cells) → slice_get table.now.relations.items relation ≡ Some c →
+        cell_at c state < 2 ^ 64 → result ≡ cell_at c state }
 {
     match table.relations.get(relation) {
         Some(cells) => cells.at(state),
@@ -121,7 +127,8 @@ fn state_of(
     state: u32,
     assignment: &Assignment,
 ) -> Result<State, AllocError>
-    ensures exact { HasFirsts relations.now table.now state → IfOk result (λ s. s ≡ decoded_state relations.now assignment.now state) }
+    ensures exact { HasFirsts relations.now table.now state →
+        IfOk result (λ s. s ≡ decoded_state relations.now assignment.now state) }
 {
     let mut sets = State::new(alloc);
     for (relation, bound) in relations.iter().enumerate() {
@@ -139,7 +146,9 @@ fn states_of(
     assignment: &Assignment,
 ) -> Result<Vec<State>, AllocError>
     ensures count { IfOk result (λ v. length v.items ≡ bounds.now.states) }
-    ensures exact { ((s : ℕ) → s < bounds.now.states → HasFirsts bounds.now.relations table.now s) → IfOk result (λ v. v.items ≡ map (decoded_state bounds.now.relations assignment.now) (range_with_len 0 bounds.now.states)) }
+    ensures exact { ((s : ℕ) → s < bounds.now.states → HasFirsts bounds.now.relations table.now s) →
+        IfOk result (λ v. v.items ≡ map (decoded_state bounds.now.relations assignment.now)
+        (range_with_len 0 bounds.now.states)) }
 {
     let mut states = Vec::new(alloc);
     for state in 0..bounds.states {
@@ -193,7 +202,8 @@ pub fn decode(alloc: Global, bounds: &Bounds, assignment: &Assignment) -> Result
     ensures count { IfOk result (λ l. length l.states ≡ bounds.now.states) }
     ensures exact { IsTable bounds.now → IfOk result (λ l. l ≡ decoded bounds.now assignment.now) }
     ensures candidate { IsTable bounds.now → IfOk result (IsCandidate bounds.now) }
-    ensures agrees { IsTable bounds.now → HasOneLoop bounds.now assignment.now → IfOk result (Agrees bounds.now assignment.now) }
+    ensures agrees { IsTable bounds.now → HasOneLoop bounds.now assignment.now →
+        IfOk result (Agrees bounds.now assignment.now) }
 {
     upper_sets(bounds.relations.as_slice());
     let table = layout(alloc, bounds)?;

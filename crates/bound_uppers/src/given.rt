@@ -54,7 +54,8 @@ fn owner_at(owners: &[u32], place: u32) -> Option<u32>
 fn add_given(alloc: Global, set: &mut TupleSet, is_given: bool, atom: u32) -> Result<(), AllocError>
     requires columns { set.old.arity ≡ 1 }
     requires number { atom < 16384 }
-    ensures { OnOk result (HasJust set.new 1 (λ t. In t set.old ⊎ (IsTrue is_given × (t ≡ atom ∷ [])))) }
+    ensures { OnOk result (HasJust set.new 1 (λ t. In t set.old
+        ⊎ (IsTrue is_given × (t ≡ atom ∷ [])))) }
 {
     if is_given {
         add_number(alloc, set, atom)?;
@@ -74,7 +75,8 @@ fn given_atoms(
     sig: u32,
 ) -> Result<TupleSet, AllocError>
     requires { span.first + span.count ≤ 16384 }
-    ensures { IfOk result (λ s. HasJust s 1 (λ t. (a : ℕ) × InSpan span a × (t ≡ a ∷ []) × IsTrue (is_given_by sigs.now owns (slice_get owners.now (a - span.first)) sig))) }
+    ensures { IfOk result (λ s. HasJust s 1 (λ t. (a : ℕ) × InSpan span a × (t ≡ a ∷ [])
+        × IsTrue (is_given_by sigs.now owns (slice_get owners.now (a - span.first)) sig))) }
 {
     let mut set = TupleSet::empty(alloc, 1);
     for place in 0..span.count {
@@ -124,7 +126,8 @@ fn own_set(
     requires constants { AreConstantsOf model.now.sigs constants.now }
     requires counted { length scopes.now.numbers ≡ length model.now.sigs }
     ensures columns { IfOk result IsColumn }
-    ensures given { stands ≡ sig → IfOk result (λ s. HasJust s 1 (InSigSet model.now scopes.now sig)) }
+    ensures given { stands ≡ sig → IfOk result (λ s.
+        HasJust s 1 (InSigSet model.now scopes.now sig)) }
 {
     if stands == sig {
         let set = sig_set(alloc, model, scopes, ups, spans, constants, sig)?;
@@ -153,7 +156,8 @@ fn sig_sets(
     requires spans { HasSpans scopes.now spans.now }
     requires constants { AreConstantsOf model.now.sigs constants.now }
     requires counted { length scopes.now.numbers ≡ length model.now.sigs }
-    ensures { IfOk result (λ v. AreSigSets model.now scopes.now standing.now (length model.now.sigs) v.items) }
+    ensures { IfOk result (λ v. AreSigSets model.now scopes.now standing.now (length model.now.sigs)
+        v.items) }
 {
     let mut sets = Vec::new(alloc);
     let mut number = 0u32;

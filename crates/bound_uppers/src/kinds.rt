@@ -102,7 +102,9 @@ fn visit_parent(
     rows: &mut Vec<Tuple>,
     waiting: &mut Vec<u32>,
 ) -> Result<(), AllocError>
-    ensures { OnOk result ((sigs : List Sig) (ups : List ℕ) → HasMore sigs ups (λ m. parent_rows (sig_rows sigs m) parent) rows.old.items waiting.old.items rows.new.items waiting.new.items) }
+    ensures { OnOk result ((sigs : List Sig) (ups : List ℕ) →
+        HasMore sigs ups (λ m. parent_rows (sig_rows sigs m) parent) rows.old.items
+        waiting.old.items rows.new.items waiting.new.items) }
 {
     match parent {
         Column::Int => {
@@ -125,7 +127,9 @@ fn visit_parents(
     rows: &mut Vec<Tuple>,
     waiting: &mut Vec<u32>,
 ) -> Result<(), AllocError>
-    ensures { OnOk result ((sigs : List Sig) (ups : List ℕ) → HasMore sigs ups (λ m. flat_map (parent_rows (sig_rows sigs m)) parents.now) rows.old.items waiting.old.items rows.new.items waiting.new.items) }
+    ensures { OnOk result ((sigs : List Sig) (ups : List ℕ) →
+        HasMore sigs ups (λ m. flat_map (parent_rows (sig_rows sigs m)) parents.now) rows.old.items
+        waiting.old.items rows.new.items waiting.new.items) }
 {
     for place in 0..parents.len() {
         let parent = column_at(parents, place);
@@ -142,7 +146,8 @@ fn visit_plain(
     sig: u32,
     rows: &mut Vec<Tuple>,
 ) -> Result<(), AllocError>
-    ensures { OnOk result (rows.new.items ≡ rows.old.items ++ (kind_at ups.now (SigColumn (standing sigs.now (length sigs.now) sig)) ∷ []) ∷ []) }
+    ensures { OnOk result (rows.new.items ≡ rows.old.items
+        ++ (kind_at ups.now (SigColumn (standing sigs.now (length sigs.now) sig)) ∷ []) ∷ []) }
 {
     let standing = standing_of(sigs, sig);
     let kind = kind_of(ups, Column::Sig(standing));
@@ -161,7 +166,8 @@ fn visit(
     rows: &mut Vec<Tuple>,
     waiting: &mut Vec<u32>,
 ) -> Result<(), AllocError>
-    ensures { OnOk result (HasMore sigs.now ups.now (λ m. sig_rows sigs.now (suc m) sig) rows.old.items waiting.old.items rows.new.items waiting.new.items) }
+    ensures { OnOk result (HasMore sigs.now ups.now (λ m. sig_rows sigs.now (suc m) sig)
+        rows.old.items waiting.old.items rows.new.items waiting.new.items) }
 {
     match sigs.get(sig as usize) {
         None => Ok(()),
@@ -199,7 +205,8 @@ fn level(
     waiting: &[u32],
     rows: &mut Vec<Tuple>,
 ) -> Result<Vec<u32>, AllocError>
-    ensures { IfOk result (λ v. IsUp sigs.now ups.now rows.old.items waiting.now rows.new.items v.items) }
+    ensures { IfOk result (λ v. IsUp sigs.now ups.now rows.old.items waiting.now rows.new.items
+        v.items) }
 {
     let mut next = Vec::new(alloc);
     for place in 0..waiting.len() {
@@ -235,7 +242,8 @@ pub fn sig_kinds(
     ups: &[u32],
     sig: u32,
 ) -> Result<Vec<Tuple>, AllocError>
-    ensures { IfOk result (λ v. HasRows v.items (sig_kinds_of sigs.now ups.now (length sigs.now) sig)) }
+    ensures { IfOk result (λ v. HasRows v.items (sig_kinds_of sigs.now ups.now (length sigs.now)
+        sig)) }
 {
     let mut rows = Vec::new(alloc);
     let mut waiting = Vec::new(alloc);

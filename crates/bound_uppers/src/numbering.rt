@@ -47,7 +47,8 @@ fn weights(alloc: Global, relations: &[Bound], later: bool) -> Result<Vec<Weight
 
 /// How many variables the relations before each place of the order have together.
 fn relation_starts(alloc: Global, relations: &[Bound], later: bool) -> Result<Vec<u64>, AllocError>
-    ensures { IfOk result (λ v. AreStarts (length relations.now) (map (weight_of later) relations.now) v.items) }
+    ensures { IfOk result (λ v. AreStarts (length relations.now)
+        (map (weight_of later) relations.now) v.items) }
 {
     let all = weights(alloc, relations, later)?;
     starts(alloc, relations.len(), &all)
@@ -92,8 +93,10 @@ fn cells(
     all: u64,
     stride: u64,
 ) -> Result<Vec<Cells>, AllocError>
-    requires firsts { AreStarts (length relations.now) (map (weight_of false) relations.now) firsts.now }
-    requires nexts { AreStarts (length relations.now) (map (weight_of true) relations.now) nexts.now }
+    requires firsts { AreStarts (length relations.now) (map (weight_of false) relations.now)
+        firsts.now }
+    requires nexts { AreStarts (length relations.now) (map (weight_of true) relations.now)
+        nexts.now }
     requires all { all ≡ together false relations.now }
     requires stride { stride ≡ together true relations.now }
     ensures { HasPlaces relations.now → IfOk result (λ v. HasCells relations.now v.items) }

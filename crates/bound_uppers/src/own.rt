@@ -162,7 +162,8 @@ fn add_constant(
     top: u32,
     sig: u32,
 ) -> Result<(), AllocError>
-    ensures { OnOk result (lists.new.items ≡ if is_constant then extended_at lists.old.items top sig else lists.old.items) }
+    ensures { OnOk result (lists.new.items ≡ if is_constant then
+        extended_at lists.old.items top sig else lists.old.items) }
 {
     if is_constant {
         add_to(lists, top, sig)?;
@@ -221,7 +222,8 @@ fn number_of(numbers: &[SigScope], sig: u32) -> u64
 
 /// The owners of the atoms of a top-level sig, in order: its constants, where it has as many atoms.
 pub fn owners_of<'a>(constants: &'a Constants, numbers: &[SigScope], top: u32) -> &'a [u32]
-    ensures { (sigs : List Sig) → AreConstantsOf sigs constants.now → length numbers.now ≡ length sigs → result.now ≡ owners sigs numbers.now top }
+    ensures { (sigs : List Sig) → AreConstantsOf sigs constants.now →
+        length numbers.now ≡ length sigs → result.now ≡ owners sigs numbers.now top }
 {
     match constants.lists.get(top as usize) {
         None => &[],
@@ -239,7 +241,8 @@ pub fn owners_of<'a>(constants: &'a Constants, numbers: &[SigScope], top: u32) -
 /// Whether a sig owns an atom, where these are the owners of the atoms of its top-level sig: a
 /// constant does where there are owners.
 pub fn does_own(constants: &Constants, owners: &[u32], sig: u32) -> bool
-    ensures { result ≡ get_or constants.now.marks.items sig false && not (eqb (length owners.now) 0) }
+    ensures { result ≡ get_or constants.now.marks.items sig false && not
+        (eqb (length owners.now) 0) }
 {
     is_marked(&constants.marks, sig) && !owners.is_empty()
 }
@@ -275,7 +278,8 @@ pub fn gives(sigs: &[Sig], owner: Option<u32>, owns: bool, sig: u32) -> bool
 
 /// Whether a sig and the one that it extends both have an origin, or neither has.
 fn has_origin(sigs: &[Sig], sig: &Sig) -> bool
-    ensures { (p : ℕ) (e : Sig) → sig.now.kind ≡ Extends p → slice_get sigs.now p ≡ Some e → IsTrue result → is_some sig.now.origin ≡ is_some e.origin }
+    ensures { (p : ℕ) (e : Sig) → sig.now.kind ≡ Extends p → slice_get sigs.now p ≡ Some e →
+        IsTrue result → is_some sig.now.origin ≡ is_some e.origin }
 {
     match &sig.kind {
         SigKind::Top => true,

@@ -88,7 +88,8 @@ fn least_period(numbers: &[u32], start: usize) -> usize
     ensures fits { start + result ≤ length numbers.now }
     ensures divides { (length numbers.now - start) % result ≡ 0 }
     ensures repeats { Repeats numbers.now start result }
-    ensures least { (q : ℕ) → 0 < q → q < result → (length numbers.now - start) % q ≡ 0 → Repeats numbers.now start q → ⊥ }
+    ensures least { (q : ℕ) → 0 < q → q < result → (length numbers.now - start) % q ≡ 0 →
+        Repeats numbers.now start q → ⊥ }
 {
     let round = numbers.len() - start;
     for period in 1..round {
@@ -104,8 +105,10 @@ fn least_start(numbers: &[u32], start: usize, period: usize) -> usize
     requires some { 0 < period }
     requires fits { start + period ≤ length numbers.now }
     ensures most { result ≤ start }
-    ensures repeats { (i : ℕ) → result ≤ i → i < start → slice_index numbers.now i ≡ slice_index numbers.now (i + period) }
-    ensures least { 0 < result → slice_index numbers.now (result - 1) ≢ slice_index numbers.now (result - 1 + period) }
+    ensures repeats { (i : ℕ) → result ≤ i → i < start →
+        slice_index numbers.now i ≡ slice_index numbers.now (i + period) }
+    ensures least { 0 < result → slice_index numbers.now (result - 1)
+        ≢ slice_index numbers.now (result - 1 + period) }
 {
     let mut place = start;
     while place > 0 {
@@ -150,7 +153,8 @@ pub fn shortest(alloc: Global, lasso: &Lasso) -> Result<Lasso, AllocError>
 fn cut(alloc: Global, lasso: &Lasso, begin: usize, period: usize) -> Result<Lasso, AllocError>
     requires some { 0 < period }
     requires fits { begin + period ≤ length lasso.now.states }
-    ensures { IfOk result (λ l. l ≡ record { states = take (begin + period) lasso.now.states; loop_start = begin }) }
+    ensures { IfOk result (λ l. l ≡ record { states = take (begin + period) lasso.now.states;
+        loop_start = begin }) }
 {
     // for the proof: this call's clause says that the loop begins at one of the states
     let _count = lasso.states();

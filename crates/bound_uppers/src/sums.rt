@@ -50,7 +50,9 @@ fn zeros(alloc: Global, count: usize) -> Result<Vec<u64>, AllocError>
 #[tactic(auto, using(crate::proofs::Weighing::set_sum, crate::proofs::Weighing::no_place))]
 pub fn add_at(numbers: &mut [u64], place: u64, size: u64) -> Result<(), AllocError>
     ensures count { length numbers.new ≡ length numbers.old }
-    ensures sum { OnOk result ((other : ℕ) → other < length numbers.old → slice_index numbers.new other ≡ slice_index numbers.old other + (if eqb place other then size else 0)) }
+    ensures sum { OnOk result ((other : ℕ) → other < length numbers.old →
+        slice_index numbers.new other ≡ slice_index numbers.old other +
+        (if eqb place other then size else 0)) }
 {
     let at = place as usize;
     if at >= numbers.len() {

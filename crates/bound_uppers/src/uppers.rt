@@ -128,7 +128,8 @@ fn field_kinds(
     rows: &[Row],
 ) -> Result<Vec<Tuple>, AllocError>
     ensures columns { IfOk result (λ v. All (λ r. length r ≡ columns) v.items) }
-    ensures rows { IfOk result (λ v. All (λ r. length r ≡ columns) rows.now → HasRows v.items (rows_kinds_of ups.now rows.now)) }
+    ensures rows { IfOk result (λ v. All (λ r. length r ≡ columns) rows.now →
+        HasRows v.items (rows_kinds_of ups.now rows.now)) }
 {
     if have_columns(columns, rows) {
         let kinds = type_kinds(alloc, ups, rows)?;
@@ -177,9 +178,11 @@ fn sig_sketches(
     ups: &[u32],
     spans: &AtomRanges,
 ) -> Result<Vec<Sketch>, AllocError>
-    ensures fixed { IfOk result (λ v. map (λ (s : Sketch). s.fixed) v.items ≡ map (λ (d : Sig). is_fixed d.is_var) sigs.now) }
+    ensures fixed { IfOk result (λ v. map (λ (s : Sketch). s.fixed) v.items
+        ≡ map (λ (d : Sig). is_fixed d.is_var) sigs.now) }
     ensures right { IfOk result (λ v. All IsRightSketch v.items) }
-    ensures its { IfOk result (λ v. AreSigSketches sigs.now ups.now spans.now (length sigs.now) v.items) }
+    ensures its { IfOk result (λ v. AreSigSketches sigs.now ups.now spans.now (length sigs.now)
+        v.items) }
 {
     let mut all = Vec::new(alloc);
     let mut number = 0u32;
@@ -203,10 +206,14 @@ fn add_fields(
     all: &mut Vec<Sketch>,
 ) -> Result<(), AllocError>
     requires { All IsRightSketch all.old.items }
-    ensures fixed { OnOk result (map (λ (s : Sketch). s.fixed) all.new.items ≡ map (λ (s : Sketch). s.fixed) all.old.items ++ map (λ (f : Field). is_fixed f.is_var) fields.now) }
+    ensures fixed { OnOk result (map (λ (s : Sketch). s.fixed) all.new.items
+        ≡ map (λ (s : Sketch). s.fixed) all.old.items
+        ++ map (λ (f : Field). is_fixed f.is_var) fields.now) }
     ensures right { OnOk result (All IsRightSketch all.new.items) }
-    ensures its { OnOk result (AreFieldSketches ups.now fields.now (length all.old.items) (length fields.now) all.new.items) }
-    ensures kept { OnOk result ((s : ℕ) → s < length all.old.items → slice_get all.new.items s ≡ slice_get all.old.items s) }
+    ensures its { OnOk result (AreFieldSketches ups.now fields.now (length all.old.items)
+        (length fields.now) all.new.items) }
+    ensures kept { OnOk result ((s : ℕ) → s < length all.old.items →
+        slice_get all.new.items s ≡ slice_get all.old.items s) }
 {
     for field in fields {
         let sketch = field_sketch(alloc, ups, field)?;
@@ -322,7 +329,8 @@ fn bound_at(
     requires sets { AreColumns sets.now }
     requires right { All IsRightSketch all.now }
     ensures order { IfOk result (λ b. b.order ≡ slice_index places.now relation) }
-    ensures its { IfOk result (λ b. (k : Sketch) → slice_get all.now relation ≡ Some k → IsBoundOf sets.now k b) }
+    ensures its { IfOk result (λ b. (k : Sketch) → slice_get all.now relation ≡ Some k →
+        IsBoundOf sets.now k b) }
 {
     let sketch = &all[relation];
     let upper = upper_of(alloc, sets, sketch)?;
@@ -344,7 +352,8 @@ fn bound_list(
     requires sets { AreColumns sets.now }
     requires right { All IsRightSketch all.now }
     ensures orders { IfOk result (λ l. map (λ (b : Bound). b.order) l ≡ places.now) }
-    ensures fixed { IfOk result (λ l. map (λ (b : Bound). b.fixed) l ≡ map (λ (s : Sketch). s.fixed) all.now) }
+    ensures fixed { IfOk result (λ l. map (λ (b : Bound). b.fixed) l
+        ≡ map (λ (s : Sketch). s.fixed) all.now) }
     ensures uppers { IfOk result (λ l. HasUppers sets.now all.now l) }
 {
     let mut list = BoundList::new(alloc);
@@ -380,8 +389,10 @@ fn table_of(
     requires sets { AreColumns sets.now }
     requires right { All IsRightSketch all.now }
     ensures table { IfOk result IsTable }
-    ensures order { IfOk result (λ b. (r : ℕ) (c : Bound) → slice_get b.relations r ≡ Some c → c.order ≡ order_of model.now r) }
-    ensures fixed { IfOk result (λ b. map (λ (c : Bound). c.fixed) b.relations ≡ are_fixed model.now) }
+    ensures order { IfOk result (λ b. (r : ℕ) (c : Bound) → slice_get b.relations r ≡ Some c →
+        c.order ≡ order_of model.now r) }
+    ensures fixed { IfOk result (λ b. map (λ (c : Bound). c.fixed) b.relations
+        ≡ are_fixed model.now) }
     ensures states { IfOk result (λ b. b.states ≡ states) }
     ensures uppers { IfOk result (λ b. HasUppers sets.now all.now b.relations) }
 {
@@ -420,8 +431,10 @@ fn given_table(
     requires spans { HasSpans scopes.now spans.now }
     requires some { 0 < states }
     ensures table { IfOk result IsTable }
-    ensures order { IfOk result (λ b. (r : ℕ) (c : Bound) → slice_get b.relations r ≡ Some c → c.order ≡ order_of model.now r) }
-    ensures fixed { IfOk result (λ b. map (λ (c : Bound). c.fixed) b.relations ≡ are_fixed model.now) }
+    ensures order { IfOk result (λ b. (r : ℕ) (c : Bound) → slice_get b.relations r ≡ Some c →
+        c.order ≡ order_of model.now r) }
+    ensures fixed { IfOk result (λ b. map (λ (c : Bound). c.fixed) b.relations
+        ≡ are_fixed model.now) }
     ensures states { IfOk result (λ b. b.states ≡ states) }
     ensures uppers { IfOk result (λ b. AreUppers model.now scopes.now b.relations) }
     ensures origins { IfOk result (λ b. HasOrigins model.now.sigs) }
@@ -458,8 +471,10 @@ pub fn bounds(
     keyword: Position,
 ) -> Result<Bounds, BoundsFault>
     ensures table { IfOk result IsTable }
-    ensures order { IfOk result (λ b. (r : ℕ) (c : Bound) → slice_get b.relations r ≡ Some c → c.order ≡ order_of model.now r) }
-    ensures fixed { IfOk result (λ b. map (λ (c : Bound). c.fixed) b.relations ≡ are_fixed model.now) }
+    ensures order { IfOk result (λ b. (r : ℕ) (c : Bound) → slice_get b.relations r ≡ Some c →
+        c.order ≡ order_of model.now r) }
+    ensures fixed { IfOk result (λ b. map (λ (c : Bound). c.fixed) b.relations
+        ≡ are_fixed model.now) }
     ensures states { IfOk result (λ b. 0 < scopes.now.states → b.states ≡ scopes.now.states) }
     ensures uppers { IfOk result (λ b. AreUppers model.now scopes.now b.relations) }
     ensures origins { IfOk result (λ b. HasOrigins model.now.sigs) }

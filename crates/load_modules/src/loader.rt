@@ -35,7 +35,8 @@ pub fn load<L: Libraries>(alloc: Global, libraries: &mut L, root: &str) -> Resul
     ensures keeps { L.told libraries.new ≡ L.told libraries.old }
     ensures cause { Causes root.now (L.counts libraries.old) (L.counts libraries.new) result }
     ensures texts { IfOk result (λ m. LoadsTold (L.told libraries.old) root.now m.texts) }
-    ensures opens { IfOk result (λ m. OpensTold (L.told libraries.old) root.now m.texts m.instances) }
+    ensures opens { IfOk result (λ m. OpensTold (L.told libraries.old) root.now m.texts
+        m.instances) }
     ensures refused { IfErr result (RefusesTold (L.told libraries.old) root.now) }
     ensures distinct { IfOk result (λ m. AreDistinct (pairs_of m.instances)) }
 {
@@ -56,7 +57,8 @@ pub fn load_text<L: Libraries>(
     ensures keeps { L.told libraries.new ≡ L.told libraries.old }
     ensures cause { Causes root.now (L.counts libraries.old) (L.counts libraries.new) result }
     ensures texts { IfOk result (λ m. LoadsGiven (L.told libraries.old) root.now text.now m.texts) }
-    ensures opens { IfOk result (λ m. OpensTold (L.told libraries.old) root.now m.texts m.instances) }
+    ensures opens { IfOk result (λ m. OpensTold (L.told libraries.old) root.now m.texts
+        m.instances) }
     ensures refused { IfErr result (RefusesGiven (L.told libraries.old) root.now text.now) }
     ensures distinct { IfOk result (λ m. AreDistinct (pairs_of m.instances)) }
 {
@@ -79,7 +81,8 @@ pub fn load_tree<L: Libraries>(
     ensures keeps { L.told libraries.new ≡ L.told libraries.old }
     ensures cause { Causes root.now (L.counts libraries.old) (L.counts libraries.new) result }
     ensures texts { IfOk result (λ m. LoadsTree (L.told libraries.old) root.now tree m.texts) }
-    ensures opens { IfOk result (λ m. OpensTold (L.told libraries.old) root.now m.texts m.instances) }
+    ensures opens { IfOk result (λ m. OpensTold (L.told libraries.old) root.now m.texts
+        m.instances) }
     ensures refused { IfErr result (RefusesTree (L.told libraries.old) root.now tree) }
     ensures distinct { IfOk result (λ m. AreDistinct (pairs_of m.instances)) }
 {
@@ -101,7 +104,8 @@ fn follow<L: Libraries>(
     ensures keeps { L.told libraries.new ≡ L.told libraries.old }
     ensures cause { Causes root.now (L.counts libraries.old) (L.counts libraries.new) result }
     ensures texts { IfOk result (λ m. Follows (L.told libraries.old) root.now loading m.texts) }
-    ensures opens { IfOk result (λ m. OpensFrom (L.told libraries.old) root.now loading m.texts m.instances) }
+    ensures opens { IfOk result (λ m. OpensFrom (L.told libraries.old) root.now loading m.texts
+        m.instances) }
     ensures refused { IfErr result (Refuses (L.told libraries.old) root.now loading) }
     ensures distinct { IfOk result (λ m. AreDistinct (pairs_of m.instances)) }
 {
@@ -122,7 +126,8 @@ fn add_plain(
     text: u32,
     alias: &str,
 ) -> Result<usize, AllocError>
-    ensures pairs { OnOk result (map pair_of keys.new.items ≡ map pair_of keys.old.items ++ (text, []) ∷ []) }
+    ensures pairs { OnOk result (map pair_of keys.new.items ≡ map pair_of keys.old.items
+        ++ (text, []) ∷ []) }
 {
     let instance = keys.len();
     let arguments = Items::new(alloc);

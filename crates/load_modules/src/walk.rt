@@ -54,7 +54,8 @@ pub fn ask<L: Libraries>(
     ensures keeps { L.told libraries.new ≡ L.told libraries.old }
     ensures cause { Causes root.now (L.counts libraries.old) (L.counts libraries.new) result }
     ensures instances { loading.new.keys.items ≡ loading.old.keys.items }
-    ensures answer { IfOk result (Learns (L.told libraries.old) root.now loading.old loading.new name.now) }
+    ensures answer { IfOk result (Learns (L.told libraries.old) root.now loading.old loading.new
+        name.now) }
     ensures grown { OnOk result (IsGrown (texts_in loading.old) (texts_in loading.new)) }
     ensures refused { IfErr result (Refuses (L.told libraries.old) root.now loading.old) }
 {
@@ -84,7 +85,8 @@ pub fn take_in(
     ensures quiet { IfErr result IsQuietFault }
     ensures number { IfOk result (λ n. n ≡ length sources.old.items) }
     ensures refused { IfErr result (IsOfText bytes.now (length sources.old.items) name.now) }
-    ensures taken { IfOk result (λ n. IsTaken bytes.now name.now n (map (λ s. s.text) sources.old.items) (map (λ s. s.text) sources.new.items)) }
+    ensures taken { IfOk result (λ n. IsTaken bytes.now name.now n
+        (map (λ s. s.text) sources.old.items) (map (λ s. s.text) sources.new.items)) }
 {
     let number = small(sources.len())?;
     let source = read_text(alloc, number, name, bytes)?;
@@ -104,7 +106,8 @@ pub fn text_of_path<L: Libraries>(
     ensures keeps { L.told libraries.new ≡ L.told libraries.old }
     ensures cause { Causes root.now (L.counts libraries.old) (L.counts libraries.new) result }
     ensures instances { loading.new.keys.items ≡ loading.old.keys.items }
-    ensures answer { IfOk result (LearnsPath (L.told libraries.old) root.now loading.old loading.new path.now) }
+    ensures answer { IfOk result (LearnsPath (L.told libraries.old) root.now loading.old loading.new
+        path.now) }
     ensures grown { OnOk result (IsGrown (texts_in loading.old) (texts_in loading.new)) }
     ensures refused { IfErr result (Refuses (L.told libraries.old) root.now loading.old) }
 {
@@ -177,7 +180,9 @@ fn next_target<L: Libraries>(
     ensures cause { Causes root.now (L.counts libraries.old) (L.counts libraries.new) result }
     ensures refused { IfErr result (Refuses (L.told libraries.old) root.now loading.old) }
     ensures grows { length loading.old.keys.items ≤ length loading.new.keys.items }
-    ensures new { IfOk result (λ p. p.1.is_new ≡ true → (length loading.old.keys.items < length loading.new.keys.items) × (length loading.new.keys.items ≤ limit)) }
+    ensures new { IfOk result (λ p. p.1.is_new ≡ true →
+        (length loading.old.keys.items < length loading.new.keys.items)
+        × (length loading.new.keys.items ≤ limit)) }
     ensures texts { OnOk result (Keeps (L.told libraries.old) root.now loading.old loading.new) }
     ensures distinct { OnOk result (StaysDistinct loading.old.keys.items loading.new.keys.items) }
 {
@@ -196,12 +201,15 @@ fn target_of<L: Libraries>(
     limit: usize,
     request: &Request,
 ) -> Result<Target, LoadFault>
-    requires { IsPlaceOf (text_at loading.old.keys.items (texts_of loading.old.sources.items) instance) request.now.place }
+    requires { IsPlaceOf (text_at loading.old.keys.items (texts_of loading.old.sources.items)
+        instance) request.now.place }
     ensures keeps { L.told libraries.new ≡ L.told libraries.old }
     ensures cause { Causes root.now (L.counts libraries.old) (L.counts libraries.new) result }
     ensures refused { IfErr result (Refuses (L.told libraries.old) root.now loading.old) }
     ensures grows { length loading.old.keys.items ≤ length loading.new.keys.items }
-    ensures new { IfOk result (λ t. t.is_new ≡ true → (length loading.old.keys.items < length loading.new.keys.items) × (length loading.new.keys.items ≤ limit)) }
+    ensures new { IfOk result (λ t. t.is_new ≡ true →
+        (length loading.old.keys.items < length loading.new.keys.items)
+        × (length loading.new.keys.items ≤ limit)) }
     ensures texts { OnOk result (Keeps (L.told libraries.old) root.now loading.old loading.new) }
     ensures distinct { OnOk result (StaysDistinct loading.old.keys.items loading.new.keys.items) }
 {
@@ -222,9 +230,13 @@ fn found_or_refused(
     found: Option<u32>,
 ) -> Result<Target, LoadFault>
     ensures quiet { IfErr result IsQuietFault }
-    ensures refused { IsPlaceOf (text_at loading.old.keys.items (texts_of loading.old.sources.items) instance) request.now.place → IfErr result (IsInText (text_at loading.old.keys.items (texts_of loading.old.sources.items) instance)) }
+    ensures refused { IsPlaceOf (text_at loading.old.keys.items (texts_of loading.old.sources.items)
+        instance) request.now.place → IfErr result
+        (IsInText (text_at loading.old.keys.items (texts_of loading.old.sources.items) instance)) }
     ensures grows { length loading.old.keys.items ≤ length loading.new.keys.items }
-    ensures new { IfOk result (λ t. t.is_new ≡ true → (length loading.old.keys.items < length loading.new.keys.items) × (length loading.new.keys.items ≤ limit)) }
+    ensures new { IfOk result (λ t. t.is_new ≡ true →
+        (length loading.old.keys.items < length loading.new.keys.items)
+        × (length loading.new.keys.items ≤ limit)) }
     ensures texts { loading.new.sources.items ≡ loading.old.sources.items }
     ensures asked { loading.new.asked.items ≡ loading.old.asked.items }
     ensures distinct { StaysDistinct loading.old.keys.items loading.new.keys.items }
