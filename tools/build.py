@@ -207,7 +207,7 @@ class Builds:
             time.sleep(0.5)
             turn += 1
             # (reading what all processes take is work too)
-            if turn % 4 == 0:
+            if turn % 10 == 0:
                 self.watch()
             self.take_ended()
         return not self.failed
