@@ -18,7 +18,7 @@ below_none prepared states below proof law is has =
     (omega (arith, some, next), refuted.1, λ number ready. subst (NoneWithin prepared) less (law number prepared proof.states ready out))
 
 pub ruled_below : (model : Model) (target : Target) (states : ℕ) (below : Option Proof) → IsBelow model target states below → 1 < states → IsRuledOutOver model target (states - 1)
-ruled_below model target states None is more = absurd (omega (arith, is, more))
+ruled_below model target states None is more = let one : states ≡ 1 = is in absurd (omega (arith, one, more))
 ruled_below model target states (Some proof) is more =
     let next = is.1 in
     let less : proof.states ≡ states - 1 = omega (arith, next) in
