@@ -1,1 +1,1 @@
-mod NoneLaw
+pub mod NoneLaw
