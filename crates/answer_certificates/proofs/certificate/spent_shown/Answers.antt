@@ -8,5 +8,5 @@ returns c = record {
   spent = c.requires.0;
   lemmas = c.requires.1;
   few = c.requires.2;
-  text_is = cc (c.from_vec.ensures, c.in_ok-text.ensures, c.in-Some.is, c.requires.0);
+  text_is = cc (c.from_vec-shown.ensures, c.in_ok-text.ensures, c.in-Some.is, c.requires.0);
 }

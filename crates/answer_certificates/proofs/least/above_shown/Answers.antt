@@ -11,5 +11,5 @@ returns c = record {
   lines = c.args.proof.lines;
   says = c.requires.says;
   refutes = c.requires.refutes;
-  text_is = cc (c.from_vec.ensures, c.deref.ensures.value, c.in_ok-text.ensures, c.in_ok-trace.ensures);
+  text_is = cc (c.from_vec-shown.ensures, c.deref.ensures.value, c.in_ok-text.ensures, c.in_ok-trace.ensures);
 }

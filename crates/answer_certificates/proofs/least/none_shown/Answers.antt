@@ -5,5 +5,5 @@ returns c = record {
   table = c.in_ok-rows.rows;
   lines = c.args.proof.lines;
   refutes = c.requires;
-  text_is = cc (c.from_vec.ensures, c.in_ok-text.ensures);
+  text_is = cc (c.from_vec-shown.ensures, c.in_ok-text.ensures);
 }

@@ -7,7 +7,7 @@ returns c = record {
   spelled = c.requires;
   judgement = c.in_ok-judgement.judgement;
   right = c.in_ok-judgement.ensures;
-  text_is = cc (c.from_vec.ensures, c.in_ok-text.ensures);
+  text_is = cc (c.from_vec-shown.ensures, c.in_ok-text.ensures);
   all_hold = c.is_satisfied-satisfied.ensures;
   satisfies = satisfied_is c.args.prepared.now c.args.lasso.now c.in_ok-judgement.judgement c.in_ok-judgement.ensures c.is_satisfied-satisfied.result c.is_satisfied-satisfied.ensures;
 }

@@ -7,5 +7,5 @@ returns c = record {
   set = c.in_ok-set.set;
   sorted = c.arity.ensures.set;
   has = c.in_ok-set.ensures;
-  text_is = cc (c.from_vec.ensures, c.in_ok-text.ensures);
+  text_is = cc (c.from_vec-shown.ensures, c.in_ok-text.ensures);
 }
