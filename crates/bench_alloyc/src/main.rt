@@ -1,57 +1,74 @@
-//! Measures parts of alloyc by themselves: `bench_alloyc MODE WORD..`.
+//! The workbench: runs the stored rows of inputs and answers, and measures parts of alloyc by themselves:
+//! `bench_alloyc MODE WORD.. then MODE WORD.. then ..`.
 //!
-//! | Mode | Words | Measures |
+//! | Mode | Words | Does |
 //! |---|---|---|
-//! | `circuits` | `clauses N`, `join N` or `closure N` | circuits and matrices of this size |
-//! | `stages` | `sizes MODEL COMMAND` or `times MODEL COMMAND` | the stages of one analysis |
-//! | `dimacs` | `FILE` | the search over the clauses of a DIMACS text |
-//! | `parser` | `NAME..` | the lexer and the parsers over texts |
+//! | `tables` | `TABLE ..` | runs rows of command lines, and prints the answers |
+//! | `encoding` | `MODEL ..` | compares circuits of small models with the meaning of the models |
+//! | `operations` | | compares circuits of small operands with plain values |
+//! | `parser` | `NAME ..` | says of texts what the lexer and the parsers make of them |
+//! | `circuits` | `clauses N`, `join N` or `closure N` | builds circuits and matrices of this size |
+//! | `stages` | `sizes MODEL COMMAND` or `times MODEL COMMAND` | measures the stages of one analysis |
+//! | `dimacs` | `FILE` | searches over the clauses of a DIMACS text |
 //!
-//! What a mode prints, and its statuses, stand at the head of its module. With no word, or another one, the program prints a
-//! line of usage and ends with 2.
+//! What a mode prints, and its statuses, stand at the head of its module. With no mode, or another one, a line of usage is
+//! printed, with status 2. The program ends with the greatest status of its modes.
 #![tactic(auto)]
 
 mod circuits;
 mod dimacs;
+mod encoding;
+mod operations;
 mod parser;
 mod same;
 mod stages;
+mod tables;
 
 use anyhow::Result;
 use std::env;
 use std::process::ExitCode;
 
-/// The words of the command line, without the program's name.
-fn words(rt: &HostRuntime) -> Result<Vec<String>> {
-    let mut words = Vec::new(rt.alloc());
-    for word in env::args(rt)?.skip(1) {
-        words.push(word)?;
-    }
-    Ok(words)
-}
-
-/// Measures what the mode of this name does with these words.
+/// Does what the mode of this name does with these words.
 fn run_mode(rt: &HostRuntime, mode: &str, words: &[String]) -> Result<u8> {
     match mode {
+        "tables" => tables::run(rt, words),
+        "encoding" => encoding::run(rt, words),
+        "operations" => operations::run(rt),
+        "parser" => parser::run(rt, words),
         "circuits" => circuits::run(rt, words),
         "stages" => stages::run(rt, words),
         "dimacs" => dimacs::run(rt, words),
-        "parser" => parser::run(rt, words),
         _ => print_usage(rt),
     }
 }
 
 /// Prints the usage, and gives its status.
 fn print_usage(rt: &impl Print) -> Result<u8> {
-    println!(rt; "usage: bench_alloyc circuits|stages|dimacs|parser WORD..")?;
+    println!(rt;
+        "usage: bench_alloyc tables|encoding|operations|parser|circuits|stages|dimacs WORD.. [then ..]"
+    )?;
     Ok(2)
 }
 
+/// Runs a mode with its words.
+fn run_part(rt: &HostRuntime, words: &[String]) -> Result<u8> {
+    match words.split_first() {
+        Some((mode, rest)) => run_mode(rt, mode.as_str(), rest),
+        None => print_usage(rt),
+    }
+}
+
 fn main(rt: HostRuntime) -> Result<ExitCode> {
-    let words = words(&rt)?;
-    let status = match words.split_first() {
-        Some((mode, rest)) => run_mode(&rt, mode.as_str(), rest)?,
-        None => print_usage(&rt)?,
-    };
+    let mut status = 0;
+    let mut part = Vec::new(rt.alloc());
+    for word in env::args(&rt)?.skip(1) {
+        if word.as_str() == "then" {
+            status = run_part(&rt, &part)?.max(status);
+            part = Vec::new(rt.alloc());
+        } else {
+            part.push(word)?;
+        }
+    }
+    status = run_part(&rt, &part)?.max(status);
     Ok(ExitCode::from(status))
 }

@@ -24,6 +24,3 @@ pub const MOST_VARIABLES: u64 = 100_000_000;
 
 /// The most clauses that a header in a text may name (C01).
 pub const MOST_CLAUSES: u64 = 100_000_000;
-
-#[cfg(test)]
-mod tests;

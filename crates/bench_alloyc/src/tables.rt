@@ -1,4 +1,4 @@
-//! Runs tables of rows, and prints what the analyser answers to each: `rows_models TABLE ..`.
+//! The mode `tables` runs tables of rows, and prints what the analyser answers to each: `TABLE ..`.
 //!
 //! A row is one line: its name, a colon, the words of a command line, and settings, each after a
 //! semicolon. The libraries are one that holds the files of the settings and then the library that
@@ -16,7 +16,6 @@
 //! | `lying N` | there is one chooser, which always picks N |
 //! | `libraries memory` | the library that the analyser brings along is left away |
 //! | `show PART` | this part of the answer is printed, in place of the whole (see [`row::Show`]) |
-#![tactic(auto)]
 
 mod answer;
 mod parts;
@@ -24,8 +23,8 @@ mod row;
 mod tell;
 
 use anyhow::Result;
+use std::fs;
 use std::rt::Files;
-use std::{env, fs};
 
 /// Runs the rows of a table.
 fn run_table(rt: &(impl Files + Print + AllocGlobal), table: &str) -> Result<()> {
@@ -40,9 +39,10 @@ fn run_table(rt: &(impl Files + Print + AllocGlobal), table: &str) -> Result<()>
     Ok(())
 }
 
-fn main(rt: HostRuntime) -> Result<()> {
-    for table in env::args(&rt)?.skip(1) {
-        run_table(&rt, table.as_str())?;
+/// Runs the rows of each table that the words name.
+pub fn run(rt: &(impl Files + Print + AllocGlobal), words: &[String]) -> Result<u8> {
+    for table in words {
+        run_table(rt, table.as_str())?;
     }
-    Ok(())
+    Ok(0)
 }

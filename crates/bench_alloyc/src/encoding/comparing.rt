@@ -1,6 +1,7 @@
 //! Compares the roots of a circuit with the judgements of the evaluator.
 
-use crate::values::{among, gate_values, low_bits};
+use crate::encoding::values::low_bits;
+use crate::operations::reading::{among, gate_values};
 use base_types::Assignment;
 use bmc_encoder::{Encoded, encode};
 use bound_uppers::{Bounds, decode, layout};
@@ -113,22 +114,23 @@ fn add_lasso(
     Ok(())
 }
 
-/// Takes in one assignment of the table.
+/// Takes in one assignment of the table, in which variable `k` has bit `k - 1` of the number.
 fn add_assignment(
     alloc: Global,
     asked: &Question,
     store: &CircuitStore,
     encoded: &Encoded,
-    inputs: &[bool],
+    number: u64,
     tally: &mut Tally,
 ) -> Result<(), AllocError> {
     tally.assignments = tally.assignments.saturating_add(1);
-    let values = gate_values(alloc, store, inputs)?;
+    let values = gate_values(alloc, store, number)?;
     if !among(&values, encoded.sure) || asked.bounds.states == 0 {
         return Ok(());
     }
     tally.lassos = tally.lassos.saturating_add(1);
-    let assignment = Assignment::new(alloc, inputs)?;
+    let inputs = low_bits(alloc, number, tally.variables)?;
+    let assignment = Assignment::new(alloc, &inputs)?;
     let lasso = decode(alloc, asked.bounds, &assignment)?;
     let roots = encoded.roots.as_slice();
     add_lasso(alloc, asked, &lasso, &values, roots, tally)
@@ -160,8 +162,7 @@ pub fn compare(alloc: Global, asked: &Question) -> Result<Option<Tally>, AllocEr
     };
     let count = 1u64 << (table.variables % 64);
     for number in 0..count {
-        let inputs = low_bits(alloc, number, table.variables)?;
-        add_assignment(alloc, asked, &store, &encoded, &inputs, &mut tally)?;
+        add_assignment(alloc, asked, &store, &encoded, number, &mut tally)?;
     }
     Ok(Some(tally))
 }

@@ -3,8 +3,8 @@
 ghost use Rattle.std.specs.Prelude.{IfOk};
 ghost use Rattle.gate_trait.specs.Built.{Keeps};
 
-use crate::reading::{Readable, among, gate_values, has_bit};
-use crate::tally::{Line, Tally, add_line};
+use crate::operations::reading::{Readable, among, gate_values, has_bit};
+use crate::operations::tally::{Line, Tally, add_line};
 use gate_trait::{Gates, Node};
 use std::alloc::{AllocError, Global};
 

@@ -1,7 +1,7 @@
 //! Rows on operators and tests of sets over two or three atoms, for all sets.
 
-use crate::reading::{Readable, among, gate_values, has_bit};
-use crate::tally::{Line, Tally, add_line};
+use crate::operations::reading::{Readable, among, gate_values, has_bit};
+use crate::operations::tally::{Line, Tally, add_line};
 use core_tree::RelationOp;
 use core_tuples::{Tuple, TupleSet};
 use eval_sets::{

@@ -1,9 +1,9 @@
 //! Rows on sets as integers and integers as sets, of integers of one to three bits.
 
-use crate::integers::{are_bits, inputs, integer_with, size_of};
-use crate::reading::{Readable, gate_values};
-use crate::sets::{all_atoms, chosen, is_same};
-use crate::tally::{Line, Tally, add_line};
+use crate::operations::integers::{are_bits, inputs, integer_with, size_of};
+use crate::operations::reading::{Readable, gate_values};
+use crate::operations::sets::{all_atoms, chosen, is_same};
+use crate::operations::tally::{Line, Tally, add_line};
 use core_tuples::{TupleSet, Universe};
 use eval_sets::{EvaluationFault, single};
 use gate_numbers::{integer_of, masked_sum, matrix_of};

@@ -1,6 +1,6 @@
-//! Compares circuits of small models with the meaning of the models, under all assignments.
+//! The mode `encoding` compares circuits of small models with the meaning of the models, under all assignments: `MODEL ..`.
 //!
-//! Each word is a model, whose commands are taken in turn. An assignment of a command's table
+//! Each word is the file of a model, whose commands are taken in turn. An assignment of a command's table
 //! under which the circuit is sure is a lasso. Each such lasso is judged by the evaluator, which
 //! shares nothing with the circuit: whether it keeps the scopes, whether the declarations hold at
 //! every position, and whether each fact and the command hold at position 0. A line tells how many
@@ -12,22 +12,20 @@
 //!
 //! The status is 1 where one differs, the store hasn't fewer gates, or memory is wanting, and 3
 //! where a model is refused.
-#![tactic(auto)]
 
-pub mod comparing;
-pub mod sizes;
-pub mod values;
+mod comparing;
+mod sizes;
+mod values;
 
 use answer_analysis::{Prepared, prepare_loaded};
 use answer_search::clauses_of;
 use anyhow::Result;
 use base_library::EmbeddedLibrary;
-pub use comparing::{Question, Tally, compare};
+use comparing::{Question, Tally, compare};
 use load_modules::load_text;
-pub use sizes::sizes_of;
+use sizes::sizes_of;
 use std::alloc::{AllocError, Global};
-use std::process::ExitCode;
-use std::{env, fs};
+use std::fs;
 
 /// A command of a model, made ready, or none where the model is refused.
 fn ready(rt: &HostRuntime, name: &str, command: u32) -> Result<Option<Prepared>> {
@@ -124,15 +122,14 @@ fn compare_model(rt: &HostRuntime, name: &str) -> Result<u8> {
     Ok(status)
 }
 
-fn main(rt: HostRuntime) -> Result<ExitCode> {
-    let mut words = env::args(&rt)?;
-    let _program = words.next();
+/// Compares all commands of the models that the words name.
+pub fn run(rt: &HostRuntime, words: &[String]) -> Result<u8> {
     let mut status = 0;
     for name in words {
-        let next = compare_model(&rt, name.as_str())?;
+        let next = compare_model(rt, name.as_str())?;
         if next > status {
             status = next;
         }
     }
-    Ok(ExitCode::from(status))
+    Ok(status)
 }

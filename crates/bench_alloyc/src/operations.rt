@@ -1,4 +1,4 @@
-//! Compares circuits of small operands with plain values, under all assignments.
+//! The mode `operations` compares circuits of small operands with plain values, under all assignments. It takes no word.
 //!
 //! The operands are gates, integers and sets, over both stores of gates. Each line is a store, an
 //! operation, how many results are right, and how many aren't:
@@ -10,12 +10,11 @@
 //! - between sets and integers, for all of them at each width from 1 to 3.
 //!
 //! The status is 1 where a result is wrong.
-#![tactic(auto)]
 
 mod gates;
 mod integers;
 mod numbers;
-mod reading;
+pub mod reading;
 mod sets;
 mod tally;
 
@@ -29,7 +28,6 @@ use numbers::add_numbers;
 use reading::Readable;
 use sets::add_sets;
 use std::alloc::Global;
-use std::process::ExitCode;
 use tally::Line;
 
 /// All operations over one store of gates.
@@ -62,11 +60,12 @@ fn both_lines(alloc: Global) -> Result<(Vec<Line>, Vec<Line>), EvaluationFault> 
     Ok((plain, shared))
 }
 
-fn main(rt: HostRuntime) -> Result<ExitCode> {
+/// Compares all operations over both stores of gates.
+pub fn run(rt: &(impl Print + AllocGlobal)) -> Result<u8> {
     let Ok((plain, shared)) = both_lines(rt.alloc()) else {
-        return Ok(ExitCode::from(5));
+        return Ok(5);
     };
-    let plain_right = print_lines(&rt, "plain", &plain)?;
-    let shared_right = print_lines(&rt, "shared", &shared)?;
-    Ok(ExitCode::from(if plain_right && shared_right { 0 } else { 1 }))
+    let plain_right = print_lines(rt, "plain", &plain)?;
+    let shared_right = print_lines(rt, "shared", &shared)?;
+    Ok(if plain_right && shared_right { 0 } else { 1 })
 }

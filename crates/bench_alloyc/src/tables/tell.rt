@@ -1,8 +1,8 @@
 //! Prints what the analyser answers to a row.
 
-use crate::answer::{answer_to, shelf_of};
-use crate::parts::cut;
-use crate::row::{Row, Show};
+use crate::tables::answer::{answer_to, shelf_of};
+use crate::tables::parts::cut;
+use crate::tables::row::{Row, Show};
 use anyhow::{Context, Result};
 use std::rt::Files;
 use std::str;

@@ -1,6 +1,6 @@
 //! Runs the analyser once, as a row says.
 
-use crate::row::{Held, Origin, Row};
+use crate::tables::row::{Held, Origin, Row};
 use anyhow::Result;
 use base_library::EmbeddedLibrary;
 use base_types::{Library, MemoryLibrary, MemorySink};
