@@ -13,7 +13,7 @@ use Rattle.core_tuples.specs.Sets.{tuple_cmp, is_same}
 use Rattle.core_tuples.specs.Ordered.{same_itself, apart}
 use Rattle.core_meaning.specs.Operators.{IsListOf}
 use Rattle.core_meaning.specs.Kept.{IsWithin}
-use Rattle.core_laws.specs.Listed.{once, same_length}
+use Rattle.core_laws.specs.ListedMore.{once, same_length}
 
 abbrev pub first_of : List ℕ → ℕ
 first_of [] = 0

@@ -18,9 +18,9 @@ use Rattle.bmc_windows.specs.Frames.{state_shown}
 use Rattle.bmc_windows.specs.Pairing.{IsMoved}
 use Rattle.bmc_windows.specs.Pushes.{push_kept, push_at}
 use Rattle.bmc_leaves.specs.Table.{first_at, InState}
-use Rattle.bmc_leaves.specs.Shown.{Reading, IsReading, HasPlace, AreOf, of_relation}
+use Rattle.bmc_leaves.specs.Shown.{Reading, IsReading, HasPlace, AreOf, of_relation, Stay}
 use Rattle.bmc_leaves.specs.Relations.{AddsState, AtStates, AtShown, HasOneColumn}
-use Rattle.bmc_leaves.specs.KeptLaws.{Stay, matrix_belongs}
+use Rattle.bmc_leaves.specs.KeptLaws.{matrix_belongs}
 use Rattle.bmc_leaves.specs.PlaceLaws.{length_of, stretch_of, loop_below}
 
 pub states_none : (value : (ℕ → Bool) → Node → Bool) (matrices : List MatrixEntries) (bound : Bound) (cells : Cells) → AtStates value matrices bound cells 0 []

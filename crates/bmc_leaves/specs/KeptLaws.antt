@@ -1,4 +1,4 @@
--- Lemmas and their proofs; nothing to read here but `Stay`.
+-- Lemmas and their proofs; nothing to read here.
 -- What is right stays right while the circuit grows and sets are added.
 use Rattle.std.proofs.Common.{◌≡◌, ◌⊎◌, ◌+◌, ℕ, zero, suc, Bool, List, [], ◌∷◌, ◌++◌, length, All, Some, slice_get, refl, sym, ap, ◌∙◌, subst, arith, inl, inr, Vec, Global}
 use Rattle.std.proofs.lemmas.Option.{slice_get_within, get_or_from_slice_get}
@@ -14,7 +14,7 @@ use Rattle.bmc_windows.specs.Pushes.{push_kept, push_cases}
 use Rattle.bmc_stack.specs.declared.store.Store.{Store}
 use Rattle.bmc_stack.specs.Rows.{Grows, IsAdded, AreBeside}
 use Rattle.bmc_stack.specs.Stored.{AreStored}
-use Rattle.bmc_leaves.specs.Shown.{Reading, IsRight, HaveTuples, AreRight, Leaf, IsLeafAt, AreOf, AreKept}
+use Rattle.bmc_leaves.specs.Shown.{Reading, IsRight, HaveTuples, AreRight, Leaf, IsLeafAt, AreOf, AreKept, Stay}
 use Rattle.bmc_leaves.specs.RowLaws.{row_kept}
 use Rattle.bmc_leaves.specs.RightLaws.{true_same}
 
@@ -29,10 +29,6 @@ all_last P (x ∷ xs) y all = all_last P xs y (λ j e l. all (suc j) e (omega ar
 
 pub matrix_belongs : (P : Node → Type 0) (ms : List MatrixEntries) (k : ℕ) (m : MatrixEntries) → AllMatrices P ms → slice_get ms k ≡ Some m → AllBelong P m.entries
 matrix_belongs P ms k m all at = subst (λ (n : MatrixEntries). AllBelong P n.entries) (get_or_from_slice_get ms k m m at) (all k m (slice_get_within ms k m at))
-
--- all sets that there were are there
-abbrev pub Stay : List MatrixEntries → List MatrixEntries → Type 0
-Stay before after = (k : ℕ) (m : MatrixEntries) → slice_get before k ≡ Some m → slice_get after k ≡ Some m
 
 module _ {S : Type 0} (belongs : S → Node → Type 0) (value : S → (ℕ → Bool) → Node → Bool) (r : Reading) (g h : S) (keeps : Keeps belongs value g h) where
   pub right_kept : (f : Claim) (row : List Node) → AllIn (belongs g) row → IsRight r (value g) f row → IsRight r (value h) f row

@@ -124,3 +124,7 @@ pub record AreOf (r : Reading) (value : (ℕ → Bool) → Node → Bool) (matri
 -- the value that is kept under the number of such a set is its own, or nothing is kept of it
 abbrev pub AreKept : Reading → ((ℕ → Bool) → Node → Bool) → List MatrixEntries → List (Vec ℕ Global) → Type 0
 AreKept r value matrices kept = (leaf : Leaf) (n : ℕ) (numbers : Vec ℕ Global) → IsLeafAt r.bounds.relations leaf n → slice_get kept n ≡ Some numbers → (numbers.items ≡ []) ⊎ AreOf r value matrices leaf numbers.items
+
+-- all sets that there were are there
+abbrev pub Stay : List MatrixEntries → List MatrixEntries → Type 0
+Stay before after = (k : ℕ) (m : MatrixEntries) → slice_get before k ≡ Some m → slice_get after k ≡ Some m

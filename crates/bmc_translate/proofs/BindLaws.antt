@@ -20,9 +20,9 @@ use Rattle.bmc_stack.specs.Stored.{AreStored}
 use Rattle.bmc_stack.specs.Rows.{Grows, HasTop, IsPushed, IsConstant}
 use Rattle.bmc_stack.specs.Logic.{IsHeldWhere}
 use Rattle.bmc_stack.specs.Members.{HasMembers, SayMembers}
-use Rattle.bmc_leaves.specs.Shown.{Atoms, atom_in, Reading, under, IsReading, IsRight, AreRight, AreKept}
+use Rattle.bmc_leaves.specs.Shown.{Atoms, atom_in, Reading, under, IsReading, IsRight, AreRight, AreKept, Stay}
 use Rattle.bmc_leaves.specs.RightLaws.{ok_under}
-use Rattle.bmc_leaves.specs.KeptLaws.{all_front, all_last, Stay, right_kept, two_tops}
+use Rattle.bmc_leaves.specs.KeptLaws.{all_front, all_last, right_kept, two_tops}
 use Rattle.bmc_translate.specs.declared.plan.Name.{Name}
 use Rattle.bmc_translate.specs.declared.plan.Plan.{Plan}
 use Rattle.bmc_translate.specs.declared.plan.RowStep.TheVariants.{HeldWhere, DropBelow}

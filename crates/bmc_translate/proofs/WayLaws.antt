@@ -35,11 +35,11 @@ use Rattle.bmc_translate.specs.declared.plan.ValueStep.TheVariants.{Two, One, Ne
 use Rattle.bmc_translate.specs.declared.plan.RowStep.TheVariants.{Asked, Equal, Tested, Lies, Negate, Both, Same, Choose, After, Along}
 use Rattle.bmc_translate.specs.declared.plan.Task.{Task}
 use Rattle.bmc_translate.specs.declared.plan.Task.TheVariants.{Values, Rows}
-use Rattle.bmc_leaves.specs.Shown.{Atoms, Reading, under, IsReading, IsRight, AreRight}
+use Rattle.bmc_leaves.specs.Shown.{Atoms, Reading, under, IsReading, IsRight, AreRight, Stay}
 use Rattle.bmc_translate.specs.Said.{Said, claimed, Valued, valued, Aim, Side, IsKept, IsSaid}
 use Rattle.bmc_translate.specs.Leads.{on_one, on_two, Leads, RightRows, RightValues, IsOnTheWay}
 use Rattle.bmc_leaves.specs.RightLaws.{ok_under, negation_right, more_right, after_right, until_right, since_right, before_right, combine_right, product_right, closure_right, transpose_right, prime_right, inside_right}
-use Rattle.bmc_leaves.specs.KeptLaws.{all_front, all_last, Stay, right_kept}
+use Rattle.bmc_leaves.specs.KeptLaws.{all_front, all_last, right_kept}
 use Rattle.bmc_translate.proofs.StackLaws.{rows_kept, values_kept, is_kept}
 use Rattle.bmc_leaves.specs.KeptLaws.{two_tops}
 

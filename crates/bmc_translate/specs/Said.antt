@@ -10,8 +10,7 @@ use Rattle.core_meaning.specs.Called.{no_bodies}
 use Rattle.gate_matrix.specs.Matrices.{MatrixEntries}
 use Rattle.gate_temporal.specs.Rows.{row_value}
 use Rattle.bmc_windows.specs.declared.frame.Stretch.{Stretch}
-use Rattle.bmc_leaves.specs.Shown.{Atoms, names_of, Reading, under, HasPlace, Shows, IsRight, AreKept}
-use Rattle.bmc_leaves.specs.KeptLaws.{Stay}
+use Rattle.bmc_leaves.specs.Shown.{Atoms, names_of, Reading, under, HasPlace, Shows, IsRight, AreKept, Stay}
 use Rattle.bmc_translate.specs.declared.plan.Name.{Name}
 use Rattle.bmc_translate.specs.declared.plan.Plan.{Plan}
 

@@ -1,4 +1,5 @@
 pub mod Listed
+pub mod ListedMore
 pub mod Unique
 pub mod Sequences
 pub mod Typed

@@ -7,7 +7,8 @@ use Rattle.core_meaning.specs.World.{World, atom_of}
 use Rattle.core_meaning.specs.Operators.{IsNumber, IsSumOver, IsLone}
 use Rattle.core_meaning.specs.Meaning.{Names, Bodies, with_name, atom, ForEach, Picked}
 use Rattle.core_window.specs.Same.{SameTuples}
-use Rattle.core_laws.specs.Listed.{AreOnce, once, same_sum}
+use Rattle.core_laws.specs.Listed.{AreOnce}
+use Rattle.core_laws.specs.ListedMore.{once, same_sum}
 use Rattle.core_laws.specs.Unique.{number_once}
 use Rattle.eval_context.specs.Settings.{SettingValue, world}
 use Rattle.eval_steps.specs.Judged.{bodies, Means, HoldsIn, AreRows}
