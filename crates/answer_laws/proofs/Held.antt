@@ -14,7 +14,7 @@ use Rattle.answer_trace.specs.declared.label.RelationLabel.{RelationLabel}
 use Rattle.answer_trace.specs.declared.make.Naming.{Naming}
 use Rattle.answer_trace.specs.declared.make.Naming.TheVariants.{Literal, Strings, Numbered}
 use Rattle.answer_trace.specs.Made.{naming_of, named_texts, nth_texts, texts_before, integer_texts, universe_texts, shown_as, first_atom, relation_labels_of}
-use Rattle.answer_trace.specs.CountLaws.{labels_count}
+use Rattle.answer_trace.proofs.CountLaws.{labels_count}
 use Rattle.answer_laws.specs.Form.{HasNoFeed, HasAtom, HaveLassos}
 use Rattle.answer_laws.specs.Labelled.{IsLabelOf, IsLabelled, AreNumbered, AreLabelsOf}
 use Rattle.answer_laws.proofs.LabelsApart.{all_of}

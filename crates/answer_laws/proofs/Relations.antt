@@ -10,7 +10,7 @@ use Rattle.core_meaning.specs.declared.scopes.Scopes.{Scopes}
 use Rattle.answer_trace.specs.declared.label.RelationLabel.{RelationLabel}
 use Rattle.answer_trace.specs.Owners.{owner_at, put_where, owned_in, owned}
 use Rattle.answer_trace.specs.Made.{label_of_sig, sig_label_at, label_of_field, field_label_at, field_labels, first_atom, labels_before, relation_labels_of}
-use Rattle.answer_trace.specs.CountLaws.{owner_le, labels_count}
+use Rattle.answer_trace.proofs.CountLaws.{owner_le, labels_count}
 use Rattle.answer_laws.proofs.LabelsApart.{IsApart, apart_none, apart_one, apart_both, in_one, in_none}
 
 -- ---- what an owner's fields are

@@ -8,7 +8,7 @@ use Rattle.std.specs.Cmp.Lexicographic.{nat_list_cmp_total}
 use Rattle.std.proofs.lemmas.Bool.{ne_eqb}
 use Rattle.std.proofs.lemmas.List.Elements.{Contains-append_cases, Contains-append_left, Contains-append_right}
 use Rattle.core_tuples.specs.Sets.{TupleList, IsTupleSet, HasJust, In, tuple_cmp}
-use Rattle.core_tuples.specs.Order.{cons_cases, cons_here, cons_later, no_members, not_below_itself}
+use Rattle.core_tuples.proofs.OrderLemmas.{cons_cases, cons_here, cons_later, no_members, not_below_itself}
 use Rattle.answer_trace.specs.Reading.{is_less, comes_after}
 
 -- ---- sorted lists with the same tuples are the same

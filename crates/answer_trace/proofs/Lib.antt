@@ -11,3 +11,4 @@ pub mod Nowhere
 pub mod Ways
 pub mod Arranging
 pub mod Ended
+pub mod CountLaws

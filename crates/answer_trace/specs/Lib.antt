@@ -1,7 +1,6 @@
 pub mod Text
 pub mod Owners
 pub mod Made
-pub mod CountLaws
 pub mod Unread
 pub mod Reading
 pub mod Faults

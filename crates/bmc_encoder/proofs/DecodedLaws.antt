@@ -7,7 +7,7 @@ use Rattle.bound_uppers.specs.declared.places.Cells.{Cells}
 use Rattle.bound_uppers.specs.declared.places.Layout.{Layout}
 use Rattle.bound_uppers.specs.declared.table.Bound.{Bound}
 use Rattle.bound_uppers.specs.declared.table.Bounds.{Bounds}
-use Rattle.bmc_windows.specs.Pushes.{push_kept, push_at}
+use Rattle.bmc_windows.proofs.PushLemmas.{push_kept, push_at}
 use Rattle.bmc_leaves.specs.Loops.{IsLoopOf}
 use Rattle.bmc_leaves.specs.Table.{first_at, Decodes}
 

@@ -9,7 +9,7 @@ use Rattle.core_tree.specs.declared.tree.Formula.{Formula, Every, ForAll, Counte
 use Rattle.core_tree.specs.declared.tree.Expr.{Expr, Comprehension, Sum, Call as CallExpr}
 use Rattle.core_tree.specs.Trees.{Term, Claim, Claims, Binder, sig, field, name, univ, iden, empty, int, combine, product, unary, prime, inside, equal, within, test, negation, every, for_all, connect, choose_claim, temporal, temporal_pair, no_variables, more_variables, no_claims, more_claims, term_of, claim_of, variable_of, variable_list, claim_list}
 use Rattle.core_tree.specs.Past.{Depths, no_depths, with_depth, under_unary, under_binary, past_in, past_of, past_of_each}
-use Rattle.core_tree.specs.Rows.{every_is, for_all_is, counted_is, call_claim_is, comprehension_is, sum_over_is, call_term_is}
+use Rattle.core_tree.proofs.RowLemmas.{every_is, for_all_is, counted_is, call_claim_is, comprehension_is, sum_over_is, call_term_is}
 use Rattle.bmc_leaves.specs.Shown.{none_nested}
 use Rattle.bmc_translate.specs.Forms.{IsPlain, IsPlainTerm, ArePlain}
 use Rattle.bmc_encoder.specs.Depths.{nested_in, nested_of, nested_of_bounds, nested_of_each}

@@ -4,7 +4,7 @@ use Rattle.gate_trait.specs.declared.node.Node.{Node}
 use Rattle.gate_trait.specs.Built.{Keeps, AllIn}
 use Rattle.gate_temporal.specs.Rows.{row_value, IsOnlyOf}
 use Rattle.bmc_leaves.specs.Loops.{AreChoices}
-use Rattle.bmc_leaves.specs.RowLaws.{row_kept}
+use Rattle.bmc_leaves.proofs.RowLaws.{row_kept}
 
 -- the only choice that is true is where the loop begins
 pub only_loop : (is y : ℕ → Bool) (n len l : ℕ) → len ≡ n → 1 < n → ((k : ℕ) → k < n → is k ≡ y k) → IsOnlyOf is len l ↔ ((l < n) × ((1 < n) → (k : ℕ) → k < n → (y k ≡ true) ↔ (k ≡ l)))

@@ -16,15 +16,15 @@ use Rattle.bound_uppers.specs.declared.places.Layout.{Layout}
 use Rattle.bound_uppers.specs.declared.table.Bounds.{Bounds}
 use Rattle.bmc_windows.specs.declared.frame.Stretch.{Stretch}
 use Rattle.bmc_windows.specs.Frames.{rounds_of}
-use Rattle.bmc_windows.specs.Pushes.{push_cases}
+use Rattle.bmc_windows.proofs.PushLemmas.{push_cases}
 use Rattle.bmc_leaves.specs.Loops.{AreChoices}
 use Rattle.bmc_leaves.specs.Table.{Decodes}
 use Rattle.bmc_leaves.specs.Shown.{Reading, under, IsReading, Shows, HasPlace, IsRight}
 use Rattle.bmc_encoder.specs.Firsts.{AreFirsts, SaysRoot}
-use Rattle.bmc_leaves.specs.RowLaws.{row_kept, push_last, push_before}
+use Rattle.bmc_leaves.proofs.RowLaws.{row_kept, push_last, push_before}
 use Rattle.bmc_encoder.proofs.LoopLaws.{only_same}
-use Rattle.bmc_leaves.specs.PlaceLaws.{round_more}
-use Rattle.bmc_leaves.specs.RightLaws.{true_same}
+use Rattle.bmc_leaves.proofs.PlaceLaws.{round_more}
+use Rattle.bmc_leaves.proofs.RightLaws.{true_same}
 
 -- how deep past operators nest at most, where windows have rounds for a depth
 abbrev pub depth_for : ℕ → ℕ

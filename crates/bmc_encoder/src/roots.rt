@@ -171,7 +171,7 @@ fn root_of<G: Gates>(
 }
 
 /// Adds the roots of the formulas, in order.
-#[tactic(auto, using(bmc_windows::specs::Pushes::push_kept))]
+#[tactic(auto, using(bmc_windows::proofs::PushLemmas::push_kept))]
 fn add_roots<G: Gates>(
     alloc: Global,
     gates: &mut G,

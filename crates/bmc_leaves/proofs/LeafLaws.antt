@@ -19,8 +19,8 @@ use Rattle.gate_sets.specs.declared.operators.SetOperator.TheVariants.{Combine, 
 use Rattle.bmc_stack.specs.Sets.{AreMade}
 use Rattle.bmc_leaves.specs.Shown.{Reading, IsReading, HaveTuples, AreOf, of_relation, of_univ, of_iden, of_int, leaf_tuples, Stay}
 use Rattle.bmc_leaves.specs.Relations.{HasOneColumn, InUniverseBelow, univ_below}
-use Rattle.bmc_leaves.specs.RightLaws.{everywhere}
-use Rattle.bmc_leaves.specs.KeptLaws.{tuples_kept}
+use Rattle.bmc_leaves.proofs.RightLaws.{everywhere}
+use Rattle.bmc_leaves.proofs.KeptLaws.{tuples_kept}
 use Rattle.bmc_leaves.proofs.MarkLaws.{first_of, single}
 
 ints_same : (scopes : Scopes) (lasso : LassoValue) (first end : ℕ) → first ≡ atom_count scopes.numbers → end ≡ atom_count scopes.numbers + 2 ^ scopes.bits → (k : ℕ) (t : List ℕ) → from_to first end t ↔ leaf_tuples (world_of scopes lasso) of_int k t

@@ -2,3 +2,8 @@ pub mod MarkLaws
 pub mod ScopeLaws
 pub mod RelationLaws
 pub mod LeafLaws
+pub mod KeptLaws
+pub mod LyingLaws
+pub mod PlaceLaws
+pub mod RightLaws
+pub mod RowLaws

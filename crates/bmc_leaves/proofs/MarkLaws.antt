@@ -10,10 +10,10 @@ use Rattle.std.proofs.lemmas.List.Kept.{AllPairs-cons}
 use Rattle.gate_trait.specs.declared.node.Node.{Node}
 use Rattle.gate_temporal.specs.Rows.{row_value}
 use Rattle.core_tuples.specs.Sets.{tuple_cmp, is_same}
-use Rattle.core_tuples.specs.Ordered.{same_itself, apart}
+use Rattle.core_tuples.proofs.OrderedLemmas.{same_itself, apart}
 use Rattle.core_meaning.specs.Operators.{IsListOf}
 use Rattle.core_meaning.specs.Kept.{IsWithin}
-use Rattle.core_laws.specs.ListedMore.{once, same_length}
+use Rattle.core_laws.proofs.ListedLemmas.{once, same_length}
 
 abbrev pub first_of : List ℕ → ℕ
 first_of [] = 0

@@ -9,19 +9,19 @@ use Rattle.core_meaning.specs.Sequence.{LassoValue, place_of}
 use Rattle.core_meaning.specs.World.{InRelation}
 use Rattle.core_meaning.specs.Kept.{world_of}
 use Rattle.gate_matrix.specs.Matrices.{MatrixEntries}
-use Rattle.gate_matrix.specs.Found.{truth_kept}
+use Rattle.gate_matrix.proofs.FoundLemmas.{truth_kept}
 use Rattle.gate_sets.specs.Belonging.{AllMatrices}
 use Rattle.bound_uppers.specs.declared.places.Cells.{Cells}
 use Rattle.bound_uppers.specs.declared.table.Bound.{Bound}
 use Rattle.bmc_windows.specs.declared.frame.Stretch.{Stretch}
 use Rattle.bmc_windows.specs.Frames.{state_shown}
 use Rattle.bmc_windows.specs.Pairing.{IsMoved}
-use Rattle.bmc_windows.specs.Pushes.{push_kept, push_at}
+use Rattle.bmc_windows.proofs.PushLemmas.{push_kept, push_at}
 use Rattle.bmc_leaves.specs.Table.{first_at, InState}
 use Rattle.bmc_leaves.specs.Shown.{Reading, IsReading, HasPlace, AreOf, of_relation, Stay}
 use Rattle.bmc_leaves.specs.Relations.{AddsState, AtStates, AtShown, HasOneColumn}
-use Rattle.bmc_leaves.specs.KeptLaws.{matrix_belongs}
-use Rattle.bmc_leaves.specs.PlaceLaws.{length_of, stretch_of, loop_below}
+use Rattle.bmc_leaves.proofs.KeptLaws.{matrix_belongs}
+use Rattle.bmc_leaves.proofs.PlaceLaws.{length_of, stretch_of, loop_below}
 
 pub states_none : (value : (ℕ → Bool) → Node → Bool) (matrices : List MatrixEntries) (bound : Bound) (cells : Cells) → AtStates value matrices bound cells 0 []
 states_none value matrices bound cells state lt = absurd (omega (arith, lt))

@@ -17,7 +17,7 @@ use Rattle.bound_uppers.specs.declared.places.Layout.{Layout}
 use Rattle.bound_uppers.specs.declared.table.Bound.{Bound}
 use Rattle.bound_uppers.specs.declared.table.Bounds.{Bounds}
 use Rattle.bmc_leaves.specs.Table.{first_at, IsEver, Decodes}
-use Rattle.bmc_leaves.specs.RowLaws.{push_last, push_before}
+use Rattle.bmc_leaves.proofs.RowLaws.{push_last, push_before}
 use Rattle.bmc_leaves.proofs.MarkLaws.{IsMarked, count_law}
 
 or_cases : (a b : Bool) → a || b ≡ true → (a ≡ true) ⊎ (b ≡ true)

@@ -3,9 +3,4 @@ pub mod Table
 pub mod Numbers
 pub mod Shown
 pub mod Relations
-pub mod RowLaws
-pub mod PlaceLaws
-pub mod RightLaws
-pub mod KeptLaws
 pub mod Lying
-pub mod LyingLaws

@@ -7,7 +7,7 @@ use Rattle.gate_trait.specs.declared.node.Node.{Node}
 use Rattle.gate_matrix.specs.Matrices.{MatrixEntries, truth, tuples_of}
 use Rattle.gate_temporal.specs.Rows.{row_value}
 use Rattle.bmc_windows.specs.Pairing.{ArePairs}
-use Rattle.bmc_windows.specs.Pushes.{push_kept, push_at}
+use Rattle.bmc_windows.proofs.PushLemmas.{push_kept, push_at}
 use Rattle.bmc_stack.specs.Sets.{StandsAt}
 use Rattle.bmc_stack.specs.Members.{SaysMember, SaysRow, SayMembers, HasMembers, AddsTuples}
 use Rattle.bmc_stack.proofs.RowLaws.{value_at, value_append_before, value_append_after}

@@ -5,9 +5,9 @@ use Rattle.std.proofs.lemmas.Bool.{cases_lt}
 use Rattle.std.proofs.lemmas.Option.{slice_get_within, get_or_from_slice_get, slice_get-get_or}
 use Rattle.gate_trait.specs.declared.node.Node.{Node}
 use Rattle.gate_trait.specs.Built.{Keeps, AllIn}
-use Rattle.gate_trait.specs.Kept.{all_get}
+use Rattle.gate_trait.proofs.KeptLemmas.{all_get}
 use Rattle.gate_matrix.specs.Matrices.{MatrixEntries, AllBelong, truth}
-use Rattle.gate_matrix.specs.Found.{truth_kept}
+use Rattle.gate_matrix.proofs.FoundLemmas.{truth_kept}
 use Rattle.gate_operators.specs.Sets.{MeansSet, set_of}
 use Rattle.gate_sets.specs.Belonging.{AllMatrices, AllLists}
 use Rattle.gate_sets.specs.declared.operators.SetOperator.{SetOperator}
@@ -15,7 +15,7 @@ use Rattle.gate_sets.specs.declared.questions.Question.{Question}
 use Rattle.gate_sets.specs.Sets.{tuples_made, IsAnswered}
 use Rattle.gate_temporal.specs.Rows.{row_value}
 use Rattle.bmc_windows.specs.Pairing.{ArePairs, IsMoved}
-use Rattle.bmc_windows.specs.Pushes.{push_kept, push_at}
+use Rattle.bmc_windows.proofs.PushLemmas.{push_kept, push_at}
 use Rattle.bmc_stack.specs.declared.numbers.Operator.{Operator}
 use Rattle.bmc_stack.specs.declared.numbers.Operator.TheVariants.{OfSets}
 use Rattle.bmc_stack.specs.declared.numbers.TestOperator.{TestOperator}

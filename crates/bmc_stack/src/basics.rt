@@ -30,7 +30,7 @@ pub fn empty_store<G: Gates>(alloc: Global, gates: &G) -> Store
 }
 
 /// Adds a set, and gives its number.
-#[tactic(auto, using(bmc_windows::specs::Pushes::push_kept))]
+#[tactic(auto, using(bmc_windows::proofs::PushLemmas::push_kept))]
 pub fn add_matrix<G: Gates>(
     gates: &G,
     store: &mut Store,
@@ -51,7 +51,7 @@ pub fn add_matrix<G: Gates>(
 }
 
 /// Adds an integer, and gives its number.
-#[tactic(auto, using(bmc_windows::specs::Pushes::push_kept))]
+#[tactic(auto, using(bmc_windows::proofs::PushLemmas::push_kept))]
 pub fn add_integer<G: Gates>(gates: &G, store: &mut Store, bits: Bits) -> Result<usize, AllocError>
     requires store { AreStored (G.belongs gates.now) store.old }
     requires bits { AllIn (G.belongs gates.now) bits }

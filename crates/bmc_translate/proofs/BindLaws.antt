@@ -6,14 +6,14 @@ use Rattle.std.proofs.lemmas.Bool.Decides.{nat_tests}
 use Rattle.std.proofs.lemmas.Option.{slice_get_within, slice_get-get_or}
 use Rattle.gate_trait.specs.declared.node.Node.{Node}
 use Rattle.gate_trait.specs.Built.{Keeps, AllIn}
-use Rattle.gate_trait.specs.Kept.{keeps_refl}
+use Rattle.gate_trait.proofs.KeptLemmas.{keeps_refl}
 use Rattle.core_tree.specs.declared.tree.Expr.{Expr}
 use Rattle.core_tree.specs.declared.tree.Formula.{Formula}
 use Rattle.core_tree.specs.declared.tree.Variable.{Variable}
 use Rattle.core_tree.specs.Trees.{Term, Claim, Binder, term_of, claim_of, variable_of}
 use Rattle.gate_matrix.specs.Matrices.{MatrixEntries}
 use Rattle.gate_sets.specs.Belonging.{AllLists}
-use Rattle.bmc_windows.specs.Pushes.{push_kept, push_last, push_at}
+use Rattle.bmc_windows.proofs.PushLemmas.{push_kept, push_last, push_at}
 use Rattle.bmc_stack.specs.declared.store.Store.{Store}
 use Rattle.bmc_stack.specs.declared.store.Mark.{Mark}
 use Rattle.bmc_stack.specs.Stored.{AreStored}
@@ -21,8 +21,8 @@ use Rattle.bmc_stack.specs.Rows.{Grows, HasTop, IsPushed, IsConstant}
 use Rattle.bmc_stack.specs.Logic.{IsHeldWhere}
 use Rattle.bmc_stack.specs.Members.{HasMembers, SayMembers}
 use Rattle.bmc_leaves.specs.Shown.{Atoms, atom_in, Reading, under, IsReading, IsRight, AreRight, AreKept, Stay}
-use Rattle.bmc_leaves.specs.RightLaws.{ok_under}
-use Rattle.bmc_leaves.specs.KeptLaws.{all_front, all_last, right_kept, two_tops}
+use Rattle.bmc_leaves.proofs.RightLaws.{ok_under}
+use Rattle.bmc_leaves.proofs.KeptLaws.{all_front, all_last, right_kept, two_tops}
 use Rattle.bmc_translate.specs.declared.plan.Name.{Name}
 use Rattle.bmc_translate.specs.declared.plan.Plan.{Plan}
 use Rattle.bmc_translate.specs.declared.plan.RowStep.TheVariants.{HeldWhere, DropBelow}

@@ -6,8 +6,8 @@ use Rattle.core_tree.specs.Trees.{Claim, connect, choose_claim}
 use Rattle.core_meaning.specs.Operators.{IsImplied as Implies}
 use Rattle.bmc_stack.specs.Logic.{AreSame, IsChoice}
 use Rattle.bmc_leaves.specs.Shown.{Reading, IsReading, IsRight}
-use Rattle.bmc_leaves.specs.PlaceLaws.{place_within}
-use Rattle.bmc_leaves.specs.RightLaws.{not_means, both_means}
+use Rattle.bmc_leaves.proofs.PlaceLaws.{place_within}
+use Rattle.bmc_leaves.proofs.RightLaws.{not_means, both_means}
 
 implied_means : {P Q : Type 0} (v a b : Bool) → v ≡ not (a && not b) → IsTrue a ↔ P → IsTrue b ↔ Q → IsTrue v ↔ Implies P Q
 implied_means v a b e f g = not_means v (a && not b) e (both_means (a && not b) a (not b) refl f (not_means (not b) b refl g))

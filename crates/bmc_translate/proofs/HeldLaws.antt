@@ -9,13 +9,13 @@ use Rattle.core_meaning.specs.Meaning.{IsApart, InTerm, Holds}
 use Rattle.core_meaning.specs.Called.{no_bodies}
 use Rattle.gate_matrix.specs.declared.entry.Entry.{Entry}
 use Rattle.gate_matrix.specs.Matrices.{MatrixEntries, tuples_of, truth}
-use Rattle.gate_matrix.specs.Found.{found_entry}
+use Rattle.gate_matrix.proofs.FoundLemmas.{found_entry}
 use Rattle.gate_temporal.specs.Rows.{row_value}
 use Rattle.bmc_stack.specs.Rows.{IsConstant}
 use Rattle.bmc_stack.specs.Logic.{IsHeldWhere}
 use Rattle.bmc_stack.specs.Members.{HasMembers, SayMembers}
 use Rattle.bmc_leaves.specs.Shown.{names_of, Reading, under, IsReading, IsRight, AreRight}
-use Rattle.bmc_leaves.specs.PlaceLaws.{place_within}
+use Rattle.bmc_leaves.proofs.PlaceLaws.{place_within}
 use Rattle.bmc_translate.specs.Said.{all_of, SaysMembers, HoldsFor, SaysHeld}
 use Rattle.bmc_translate.specs.Leads.{AreDone}
 

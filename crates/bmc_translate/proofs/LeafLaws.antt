@@ -13,13 +13,13 @@ use Rattle.bmc_translate.specs.declared.plan.Task.{Task}
 use Rattle.bmc_translate.specs.declared.plan.Task.TheVariants.{Sets}
 use Rattle.bmc_translate.specs.declared.plan.Plan.{Plan}
 use Rattle.bmc_leaves.specs.Shown.{Atoms, Reading, under, IsReading, AreRight, AreOf, Leaf, IsLeafAt, of_relation, of_univ, of_iden, of_int}
-use Rattle.bmc_leaves.specs.KeptLaws.{of_stays}
+use Rattle.bmc_leaves.proofs.KeptLaws.{of_stays}
 use Rattle.bmc_translate.specs.Said.{Said, claimed, Valued, valued, Aim, Side, side_of, IsKept}
 use Rattle.bmc_translate.specs.Leads.{Leads, RightRows, RightValues, IsOnTheWay}
 use Rattle.bmc_leaves.specs.Shown.{AreKept}
 use Rattle.bmc_translate.specs.Opened.{HoldsLeaf, IsOpenedWith, IsPutRow, opened_to}
 use Rattle.bmc_translate.specs.Plans.{todo, IsPut, IsOpened}
-use Rattle.bmc_leaves.specs.RightLaws.{ok_under, nothing_right}
+use Rattle.bmc_leaves.proofs.RightLaws.{ok_under, nothing_right}
 
 -- what is kept of a set without parts
 kept_of : (r : Reading) (value : (ℕ → Bool) → Node → Bool) (matrices : List MatrixEntries) (kept : List (Vec ℕ Global)) (leaf : Leaf) (number : ℕ) (v : List ℕ) → AreKept r value matrices kept → IsLeafAt r.bounds.relations leaf number → HoldsLeaf kept number v → AreOf r value matrices leaf v

@@ -5,11 +5,11 @@ use Rattle.gate_trait.specs.Built.{Keeps, AllIn}
 use Rattle.gate_matrix.specs.Matrices.{MatrixEntries}
 use Rattle.gate_sets.specs.Belonging.{AllMatrices, AllLists}
 use Rattle.bmc_leaves.specs.Shown.{Reading, under, Stay}
-use Rattle.bmc_leaves.specs.RowLaws.{row_kept}
-use Rattle.bmc_leaves.specs.RightLaws.{true_same}
+use Rattle.bmc_leaves.proofs.RowLaws.{row_kept}
+use Rattle.bmc_leaves.proofs.RightLaws.{true_same}
 use Rattle.bmc_translate.specs.Said.{Said, claimed, members, held, Valued, Aim, Side, IsKept, IsSaid}
 use Rattle.bmc_translate.specs.Leads.{RightRows, RightValues}
-use Rattle.bmc_leaves.specs.KeptLaws.{all_front, all_last, right_kept, tuples_kept, first_kept}
+use Rattle.bmc_leaves.proofs.KeptLaws.{all_front, all_last, right_kept, tuples_kept, first_kept}
 
 module _ {S : Type 0} (belongs : S → Node → Type 0) (value : S → (ℕ → Bool) → Node → Bool) (r : Reading) (g h : S) (keeps : Keeps belongs value g h) where
   pub said_kept : (f : Said) (row : List Node) → AllIn (belongs g) row → IsSaid r (value g) f row → IsSaid r (value h) f row

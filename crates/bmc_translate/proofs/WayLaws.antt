@@ -38,10 +38,10 @@ use Rattle.bmc_translate.specs.declared.plan.Task.TheVariants.{Values, Rows}
 use Rattle.bmc_leaves.specs.Shown.{Atoms, Reading, under, IsReading, IsRight, AreRight, Stay}
 use Rattle.bmc_translate.specs.Said.{Said, claimed, Valued, valued, Aim, Side, IsKept, IsSaid}
 use Rattle.bmc_translate.specs.Leads.{on_one, on_two, Leads, RightRows, RightValues, IsOnTheWay}
-use Rattle.bmc_leaves.specs.RightLaws.{ok_under, negation_right, more_right, after_right, until_right, since_right, before_right, combine_right, product_right, closure_right, transpose_right, prime_right, inside_right}
-use Rattle.bmc_leaves.specs.KeptLaws.{all_front, all_last, right_kept}
+use Rattle.bmc_leaves.proofs.RightLaws.{ok_under, negation_right, more_right, after_right, until_right, since_right, before_right, combine_right, product_right, closure_right, transpose_right, prime_right, inside_right}
+use Rattle.bmc_leaves.proofs.KeptLaws.{all_front, all_last, right_kept}
 use Rattle.bmc_translate.proofs.StackLaws.{rows_kept, values_kept, is_kept}
-use Rattle.bmc_leaves.specs.KeptLaws.{two_tops}
+use Rattle.bmc_leaves.proofs.KeptLaws.{two_tops}
 
 -- what is taken from the top of the values
 abbrev pub Takes : List (Vec ℕ Global) → List (Vec ℕ Global) → Vec ℕ Global → Type 0

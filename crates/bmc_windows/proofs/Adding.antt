@@ -5,7 +5,7 @@ use Rattle.std.proofs.lemmas.Bool.{cases_lt}
 use Rattle.bmc_windows.specs.declared.frame.Stretch.{Stretch}
 use Rattle.bmc_windows.specs.declared.frame.Frame.{Frame}
 use Rattle.bmc_windows.specs.Frames.{AddsPlaces, AddsStretch, IsFrame, IsStretch}
-use Rattle.bmc_windows.specs.Pushes.{push_kept, push_at, push_cases}
+use Rattle.bmc_windows.proofs.PushLemmas.{push_kept, push_at, push_cases}
 
 pub adds_none : (old : List ℕ) (at : ℕ → ℕ) → AddsPlaces old old 0 at
 adds_none old at = record { long = omega arith; kept = λ k v e. e; added = λ k lt. absurd (omega arith) }

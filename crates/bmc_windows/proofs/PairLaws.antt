@@ -3,7 +3,7 @@ use Rattle.std.proofs.Common.{◌≡◌, ◌⊎◌, ◌<◌, ◌≤◌, ℕ, zer
 use Rattle.std.proofs.lemmas.Option.{slice_get_within, get_or_from_slice_get, slice_get-get_or}
 use Rattle.std.proofs.lemmas.Bool.{cases_lt}
 use Rattle.bmc_windows.specs.Pairing.{ArePairs, IsMoved, AddsPair}
-use Rattle.bmc_windows.specs.Pushes.{push_kept, push_at}
+use Rattle.bmc_windows.proofs.PushLemmas.{push_kept, push_at}
 
 -- the pairs at the first places
 pub record PairsTo (pairs : List (ℕ × ℕ)) (row a b : List ℕ) (i : ℕ) : Type 0 where

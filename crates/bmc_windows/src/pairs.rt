@@ -37,7 +37,7 @@ fn place_of(pairs: &[(usize, usize)], first: usize, second: usize) -> Option<usi
 }
 
 /// Adds the number of a pair to the row, and the pair to the list where it is new.
-#[tactic(auto, using(crate::specs::Pushes::push_kept, crate::specs::Pushes::push_at))]
+#[tactic(auto, using(crate::proofs::PushLemmas::push_kept, crate::proofs::PushLemmas::push_at))]
 fn add_pair(
     pairs: &mut Vec<(usize, usize)>,
     row: &mut Vec<usize>,

@@ -1,7 +1,7 @@
 -- A renaming that brings some atoms to their places, one after the other.
 use Rattle.std.proofs.Common.{◌≡◌, ◌≢◌, ◌↔◌, inl, inr, ℕ, List, [], ◌∷◌, Contains, refl, sym, ap, ◌∙◌, subst}
 use Rattle.std.proofs.lemmas.Bool.{cases_eq}
-use Rattle.core_tuples.specs.Order.{cons_cases, cons_here, cons_later, no_members}
+use Rattle.core_tuples.proofs.OrderLemmas.{cons_cases, cons_here, cons_later, no_members}
 use Rattle.core_renaming.specs.Renamings.{Renaming}
 use Rattle.core_renaming.specs.Composed.{composed, exchanged, exchanged_first, exchanged_second, exchanged_other, exchange}
 

@@ -2,7 +2,7 @@
 use Rattle.std.proofs.Common.{◌≡◌, inl, inr, ℕ, zero, suc, eqb, ◌||◌, if◌then◌else◌, ◌+◌, ◌-◌, ◌<◌, Bool, true, false, not, IsTrue, List, [], ◌∷◌, length, Contains, ◌&&◌, Option, Some, None, is_some, slice_get, get_or, refl, sym, ap, ◌∙◌, subst, arith}
 use Rattle.std.specs.List.{list_any}
 use Rattle.std.proofs.lemmas.Bool.{false≢true, eqb-true, eq-eqb, and_parts, not-true}
-use Rattle.core_tuples.specs.Order.{cons_here, cons_later}
+use Rattle.core_tuples.proofs.OrderLemmas.{cons_here, cons_later}
 use Rattle.core_tree.specs.declared.model.Model.{Model}
 use Rattle.core_tree.specs.declared.model.Sig.{Sig}
 use Rattle.core_tree.specs.declared.model.SigKind.{SigKind}

@@ -4,7 +4,7 @@ use Rattle.std.specs.declared.cmp.Ordering.TheVariants.{Less}
 use Rattle.std.specs.List.{AllByRecursion}
 use Rattle.std.specs.List.Sorted.{IsStrictlySortedBy}
 use Rattle.std.specs.Cmp.Lexicographic.{nat_list_cmp_total}
-use Rattle.core_tuples.specs.Order.{cons_cases, cons_here, cons_later, no_members, not_below_itself}
+use Rattle.core_tuples.proofs.OrderLemmas.{cons_cases, cons_here, cons_later, no_members, not_below_itself}
 use Rattle.core_tuples.specs.Sets.{tuple_cmp}
 
 rec_at : {X : Type 0} (P : X → Type 0) (xs : List X) (t : X) → AllByRecursion P xs → Contains xs t → P t

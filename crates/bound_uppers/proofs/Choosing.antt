@@ -8,7 +8,7 @@ use Rattle.std.proofs.lemmas.Bool.{cases_lt}
 use Rattle.std.specs.Prelude.{slice_index_or}
 use Rattle.std.proofs.lemmas.List.{take-append-drop, length-take-le, get_or_past, append-nil}
 use Rattle.std.proofs.lemmas.List.Elements.{Contains-append_cases, Contains-append_left, Contains-append_right}
-use Rattle.core_tuples.specs.Order.{cons_cases, cons_here, cons_later, no_members, not_below_itself, take_get, some_same}
+use Rattle.core_tuples.proofs.OrderLemmas.{cons_cases, cons_here, cons_later, no_members, not_below_itself, take_get, some_same}
 use Rattle.core_tuples.specs.Sets.{tuple_cmp, TupleList, IsTupleSet, In, HasJust}
 use Rattle.bound_uppers.specs.Table.{keep, chosen, least, truth}
 

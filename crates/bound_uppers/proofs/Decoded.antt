@@ -9,7 +9,7 @@ use Rattle.std.proofs.lemmas.List.FromFn.{length-map-range_with_len}
 use Rattle.std.proofs.lemmas.List.Elements.{recursion_from_All, All-from_recursion}
 use Rattle.core_tuples.specs.Sets.{TupleList, IsTupleSet, tuple_cmp, In}
 use Rattle.core_tuples.specs.Index.{IsNumber}
-use Rattle.core_tuples.specs.Order.{cons_cases, cons_here, cons_later, no_members, not_below_itself}
+use Rattle.core_tuples.proofs.OrderLemmas.{cons_cases, cons_here, cons_later, no_members, not_below_itself}
 use Rattle.core_meaning.specs.Sequence.{LassoValue}
 use Rattle.bound_uppers.specs.declared.table.Bound.{Bound}
 use Rattle.bound_uppers.specs.declared.table.Bounds.{Bounds}

@@ -5,7 +5,7 @@ use Rattle.std.proofs.lemmas.List.{take_more}
 use Rattle.std.proofs.lemmas.List.Elements.{All-nil, All-cons, All-contains, All-take, All-drop, Contains-get_or, Contains-push_cases, Contains-append_left, Contains-append_right, Contains-append_cases}
 use Rattle.core_tuples.specs.Sets.{TupleList, In, HasJust, IsPaired}
 use Rattle.core_tuples.specs.Index.{IsNumber}
-use Rattle.core_tuples.specs.Order.{cons_cases, cons_here, no_members, take_all}
+use Rattle.core_tuples.proofs.OrderLemmas.{cons_cases, cons_here, no_members, take_all}
 use Rattle.bound_uppers.specs.declared.numbers.AtomRange.{AtomRange}
 use Rattle.bound_uppers.specs.declared.given.AtomSets.{AtomSets}
 use Rattle.bound_uppers.specs.Kinds.{InSpan}

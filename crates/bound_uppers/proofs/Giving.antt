@@ -5,7 +5,7 @@ use Rattle.std.proofs.lemmas.List.{get_or_past}
 use Rattle.std.proofs.lemmas.Option.{slice_get_past, slice_get_within}
 use Rattle.std.proofs.lemmas.List.Elements.{All-nil, All-push}
 use Rattle.core_tuples.specs.Sets.{TupleList, In, HasJust}
-use Rattle.core_tuples.specs.Order.{no_members}
+use Rattle.core_tuples.proofs.OrderLemmas.{no_members}
 use Rattle.core_tree.specs.declared.model.Model.{Model}
 use Rattle.core_tree.specs.declared.model.Sig.{Sig}
 use Rattle.core_tree.specs.declared.model.Column.TheVariants.{Int as IntColumn}

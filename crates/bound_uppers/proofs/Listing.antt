@@ -1,7 +1,7 @@
 -- Lists made item by item.
 use Rattle.std.proofs.Common.{◌≡◌, ℕ, ◌+◌, ◌<◌, ◌≤◌, List, [], ◌∷◌, ◌++◌, length, map, take, get_or, refl, ap, sym, ◌∙◌, subst}
 use Rattle.std.proofs.lemmas.List.{take_more}
-use Rattle.core_tuples.specs.Order.{take_all}
+use Rattle.core_tuples.proofs.OrderLemmas.{take_all}
 use Rattle.bound_uppers.specs.Kinds.{HasRows}
 
 module _ {X Y : Type 0} (f : X → Y) where

@@ -7,7 +7,7 @@ use Rattle.std.proofs.lemmas.List.Folds.{list_any_more}
 use Rattle.std.proofs.lemmas.Grind.{get_or-set_at}
 use Rattle.std.proofs.lemmas.List.{get_or_past, get_or-set_other, length-set, append-nil}
 use Rattle.std.proofs.lemmas.Option.{slice_get_past, get_or_from_slice_get}
-use Rattle.core_tuples.specs.Order.{cons_cases, cons_here, cons_later, no_members, take_all}
+use Rattle.core_tuples.proofs.OrderLemmas.{cons_cases, cons_here, cons_later, no_members, take_all}
 use Rattle.core_tree.specs.declared.model.Sig.{Sig}
 use Rattle.core_tree.specs.declared.model.SigKind.{SigKind}
 use Rattle.core_tree.specs.declared.model.SigKind.TheVariants.{Top, Extends, Subset}

@@ -5,7 +5,7 @@ use Rattle.std.proofs.lemmas.List.{take_more}
 use Rattle.std.proofs.lemmas.Option.{get_or_from_slice_get}
 use Rattle.std.proofs.lemmas.List.Concat.{flat_map-append}
 use Rattle.std.proofs.lemmas.List.Elements.{Contains-append_cases, Contains-append_left, Contains-append_right}
-use Rattle.core_tuples.specs.Order.{cons_cases, cons_here, no_members, take_all}
+use Rattle.core_tuples.proofs.OrderLemmas.{cons_cases, cons_here, no_members, take_all}
 use Rattle.core_tree.specs.declared.model.Sig.{Sig}
 use Rattle.core_tree.specs.declared.model.SigKind.{SigKind}
 use Rattle.core_tree.specs.declared.model.SigKind.TheVariants.{Top, Extends, Subset}

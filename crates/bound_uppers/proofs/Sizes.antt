@@ -13,7 +13,7 @@ use Rattle.bound_uppers.specs.declared.places.Layout.{Layout}
 use Rattle.bound_uppers.specs.Sums.{before_place, AreStarts}
 use Rattle.bound_uppers.proofs.Weighing.{before_place_cons}
 use Rattle.core_tuples.specs.Sets.{TupleList, IsTupleSet}
-use Rattle.core_tuples.specs.Order.{take_all}
+use Rattle.core_tuples.proofs.OrderLemmas.{take_all}
 use Rattle.core_meaning.specs.Sequence.{LassoValue}
 use Rattle.bound_uppers.specs.Table.{size_at, together, before, is_later, earlier, first_at, first_variable, cell_at, loop_variable, variables, IsTable, IsLayout, truth, least, chosen, decoded_set, decoded_state, decoded}
 use Rattle.bound_uppers.specs.Numbers.{weight_of, cells_by, cells_in, HasPlaces, HasCells, HasFirsts}

@@ -10,3 +10,5 @@ pub mod Ranges
 mod Rows
 pub mod Standing
 mod Terms
+pub mod ListedLemmas
+pub mod UniqueLemmas

@@ -1,5 +1,3 @@
 pub mod Listed
-pub mod ListedMore
-pub mod Unique
 pub mod Sequences
 pub mod Typed

@@ -2,7 +2,7 @@
 use Rattle.std.proofs.Common.{◌≡◌, inl, inr, ℕ, zero, suc, ◌+◌, ◌<◌, ◌≤◌, Bool, true, if◌then◌else◌, List, [], ◌∷◌, map, take, length, Some, slice_get, refl, sym, ap, ◌∙◌, subst, arith}
 use Rattle.std.proofs.lemmas.Bool.{cases_lt, cases_eq}
 use Rattle.std.proofs.lemmas.List.Sums.{sum_by-cons}
-use Rattle.core_tuples.specs.Order.{take_all}
+use Rattle.core_tuples.proofs.OrderLemmas.{take_all}
 use Rattle.core_tree.specs.declared.model.Model.{Model}
 use Rattle.core_tree.specs.Columns.{or_zero}
 use Rattle.core_meaning.specs.declared.scopes.SigScope.{SigScope}

@@ -7,7 +7,7 @@ use Rattle.std.specs.List.Sorted.{IsStrictlySortedBy}
 use Rattle.std.proofs.lemmas.Map.Keys.{sorted_tail}
 use Rattle.core_tuples.specs.Index.{IsNumber}
 use Rattle.core_tuples.specs.Sets.{TupleList, tuple_cmp, IsTupleSet, IsGap}
-use Rattle.core_tuples.specs.Order.{cons_cases, cons_here, cons_later, same_tuple, all_above, insert_cases, insert_kept, set_insert}
+use Rattle.core_tuples.proofs.OrderLemmas.{cons_cases, cons_here, cons_later, same_tuple, all_above, insert_cases, insert_kept, set_insert}
 
 -- ---- sorted sets
 

@@ -5,7 +5,7 @@ use Rattle.core_tree.specs.declared.tree.Variable.{Variable}
 use Rattle.core_tree.specs.declared.tree.Formula.{Formula, Every, ForAll, Counted, Call as CallFormula}
 use Rattle.core_tree.specs.declared.tree.Expr.{Expr, Comprehension, Sum, Call as CallExpr}
 use Rattle.core_tree.specs.Trees.{every, for_all, counted, call_claim, comprehension, sum_over, call_term, term_of, claim_of, variable_of, term_list, variable_list, claim_list}
-use Rattle.core_tree.specs.Rows.{every_is, for_all_is, counted_is, call_claim_is, comprehension_is, sum_over_is, call_term_is}
+use Rattle.core_tree.proofs.RowLemmas.{every_is, for_all_is, counted_is, call_claim_is, comprehension_is, sum_over_is, call_term_is}
 
 pub every_same : (v u : Vec Formula Global) → map claim_of v.items ≡ map claim_of u.items → claim_of (Every v) ≡ claim_of (Every u)
 every_same v u e = every_is v ∙ ap (λ fs. every (claim_list fs)) e ∙ sym (every_is u)

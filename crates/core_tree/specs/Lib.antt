@@ -1,5 +1,4 @@
 pub mod Trees
-pub mod Rows
 pub mod Past
 pub mod Columns
 pub mod Models

@@ -10,10 +10,10 @@ use Rattle.std.proofs.lemmas.List.Folds.{list_any-append}
 use Rattle.core_tuples.specs.Index.{IsNumber, index_of}
 use Rattle.core_tuples.specs.Sets.{tuple_cmp, is_same, IsTupleSet}
 use Rattle.core_tuples.specs.Merged.{has}
-use Rattle.core_tuples.specs.Order.{same_tuple}
-use Rattle.core_tuples.specs.Ordered.{or_false}
-use Rattle.core_tuples.specs.IndexLaw.{index_order}
-use Rattle.core_tuples.specs.Ordered.{set_with, open_at, read, one_sorted, none_sorted}
+use Rattle.core_tuples.proofs.OrderLemmas.{same_tuple}
+use Rattle.core_tuples.proofs.OrderedLemmas.{or_false}
+use Rattle.core_tuples.proofs.IndexLaw.{index_order}
+use Rattle.core_tuples.proofs.OrderedLemmas.{set_with, open_at, read, one_sorted, none_sorted}
 use Rattle.core_tuples.proofs.MergeLaw.{chosen}
 
 or_twice : (a b : Bool) → a || (a || b) ≡ a || b

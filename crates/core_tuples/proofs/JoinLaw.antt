@@ -7,10 +7,10 @@ use Rattle.std.proofs.lemmas.List.Elements.{All-contains, All-take, All-drop, Al
 use Rattle.std.proofs.lemmas.List.Folds.{list_any_more, list_any-append}
 use Rattle.core_tuples.specs.Index.{FitsIndex, IsNumber}
 use Rattle.core_tuples.proofs.DistinctLaw.{or_joined}
-use Rattle.core_tuples.specs.Ordered.{or_false}
+use Rattle.core_tuples.proofs.OrderedLemmas.{or_false}
 use Rattle.core_tuples.specs.Sets.{TupleList, is_same, In, IsTupleSet, IsJoined, IsPaired, IsTurned}
 use Rattle.core_tuples.specs.Merged.{last_of, front_of, any_joined, any_paired}
-use Rattle.core_tuples.specs.Ordered.{same_exact, same_itself, both}
+use Rattle.core_tuples.proofs.OrderedLemmas.{same_exact, same_itself, both}
 
 -- something in the list passes
 pub any_in : {X : Type 0} (p : X → Bool) (xs : List X) → list_any p xs ≡ true → (x : X) × Contains xs x × (p x ≡ true)

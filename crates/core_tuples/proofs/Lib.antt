@@ -4,3 +4,6 @@ pub mod RangeLaw
 pub mod DistinctLaw
 pub mod JustLaw
 pub mod JoinLaw
+pub mod IndexLaw
+pub mod OrderLemmas
+pub mod OrderedLemmas

@@ -2,7 +2,7 @@
 use Rattle.std.proofs.Common.{◌≡◌, ℕ, ◌+◌, ◌<◌, ◌≤◌, List, [], ◌∷◌, ◌++◌, length, All, refl, sym, ap, ◌∙◌, arith, subst, append_assoc, inl, inr, Bool, true, false, ◌&&◌, ◌||◌, if◌then◌else◌, ◌⊎◌, drop, get_or, drop-cons, add-one}
 use Rattle.std.proofs.lemmas.List.{append-nil, get_or_default, drop_all}
 use Rattle.std.proofs.lemmas.Bool.{cases_lt}
-use Rattle.core_tuples.specs.Order.{above, same_tuple}
+use Rattle.core_tuples.proofs.OrderLemmas.{above, same_tuple}
 use Rattle.std.specs.declared.cmp.Ordering.TheVariants.{Less, Equal, Greater}
 use Rattle.std.specs.List.{AllByRecursion}
 use Rattle.std.specs.List.Sorted.{IsStrictlySortedBy}
@@ -14,7 +14,7 @@ use Rattle.core_tuples.specs.Index.{IsNumber}
 use Rattle.core_tuples.specs.Sets.{tuple_cmp, is_same, IsTupleSet}
 use Rattle.core_tuples.specs.Merged.{has, keeps, heads}
 use Rattle.core_tuples.specs.declared.merge.Kept.{Kept}
-use Rattle.core_tuples.specs.Ordered.{same_exact, or_false, no_more, sorted_back, head_below, below_all, set_without, set_with, open_at, read}
+use Rattle.core_tuples.proofs.OrderedLemmas.{same_exact, or_false, no_more, sorted_back, head_below, below_all, set_without, set_with, open_at, read}
 
 -- the tuples so far, and those of both sets that are left
 pub record Merging (arity : ℕ) (kept : Kept) (whole : List ℕ → Bool) (all xs ys : List (List ℕ)) : Type 0 where

@@ -10,8 +10,8 @@ use Rattle.std.proofs.lemmas.Bool.{cases_Bool, false≢true}
 use Rattle.std.proofs.lemmas.Bool.Decides.{nat_tests}
 use Rattle.core_tuples.specs.Sets.{tuple_cmp, is_same}
 use Rattle.core_tuples.specs.Merged.{has}
-use Rattle.core_tuples.specs.Ordered.{same_exact, same_itself}
-use Rattle.core_tuples.specs.Order.{cons_cases, cons_here, cons_later, no_members}
+use Rattle.core_tuples.proofs.OrderedLemmas.{same_exact, same_itself}
+use Rattle.core_tuples.proofs.OrderLemmas.{cons_cases, cons_here, cons_later, no_members}
 
 -- the test of membership
 pub has_in : (ts : List (List ℕ)) (t : List ℕ) → has ts t ≡ true → Contains ts t

@@ -10,9 +10,9 @@ use Rattle.core_tree.specs.declared.tree.Variable.{Variable}
 use Rattle.core_tree.specs.declared.tree.Formula.{Formula, Every, ForAll, Counted, Call as CallFormula}
 use Rattle.core_tree.specs.declared.tree.Expr.{Expr, Comprehension, Sum, Call as CallExpr}
 use Rattle.core_tree.specs.Trees.{Term, Claim, Binder, term_of, claim_of, variable_of, term_list, variable_list, claim_list}
-use Rattle.core_tree.specs.Rows.{every_is, for_all_is, counted_is, call_claim_is, comprehension_is, sum_over_is, call_term_is}
+use Rattle.core_tree.proofs.RowLemmas.{every_is, for_all_is, counted_is, call_claim_is, comprehension_is, sum_over_is, call_term_is}
 use Rattle.eval_calls.specs.Weight.{both, weight_in, weight_of, weight_of_terms, weight_of_bounds, weight_of_each, IsWeighed, AreWeighed}
-use Rattle.eval_calls.specs.Rounds.{max_to}
+use Rattle.eval_calls.proofs.RoundLemmas.{max_to}
 
 half : (a b c : ℕ) → max a (max b c) ≤ max b (max a c)
 half a b c =

@@ -1,4 +1,3 @@
 pub mod Weight
 pub mod Congruent
 pub mod Calls
-pub mod Rounds

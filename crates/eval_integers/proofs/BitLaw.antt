@@ -6,7 +6,7 @@ use Rattle.std.proofs.lemmas.Bool.Decides.{nat_tests}
 use Rattle.std.proofs.lemmas.Int.{ints, quot-rem}
 use Rattle.std.proofs.Math.IntN.{*ℤ_comm, zero-*ℤ}
 use Rattle.core_meaning.specs.Integers.{low_bits, from_bits, wrap, quotient, remainder}
-use Rattle.eval_integers.specs.Sums.{wrap_both}
+use Rattle.eval_integers.proofs.SumLemmas.{wrap_both}
 
 pub low_nonneg : (w : ℕ) (z : ℤ) (m : ℕ) → pos 0 ≤ℤ z → m ≡ unsigned_abs z → m % 2 ^ w ≡ low_bits w z
 low_nonneg w (pos n) m le e = ap (λ (k : ℕ). k % 2 ^ w) e

@@ -1,3 +1,4 @@
 pub mod BitLaw
 pub mod PowLaw
 pub mod NumberLaw
+pub mod SumLemmas

@@ -12,12 +12,12 @@ use Rattle.core_tree.specs.declared.operators.IntOp.{IntOp}
 use Rattle.core_meaning.specs.Integers.{low_bits, wrap, sum_of, result_of}
 use Rattle.core_meaning.specs.World.{World, atom_of, integer_of, IsInteger}
 use Rattle.core_meaning.specs.Operators.{Tuples, IsListOf, IsNumber, IsCount, Compares}
-use Rattle.core_laws.specs.Unique.{number_once, count_once}
+use Rattle.core_laws.proofs.UniqueLemmas.{number_once, count_once}
 use Rattle.eval_sets.specs.SetOf.{IsSetOf}
 use Rattle.core_tuples.specs.Sets.{TupleList, In}
 use Rattle.eval_integers.specs.Amounts.{is_integer, amount}
 use Rattle.eval_integers.specs.Compared.{CompareOf}
-use Rattle.eval_integers.specs.Sums.{wrap_left, sum_push}
+use Rattle.eval_integers.proofs.SumLemmas.{wrap_left, sum_push}
 
 -- ---- which numbers stand for integers
 

@@ -1,3 +1,2 @@
 pub mod Compared
-pub mod Sums
 pub mod Amounts

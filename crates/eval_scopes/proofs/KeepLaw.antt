@@ -11,7 +11,7 @@ use Rattle.core_meaning.specs.declared.scopes.SigScope.{SigScope}
 use Rattle.core_meaning.specs.declared.scopes.Scopes.{Scopes}
 use Rattle.core_meaning.specs.Operators.{IsListOf}
 use Rattle.core_meaning.specs.Kept.{InSigBound, IsEverIn, IsWithin, KeepsNumber, IsStatic, Keeps}
-use Rattle.core_laws.specs.ListedMore.{once, same_length}
+use Rattle.core_laws.proofs.ListedLemmas.{once, same_length}
 use Rattle.core_tuples.specs.Sets.{TupleList, In}
 use Rattle.eval_sets.specs.SetOf.{IsSetOf}
 use Rattle.eval_context.specs.Settings.{SettingValue, world}

@@ -11,7 +11,7 @@ use Rattle.core_tree.specs.declared.operators.Multiplicity.{Multiplicity}
 use Rattle.core_tree.specs.declared.operators.Multiplicity.TheVariants.{Set, One, Lone, Some}
 use Rattle.core_meaning.specs.Operators.{HasSome, IsLone, HasQuantity, HasMultiplicity}
 use Rattle.core_tuples.specs.Sets.{TupleList, In, IsTupleSet, tuple_cmp}
-use Rattle.core_tuples.specs.Order.{not_below_itself}
+use Rattle.core_tuples.proofs.OrderLemmas.{not_below_itself}
 use Rattle.eval_sets.specs.Rows.{CountIs, CountMay}
 
 -- different places have different tuples

@@ -17,7 +17,7 @@ use Rattle.core_window.specs.Window.{IsFar, HasLoop, RepeatNames, no_names_again
 use Rattle.eval_context.specs.Settings.{SettingValue, world}
 use Rattle.eval_calls.specs.Weight.{most, weight_in, weight_of, calls_below, AreWeighed}
 use Rattle.eval_calls.specs.Calls.{top, top_few, below_top}
-use Rattle.eval_calls.specs.Rounds.{AreWithin, one_within, term_below, claim_below, bodies_bounded}
+use Rattle.eval_calls.proofs.RoundLemmas.{AreWithin, one_within, term_below, claim_below, bodies_bounded}
 use Rattle.eval_steps.specs.Judged.{bodies, scope_names, Means, HoldsIn, NamesRepeat, TermRepeats, ClaimRepeats, Again, value_term, IsLimit, IsFolded}
 
 pub atoms_within : (bs : List Binding) → AreWithin (atom_depths bs) 0

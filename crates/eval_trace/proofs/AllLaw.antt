@@ -1,7 +1,7 @@
 -- All declarations together.
 use Rattle.std.proofs.Common.{◌↔◌, ℕ, Bool, false, IsTrue}
 use Rattle.eval_context.specs.Settings.{SettingValue}
-use Rattle.eval_tree.specs.Found.{false_fails}
+use Rattle.eval_tree.proofs.FoundLemmas.{false_fails}
 use Rattle.eval_trace.specs.Asked.{SigsAre, FieldsAre, AllAre}
 
 module _ (s : SettingValue) (i : ℕ) where

@@ -14,10 +14,10 @@ use Rattle.eval_sets.specs.SetOf.{IsSetOf}
 use Rattle.eval_context.specs.Settings.{SettingValue, world}
 use Rattle.eval_steps.specs.Judged.{bodies, Means, IsFound, set_in}
 use Rattle.eval_steps.specs.declared.held.Held.{Held}
-use Rattle.eval_tree.specs.Found.{set_to, true_holds, false_fails, three_same}
-use Rattle.eval_tree.specs.Lists.{contains_none, take_all, take_front, more_cases, more_here, more_before}
-use Rattle.eval_tree.specs.Fronts.{ForFront, front_all, first_of, columns_of, place_in}
-use Rattle.eval_tree.specs.FitsSame.{fits_to}
+use Rattle.eval_tree.proofs.FoundLemmas.{set_to, true_holds, false_fails, three_same}
+use Rattle.eval_tree.proofs.ListLemmas.{contains_none, take_all, take_front, more_cases, more_here, more_before}
+use Rattle.eval_tree.proofs.FrontLemmas.{ForFront, front_all, first_of, columns_of, place_in}
+use Rattle.eval_tree.proofs.FitsSame.{fits_to}
 use Rattle.eval_trace.proofs.SetLaw.{same_self, AreGathered, gathered_none, gathered_more, gathered_fails}
 use Rattle.eval_trace.specs.Asked.{Members, Entries, Values, IsBounded, AreBounded, IsOwned, AreDifferent, ListIs, IsListed, IsAlone, FieldIs}
 

@@ -1,7 +1,7 @@
 -- Facts at the places of a list, and at positions.
 use Rattle.std.proofs.Common.{◌≡◌, ◌↔◌, ℕ, zero, suc, ◌+◌, ◌<◌, ◌≤◌, List, [], ◌∷◌, refl, subst, inl, inr, arith, length, slice_get, Some, None, true, false, IsTrue}
 use Rattle.std.proofs.lemmas.Bool.{cases_lt}
-use Rattle.eval_tree.specs.Found.{true_holds, false_fails}
+use Rattle.eval_tree.proofs.FoundLemmas.{true_holds, false_fails}
 
 got_none : {X : Type 0} (xs : List X) (k : ℕ) → length xs ≤ k → slice_get xs k ≡ None
 got_none [] k over = refl

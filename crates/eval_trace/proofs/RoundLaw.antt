@@ -21,9 +21,9 @@ use Rattle.core_window.specs.Fold.{fold_of, window_end, folded, fold_below}
 use Rattle.core_window.specs.Window.{IsFar, HasLoop, place_again}
 use Rattle.eval_context.specs.Settings.{SettingValue, world}
 use Rattle.eval_steps.specs.Judged.{bodies, Means, HoldsIn, value_term}
-use Rattle.eval_tree.specs.Found.{three_same}
-use Rattle.eval_tree.specs.Fronts.{first_of, rest_of}
-use Rattle.eval_tree.specs.FitsSame.{fits_to}
+use Rattle.eval_tree.proofs.FoundLemmas.{three_same}
+use Rattle.eval_tree.proofs.FrontLemmas.{first_of, rest_of}
+use Rattle.eval_tree.proofs.FitsSame.{fits_to}
 use Rattle.eval_trace.proofs.SetLaw.{same_self}
 use Rattle.eval_trace.proofs.FrontLaw.{got_below}
 use Rattle.eval_trace.specs.Asked.{Members, Values, InParent, HasAppended, IsBounded, SigIs, FieldIs, AllAre, FactRepeats, BoundRepeats, SigRepeats, FieldRepeats, AllRepeat}

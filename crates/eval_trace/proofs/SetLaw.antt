@@ -10,8 +10,8 @@ use Rattle.eval_sets.specs.SetOf.{IsSetOf}
 use Rattle.eval_context.specs.Settings.{SettingValue}
 use Rattle.eval_steps.specs.Judged.{IsFound, set_in}
 use Rattle.eval_steps.specs.declared.held.Held.{Held}
-use Rattle.eval_tree.specs.Found.{if_ok_to, set_to}
-use Rattle.eval_tree.specs.Lists.{contains_first, contains_later, contains_cases, contains_none}
+use Rattle.eval_tree.proofs.FoundLemmas.{if_ok_to, set_to}
+use Rattle.eval_tree.proofs.ListLemmas.{contains_first, contains_later, contains_cases, contains_none}
 use Rattle.eval_trace.specs.Asked.{InParent, InParents}
 
 pub same_self : (A : Tuples) → SameTuples A A

@@ -12,8 +12,8 @@ use Rattle.core_tuples.specs.Sets.{TupleList, In, IsTupleSet}
 use Rattle.eval_context.specs.Settings.{SettingValue, world}
 use Rattle.eval_steps.specs.Judged.{bodies, HoldsIn, IsFound, set_in}
 use Rattle.eval_steps.specs.declared.held.Held.{Held}
-use Rattle.eval_tree.specs.Found.{true_holds, false_fails}
-use Rattle.eval_tree.specs.Fronts.{ForFront, front_all, columns_of, place_in}
+use Rattle.eval_tree.proofs.FoundLemmas.{true_holds, false_fails}
+use Rattle.eval_tree.proofs.FrontLemmas.{ForFront, front_all, columns_of, place_in}
 use Rattle.eval_trace.proofs.SetLaw.{inside_found, AreGathered, gathered_none, gathered_same, gathered_more, gathered_fails}
 use Rattle.eval_trace.specs.Asked.{Members, InChildren, AreApart, IsFilled, HoldsForEach, HasAppended, SigIs}
 

@@ -8,7 +8,7 @@ use Rattle.eval_sets.specs.SetOf.{IsSetOf}
 use Rattle.eval_context.specs.Settings.{SettingValue}
 use Rattle.eval_steps.specs.Judged.{Means, HoldsIn, IsFound, set_in}
 use Rattle.eval_steps.specs.declared.held.Held.{Held}
-use Rattle.eval_tree.specs.Found.{if_ok_to, set_to}
+use Rattle.eval_tree.proofs.FoundLemmas.{if_ok_to, set_to}
 
 module _ (q s : SettingValue) (e : q ≡ s) (place i : ℕ) where
   pub truth_is : (f : Claim) → HoldsIn q f no_names place ↔ HoldsIn q f no_names i → (E : Type 0) (r : Result Bool E) → IfOk r (λ b. IsTrue b ↔ HoldsIn q f no_names place) → IfOk r (λ b. IsTrue b ↔ HoldsIn s f no_names i)

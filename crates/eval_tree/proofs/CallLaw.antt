@@ -1,7 +1,7 @@
 -- What called bodies give.
 use Rattle.std.proofs.Common.{◌↔◌, ℕ, sym, subst, Result, IfOk, Bool, IsTrue, map, Vec, Global}
 use Rattle.core_tree.specs.Trees.{term_list, claim_of, term_of, call_term}
-use Rattle.core_tree.specs.Rows.{call_term_is, call_claim_is}
+use Rattle.core_tree.proofs.RowLemmas.{call_term_is, call_claim_is}
 use Rattle.core_tree.specs.declared.tree.Expr.{Expr, Call as CallExpr}
 use Rattle.core_tree.specs.declared.tree.Formula.{Call as CallFormula}
 use Rattle.core_meaning.specs.Meaning.{Names, no_names}
@@ -10,7 +10,7 @@ use Rattle.eval_context.specs.Settings.{SettingValue, world}
 use Rattle.eval_calls.specs.Calls.{entered, entered_is, called_terms, called_claims}
 use Rattle.eval_steps.specs.Judged.{bodies, HasWeights, Means, HoldsIn, InCalled, CalledHolds, IsFound, set_in}
 use Rattle.eval_steps.specs.declared.held.Held.{Held}
-use Rattle.eval_tree.specs.Found.{if_ok_to, set_to}
+use Rattle.eval_tree.proofs.FoundLemmas.{if_ok_to, set_to}
 
 module _ (s : SettingValue) (has : HasWeights s) (body : ℕ) (v : Vec Expr Global) (outer : Names) (i : ℕ) where
   pub call_found : (E : Type 0) (r : Result Held E) → IfOk r (λ h. IsFound h (InCalled s body (entered (world s) (bodies s) 0 (term_list (map term_of v.items)) outer no_names) i)) → IfOk r (λ h. IsFound h (Means s (term_of (CallExpr body v)) outer i))

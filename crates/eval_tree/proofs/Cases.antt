@@ -13,7 +13,7 @@ use Rattle.core_tree.specs.declared.tree.Variable.{Variable}
 use Rattle.core_tree.specs.declared.tree.Expr.{Expr, Combine, Product, Unary, Prime, Choose, Comprehension, Count, Arithmetic, Sum}
 use Rattle.core_tree.specs.declared.tree.Formula.{Formula, Inside, Equal, Within, Test, Compare, Not, Every, Choose as ChooseFormula, ForAll, Counted}
 use Rattle.core_tree.specs.Trees.{term_of, claim_of, variable_of, variable_list, claim_list, comprehension, sum_over}
-use Rattle.core_tree.specs.Rows.{comprehension_is, sum_over_is, every_is, for_all_is, counted_is}
+use Rattle.core_tree.proofs.RowLemmas.{comprehension_is, sum_over_is, every_is, for_all_is, counted_is}
 use Rattle.core_meaning.specs.Integers.{wrap, result_of, sum_of}
 use Rattle.core_meaning.specs.World.{atom_of}
 use Rattle.core_meaning.specs.Operators.{Tuples, Times, combined_tuples, product_tuples, unary_tuples, IsCount, IsNumber, IsInside, IsEqual, HasQuantity, HasMultiplicity, Compares, Connects, Chooses, Happens, UntilAt, SinceAt, Quantified}
@@ -27,8 +27,8 @@ use Rattle.eval_steps.specs.Judged.{bodies, Means, HoldsIn, IsFound, set_in, Are
 use Rattle.eval_steps.specs.declared.held.Held.{Held}
 use Rattle.eval_steps.specs.declared.rows.Goal.TheVariants.{Passes, Value}
 use Rattle.eval_steps.specs.declared.rows.Row.{Row}
-use Rattle.eval_tree.specs.Found.{if_ok_to, set_to, combine_found, product_found, unary_found, count_found, arithmetic_found, quantity_true, inside_true, equal_true, compare_true, chosen_yes, chosen_no, true_holds, false_fails, decided, not_said, three_same}
-use Rattle.eval_tree.specs.FitsSame.{fits_to}
+use Rattle.eval_tree.proofs.FoundLemmas.{if_ok_to, set_to, combine_found, product_found, unary_found, count_found, arithmetic_found, quantity_true, inside_true, equal_true, compare_true, chosen_yes, chosen_no, true_holds, false_fails, decided, not_said, three_same}
+use Rattle.eval_tree.proofs.FitsSame.{fits_to}
 use Rattle.eval_tree.proofs.RowLaw.{chosen_of}
 use Rattle.eval_tree.proofs.SumLaw.{comprehension_is as rows_are_choices, sum_is}
 

@@ -7,8 +7,8 @@ use Rattle.core_tuples.specs.Sets.{TupleList, IsTupleSet}
 use Rattle.eval_context.specs.Settings.{SettingValue, world}
 use Rattle.eval_sets.specs.SetOf.{IsSetOf}
 use Rattle.eval_steps.specs.Judged.{bodies, Means, ForEachAtom}
-use Rattle.eval_tree.specs.Found.{true_holds, false_fails}
-use Rattle.eval_tree.specs.Fronts.{columns_of, place_in}
+use Rattle.eval_tree.proofs.FoundLemmas.{true_holds, false_fails}
+use Rattle.eval_tree.proofs.FrontLemmas.{columns_of, place_in}
 
 module _ (s : SettingValue) (v : Variable) (rest : Variables) (Passes : Names → Type 0) (names : Names) (i : ℕ) (earlier : List ℕ) where
   -- what is asked of an atom

@@ -12,9 +12,9 @@ use Rattle.core_tuples.specs.Sets.{TupleList, In}
 use Rattle.eval_context.specs.Settings.{SettingValue, world}
 use Rattle.eval_sets.specs.SetOf.{IsSetOf}
 use Rattle.eval_steps.specs.Judged.{bodies, Means, FitsAfter, FitsBefore, GoesAfter, GoesBefore, GivesHead, GivesTail, asks_in, asks_for}
-use Rattle.eval_tree.specs.FitsSame.{fits_to}
-use Rattle.eval_tree.specs.Found.{true_holds, false_fails}
-use Rattle.eval_tree.specs.Lists.{contains_none, take_all, take_front, more_cases, more_here}
+use Rattle.eval_tree.proofs.FitsSame.{fits_to}
+use Rattle.eval_tree.proofs.FoundLemmas.{true_holds, false_fails}
+use Rattle.eval_tree.proofs.ListLemmas.{contains_none, take_all, take_front, more_cases, more_here}
 
 sides : (p q : Bool) → (if p then true else q) ≡ false → (p ≡ false) × (q ≡ false)
 sides true q e = absurd cc

@@ -7,3 +7,7 @@ pub mod FitsLaw
 pub mod NameLaw
 pub mod Cases
 pub mod ListCases
+pub mod FitsSame
+pub mod FoundLemmas
+pub mod FrontLemmas
+pub mod ListLemmas

@@ -24,8 +24,8 @@ use Rattle.eval_steps.specs.declared.held.Held.{Held}
 use Rattle.eval_steps.specs.declared.rows.Goal.{Goal}
 use Rattle.eval_steps.specs.declared.rows.Goal.TheVariants.{Passes}
 use Rattle.eval_steps.specs.declared.rows.Row.{Row}
-use Rattle.eval_tree.specs.Found.{if_ok_to, set_to, true_holds, false_fails, not_said}
-use Rattle.eval_tree.specs.Fronts.{columns_of}
+use Rattle.eval_tree.proofs.FoundLemmas.{if_ok_to, set_to, true_holds, false_fails, not_said}
+use Rattle.eval_tree.proofs.FrontLemmas.{columns_of}
 use Rattle.eval_tree.proofs.ChoiceLaw.{each_is}
 use Rattle.eval_tree.proofs.RowLaw.{rows_are}
 use Rattle.eval_tree.proofs.FitsLaw.{inside_product}

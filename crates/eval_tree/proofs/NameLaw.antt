@@ -11,7 +11,7 @@ use Rattle.eval_context.specs.declared.names.Meant.{Meant}
 use Rattle.eval_context.specs.declared.names.Meant.TheVariants.{Atom, Written, Unknown}
 use Rattle.eval_steps.specs.Judged.{bodies, scope_names, Means, IsFound, set_in}
 use Rattle.eval_steps.specs.declared.held.Held.{Held}
-use Rattle.eval_tree.specs.Found.{if_ok_to, set_to}
+use Rattle.eval_tree.proofs.FoundLemmas.{if_ok_to, set_to}
 
 module _ (s : SettingValue) (scope : Environment) (x i : ℕ) (m : Meant) (stands : (w : World) (list : List Body) (n j : ℕ) (t : List ℕ) → Stands w (called w list n) m (names_of w (called w list n) scope x) j t) where
   stands_as : (k : Meant) → m ≡ k → (t : List ℕ) → Stands (world s) (bodies s) k (scope_names s scope x) i t

@@ -17,8 +17,8 @@ use Rattle.eval_steps.specs.Judged.{bodies, Means, HoldsIn, Allows, Yields, Pick
 use Rattle.eval_steps.specs.declared.rows.Goal.{Goal}
 use Rattle.eval_steps.specs.declared.rows.Goal.TheVariants.{Passes, Value}
 use Rattle.eval_steps.specs.declared.rows.Row.{Row}
-use Rattle.eval_tree.specs.Lists.{contains_first, contains_cases, contains_none, take_all, take_front, more_cases, more_here, more_before, once_append, contains_map, map_contains, once_map}
-use Rattle.eval_tree.specs.Fronts.{columns_of, first_of, rest_of}
+use Rattle.eval_tree.proofs.ListLemmas.{contains_first, contains_cases, contains_none, take_all, take_front, more_cases, more_here, more_before, once_append, contains_map, map_contains, once_map}
+use Rattle.eval_tree.proofs.FrontLemmas.{columns_of, first_of, rest_of}
 
 abbrev pub chosen_of : Row → List ℕ
 chosen_of r = r.chosen

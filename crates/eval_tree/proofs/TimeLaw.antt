@@ -4,7 +4,7 @@ use Rattle.std.proofs.lemmas.Bool.{cases_lt}
 use Rattle.core_meaning.specs.Operators.{Times, UntilAt, SinceAt}
 use Rattle.core_window.specs.Same.{not_same}
 use Rattle.eval_steps.specs.Judged.{Says, IsLimit}
-use Rattle.eval_tree.specs.Found.{true_holds, false_fails}
+use Rattle.eval_tree.proofs.FoundLemmas.{true_holds, false_fails}
 
 -- at the positions from i to before j the first holds and the second doesn't
 abbrev pub Passed : Times → Times → ℕ → ℕ → Type 0

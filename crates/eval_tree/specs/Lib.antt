@@ -1,5 +1,1 @@
 pub mod Evaluates
-pub mod Found
-pub mod Lists
-pub mod Fronts
-pub mod FitsSame

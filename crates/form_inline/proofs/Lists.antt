@@ -7,7 +7,7 @@ use Rattle.core_tree.specs.declared.tree.Variable.{Variable}
 use Rattle.core_tree.specs.declared.tree.Formula.{Formula, Every, ForAll, Counted}
 use Rattle.core_tree.specs.declared.tree.Expr.{Expr, Comprehension, Sum}
 use Rattle.core_tree.specs.Trees.{Claim, Binder, term_of, claim_of, variable_of, claim_list, variable_list}
-use Rattle.core_tree.specs.Rows.{every_is, for_all_is, counted_is, comprehension_is, sum_over_is}
+use Rattle.core_tree.proofs.RowLemmas.{every_is, for_all_is, counted_is, comprehension_is, sum_over_is}
 use Rattle.form_inline.specs.CallFree.{IsCallFree, IsCallFreeTerm, AreCallFree, AreCallFreeVariables, HasCallFreeBound}
 
 pub claims_free : (fs : List Claim) → All IsCallFree fs → AreCallFree (claim_list fs)

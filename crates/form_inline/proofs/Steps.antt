@@ -7,7 +7,7 @@ use Rattle.core_tree.specs.declared.tree.Variable.{Variable}
 use Rattle.core_tree.specs.declared.tree.Formula.{Formula, Every, ForAll, Counted, Let as LetFormula, Call as CallFormula}
 use Rattle.core_tree.specs.declared.tree.Expr.{Expr, Comprehension, Sum, Let as LetExpr, Call as CallExpr}
 use Rattle.core_tree.specs.Trees.{Term, Claim, Binder, name, empty, every, for_all, counted, comprehension, sum_over, call_claim, call_term, let_claim, let_term, term_of, claim_of, variable_of, term_list, claim_list, variable_list}
-use Rattle.core_tree.specs.Rows.{every_is, for_all_is, counted_is, comprehension_is, sum_over_is, call_claim_is, call_term_is}
+use Rattle.core_tree.proofs.RowLemmas.{every_is, for_all_is, counted_is, comprehension_is, sum_over_is, call_claim_is, call_term_is}
 use Rattle.core_meaning.specs.World.{World}
 use Rattle.core_meaning.specs.Meaning.{Names, InTerm, Holds, HoldEach}
 use Rattle.core_meaning.specs.Called.{no_bodies, called}

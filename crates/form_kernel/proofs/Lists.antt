@@ -10,7 +10,7 @@ use Rattle.core_tree.specs.declared.tree.Variable.{Variable}
 use Rattle.core_tree.specs.declared.tree.Formula.{Formula, Every, ForAll, Counted}
 use Rattle.core_tree.specs.declared.tree.Expr.{Expr, Comprehension, Sum}
 use Rattle.core_tree.specs.Trees.{Term, Claim, Binder, name, combine, test, negation, every, for_all, comprehension, sum_over, term_of, claim_of, variable_of, claim_list, variable_list, more_claims}
-use Rattle.core_tree.specs.Rows.{every_is, for_all_is, counted_is, comprehension_is, sum_over_is}
+use Rattle.core_tree.proofs.RowLemmas.{every_is, for_all_is, counted_is, comprehension_is, sum_over_is}
 use Rattle.form_kernel.specs.Operators.{both, truth}
 use Rattle.form_kernel.specs.Single.{without, alone, is_rising, one_by_one, under, lone_values, lone_by_one, are_many_rising, lone_under, one_under, counting}
 use Rattle.form_kernel.specs.Names.{names_onto, alone_at}

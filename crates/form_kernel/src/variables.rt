@@ -147,7 +147,7 @@ pub fn under(alloc: Global, list: Vec<Variable>, f: Formula) -> Result<Formula, 
 }
 
 /// The values of the variables at which the formula holds.
-#[tactic(auto, using(core_tree::specs::Rows::comprehension_is))]
+#[tactic(auto, using(core_tree::proofs::RowLemmas::comprehension_is))]
 pub fn values_of(alloc: Global, list: Vec<Variable>, f: Formula) -> Result<Expr, AllocError>
     ensures { IfOk result (λ e. term_of e ≡ comprehension (variable_list (map variable_of list.items)) (claim_of f)) }
 {

@@ -3,7 +3,7 @@ use Rattle.std.proofs.Common.{◌≡◌, ◌∙◌, ℕ, List, [], ◌∷◌, �
 use Rattle.core_tree.specs.declared.tree.Variable.{Variable}
 use Rattle.core_tree.specs.declared.tree.Formula.{Formula, ForAll}
 use Rattle.core_tree.specs.declared.tree.Expr.{Sig}
-use Rattle.core_tree.specs.Rows.{for_all_is}
+use Rattle.core_tree.proofs.RowLemmas.{for_all_is}
 use Rattle.core_tree.specs.Trees.{sig, for_all, no_variables, more_variables, claim_of, variable_of, variable_list}
 
 -- a variable bound by a sig

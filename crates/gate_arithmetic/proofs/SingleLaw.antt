@@ -7,14 +7,14 @@ use Rattle.std.proofs.lemmas.Int.{ints}
 use Rattle.gate_trait.specs.declared.node.Node.{Node}
 use Rattle.core_tuples.specs.declared.universe.Universe.{Universe}
 use Rattle.core_tuples.specs.Sets.{is_same}
-use Rattle.core_tuples.specs.Ordered.{both, same_exact, same_itself}
+use Rattle.core_tuples.proofs.OrderedLemmas.{both, same_exact, same_itself}
 use Rattle.gate_integers.specs.Numbers.{number, from_bits, low_bits, signed}
-use Rattle.gate_integers.specs.Binary.{pow_next}
-use Rattle.gate_integers.specs.Sums.{number_below}
-use Rattle.gate_integers.specs.Wrapped.{low_is}
+use Rattle.gate_integers.proofs.BinaryLemmas.{pow_next}
+use Rattle.gate_integers.proofs.SumLemmas.{number_below}
+use Rattle.gate_integers.proofs.WrappedLemmas.{low_is}
 use Rattle.gate_matrix.specs.declared.entry.Entry.{Entry}
 use Rattle.gate_matrix.specs.Matrices.{has}
-use Rattle.gate_matrix.specs.Basics.{any_push}
+use Rattle.gate_matrix.proofs.BasicLemmas.{any_push}
 use Rattle.gate_arithmetic.specs.Members.{amount_from}
 use Rattle.gate_arithmetic.specs.Singles.{atom_for, IsEarly}
 use Rattle.gate_arithmetic.proofs.IntLaws.{low_same}

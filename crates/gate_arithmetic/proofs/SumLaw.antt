@@ -7,7 +7,7 @@ use borrow.Author.Differences.{same_in, same_out, sum_is_lem, neg_is}
 use Rattle.gate_trait.specs.declared.node.Node.{Node}
 use Rattle.core_tuples.specs.declared.universe.Universe.{Universe}
 use Rattle.gate_integers.specs.Numbers.{bit, from_bits, wrap}
-use Rattle.gate_integers.specs.Wrapped.{low_same}
+use Rattle.gate_integers.proofs.WrappedLemmas.{low_same}
 use Rattle.core_meaning.specs.Integers.{wrap as wrap_to}
 use Rattle.gate_matrix.specs.declared.entry.Entry.{Entry}
 use Rattle.gate_matrix.specs.Joined.{first_of}

@@ -5,10 +5,10 @@ use Rattle.std.proofs.lemmas.Bool.{cases_Bool, false≢true}
 use Rattle.std.proofs.lemmas.List.Folds.{Any-from_list_any, list_any_at}
 use Rattle.gate_trait.specs.declared.node.Node.{Node}
 use Rattle.core_tuples.specs.Sets.{is_same}
-use Rattle.core_tuples.specs.Ordered.{both, same_exact, same_itself}
+use Rattle.core_tuples.proofs.OrderedLemmas.{both, same_exact, same_itself}
 use Rattle.gate_matrix.specs.declared.entry.Entry.{Entry}
 use Rattle.gate_matrix.specs.Matrices.{MatrixEntries, IsMatrix, truth, has}
-use Rattle.gate_matrix.specs.Found.{found_entry, truth_here}
+use Rattle.gate_matrix.proofs.FoundLemmas.{found_entry, truth_here}
 use Rattle.gate_closure.specs.declared.filters.Side.TheVariants.{First, Last}
 use Rattle.gate_closure.specs.Filters.{atom_at, IsFirst, IsOverridden, IsLeftRestricted, IsRightRestricted}
 

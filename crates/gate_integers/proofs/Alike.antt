@@ -6,7 +6,7 @@ use Rattle.gate_trait.specs.declared.node.Node.{Node}
 use Rattle.gate_trait.specs.Built.{xor}
 use Rattle.gate_integers.specs.Numbers.{bit, binary, number, from_bits}
 use Rattle.gate_integers.specs.Counts.{all_alike}
-use Rattle.gate_integers.specs.Sums.{number_below}
+use Rattle.gate_integers.proofs.SumLemmas.{number_below}
 use Rattle.gate_integers.proofs.Signed.{number_back}
 
 and_assoc : (a b c : Bool) → a && (b && c) ≡ (a && b) && c

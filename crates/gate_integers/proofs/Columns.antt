@@ -6,11 +6,11 @@ use Rattle.std.proofs.lemmas.List.{take_all}
 use Rattle.std.proofs.lemmas.List.Elements.{All-take}
 use Rattle.gate_trait.specs.declared.node.Node.{Node}
 use Rattle.gate_trait.specs.Built.{Keeps, AllIn}
-use Rattle.gate_trait.specs.Kept.{all_head, all_tail}
+use Rattle.gate_trait.proofs.KeptLemmas.{all_head, all_tail}
 use Rattle.gate_integers.specs.Numbers.{bit, number, from_bits, signed, wrap}
-use Rattle.gate_integers.specs.Binary.{wraps, pow_next}
-use Rattle.gate_integers.specs.Sums.{number_below, number_more}
-use Rattle.gate_integers.specs.Wrapped.{wrap_count}
+use Rattle.gate_integers.proofs.BinaryLemmas.{wraps, pow_next}
+use Rattle.gate_integers.proofs.SumLemmas.{number_below, number_more}
+use Rattle.gate_integers.proofs.WrappedLemmas.{wrap_count}
 
 -- past the end nothing is counted
 pub count_past : (p : Node → Bool) (xs : List Node) (i : ℕ) (b : Bool) → length xs ≤ i → b ≡ false → count_by p (take (i + 1) xs) ≡ count_by p (take i xs) + bit b

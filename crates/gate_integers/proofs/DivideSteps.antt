@@ -7,9 +7,9 @@ use Rattle.std.proofs.lemmas.Bool.Decides.{nat_tests}
 use Rattle.std.proofs.lemmas.List.{map_push, reverse-append}
 use Rattle.gate_trait.specs.declared.node.Node.{Node}
 use Rattle.gate_trait.specs.Built.{Keeps, AllIn}
-use Rattle.gate_trait.specs.Kept.{values_kept}
+use Rattle.gate_trait.proofs.KeptLemmas.{values_kept}
 use Rattle.gate_integers.specs.Numbers.{bit, binary, number}
-use Rattle.gate_integers.specs.Sums.{number_below, number_top, number_low_below}
+use Rattle.gate_integers.proofs.SumLemmas.{number_below, number_top, number_low_below}
 use Rattle.gate_integers.specs.Quotients.{magnitude}
 use Rattle.gate_integers.proofs.Divided.{is_negative}
 

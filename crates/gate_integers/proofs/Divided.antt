@@ -9,7 +9,7 @@ use Rattle.std.proofs.Math.Nat.{zero-div, zero-mod, mod-eq_of_lt, div-le_self, m
 use Rattle.gate_trait.specs.Built.{xor}
 use Rattle.gate_integers.specs.Numbers.{from_bits, low_bits, wrap}
 use Rattle.gate_integers.specs.Quotients.{quotient, quotient_by_zero, remainder, magnitude, IsDivided}
-use Rattle.gate_integers.specs.Wrapped.{low_is, low_pos}
+use Rattle.gate_integers.proofs.WrappedLemmas.{low_is, low_pos}
 
 -- the integer of a sign and a magnitude
 abbrev pub signed_of : Bool → ℕ → ℤ

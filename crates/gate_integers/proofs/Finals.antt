@@ -8,7 +8,7 @@ use Rattle.gate_trait.specs.declared.node.Node.{Node}
 use Rattle.gate_trait.specs.Built.{xor}
 use Rattle.gate_integers.specs.Numbers.{bit, number, from_bits, signed}
 use Rattle.gate_integers.specs.Counts.{all_alike}
-use Rattle.gate_integers.specs.Sums.{number_top, number_low_below}
+use Rattle.gate_integers.proofs.SumLemmas.{number_top, number_low_below}
 use Rattle.gate_integers.proofs.Signed.{less_law}
 use Rattle.gate_integers.proofs.Alike.{equal_law}
 use Rattle.std.proofs.Common.{map}

@@ -5,3 +5,7 @@ pub mod Columns
 pub mod Divided
 pub mod Multiplied
 pub mod DivideSteps
+pub mod BinaryLemmas
+pub mod RowLemmas
+pub mod SumLemmas
+pub mod WrappedLemmas

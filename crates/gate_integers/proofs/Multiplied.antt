@@ -4,8 +4,8 @@ use Rattle.std.proofs.Math.Nat.{mod-add-mod, add-mod-mod, zero-mod, mod-eq_of_lt
 use Rattle.std.proofs.lemmas.Nat.{mul-mod_second}
 use Rattle.gate_trait.specs.declared.node.Node.{Node}
 use Rattle.gate_integers.specs.Numbers.{bit, binary, number}
-use Rattle.gate_integers.specs.Binary.{binary_push, wraps, pow_next}
-use Rattle.gate_integers.specs.Sums.{number_below, number_take, number_all}
+use Rattle.gate_integers.proofs.BinaryLemmas.{binary_push, wraps, pow_next}
+use Rattle.gate_integers.proofs.SumLemmas.{number_below, number_take, number_all}
 use Rattle.std.proofs.lemmas.List.{map_push, length-map}
 
 -- bits that are masked

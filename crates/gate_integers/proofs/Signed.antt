@@ -6,8 +6,8 @@ use Rattle.std.proofs.lemmas.Bool.Decides.{nat_tests}
 use Rattle.std.proofs.Math.Nat.{mod-eq_of_lt}
 use Rattle.gate_trait.specs.Built.{xor}
 use Rattle.gate_integers.specs.Numbers.{bit, from_bits, low_bits}
-use Rattle.gate_integers.specs.Binary.{pow_next}
-use Rattle.gate_integers.specs.Wrapped.{low_is}
+use Rattle.gate_integers.proofs.BinaryLemmas.{pow_next}
+use Rattle.gate_integers.proofs.WrappedLemmas.{low_is}
 
 -- the integer of the low bits and the sign bit
 sign_case : (A : Bool) (n p : ℕ) → n < p → cond (nat_lt (n + p * bit A) p) (pos (n + p * bit A)) (pos (n + p * bit A) -ℤ pos (2 * p)) ≡ cond A (pos n -ℤ pos p) (pos n)

@@ -11,16 +11,16 @@ use Rattle.std.proofs.lemmas.List.Folds.{list_any-append}
 use Rattle.gate_trait.specs.declared.node.Node.{Node}
 use Rattle.gate_trait.specs.Built.{Keeps}
 use Rattle.core_tuples.specs.Index.{IsNumber, index_of}
-use Rattle.core_tuples.specs.IndexLaw.{index_order}
-use Rattle.core_tuples.specs.Order.{same_tuple}
+use Rattle.core_tuples.proofs.IndexLaw.{index_order}
+use Rattle.core_tuples.proofs.OrderLemmas.{same_tuple}
 use Rattle.core_tuples.specs.Sets.{tuple_cmp, is_same, IsTupleSet}
-use Rattle.core_tuples.specs.Ordered.{or_false, one_sorted, none_sorted}
+use Rattle.core_tuples.proofs.OrderedLemmas.{or_false, one_sorted, none_sorted}
 use Rattle.gate_matrix.specs.declared.entry.Entry.{Entry}
 use Rattle.gate_matrix.specs.Matrices.{MatrixEntries, IsMatrix, tuples_of, truth_of, truth, has, AllBelong}
 use Rattle.gate_matrix.specs.Merged.{OptionComputes, entries_of}
-use Rattle.gate_matrix.specs.Basics.{head_all, tail_all, open_entry, or_joined, tuples_append, keeps_trans, has_kept, belong_kept, matrix_from_set}
-use Rattle.gate_matrix.specs.Found.{has_truth}
-use Rattle.gate_matrix.specs.Added.{has_more, belong_more}
+use Rattle.gate_matrix.proofs.BasicLemmas.{head_all, tail_all, open_entry, or_joined, tuples_append, keeps_trans, has_kept, belong_kept, matrix_from_set}
+use Rattle.gate_matrix.proofs.FoundLemmas.{has_truth}
+use Rattle.gate_matrix.proofs.AddedLemmas.{has_more, belong_more}
 use Rattle.gate_matrix.proofs.MergeLaw.{more_other}
 
 -- the entries so far, and those that are left

@@ -9,12 +9,12 @@ use Rattle.gate_trait.specs.declared.node.Node.{Node}
 use Rattle.gate_trait.specs.Built.{Keeps}
 use Rattle.core_tuples.specs.Index.{FitsIndex, IsNumber}
 use Rattle.core_tuples.specs.Sets.{tuple_cmp, is_same}
-use Rattle.core_tuples.specs.Ordered.{both, same_exact, same_itself}
+use Rattle.core_tuples.proofs.OrderedLemmas.{both, same_exact, same_itself}
 use Rattle.gate_matrix.specs.declared.entry.Entry.{Entry}
 use Rattle.gate_matrix.specs.Matrices.{AllBelong, MatrixEntries, IsMatrix, node_at, truth, truth_of, has, has_row}
 use Rattle.gate_matrix.specs.Joined.{first_of, last_of, front_of, has_join, has_pair, has_turned, IsJoined, IsPaired, IsTurned}
-use Rattle.gate_matrix.specs.Basics.{head_all, tail_all, all_here}
-use Rattle.gate_matrix.specs.Found.{node_here, found_entry, truth_here}
+use Rattle.gate_matrix.proofs.BasicLemmas.{head_all, tail_all, all_here}
+use Rattle.gate_matrix.proofs.FoundLemmas.{node_here, found_entry, truth_here}
 
 pub two_values : {a b c d : Bool} → a ≡ c → b ≡ d → a && b ≡ c && d
 two_values e f = cc

@@ -4,3 +4,6 @@ pub mod RangeLaw
 pub mod GatherLaw
 pub mod JoinLaw
 pub mod QuestionLaw
+pub mod AddedLemmas
+pub mod BasicLemmas
+pub mod FoundLemmas

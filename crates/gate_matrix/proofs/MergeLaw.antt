@@ -12,16 +12,16 @@ use Rattle.gate_trait.specs.declared.node.Node.{Node}
 use Rattle.gate_trait.specs.Built.{Keeps}
 use Rattle.core_tuples.specs.Sets.{tuple_cmp, is_same, IsTupleSet}
 use Rattle.core_tuples.specs.Merged.{heads}
-use Rattle.core_tuples.specs.Order.{above, same_tuple}
-use Rattle.core_tuples.specs.Ordered.{same_exact, or_false, sorted_back, head_below, below_all, set_without, set_with}
+use Rattle.core_tuples.proofs.OrderLemmas.{above, same_tuple}
+use Rattle.core_tuples.proofs.OrderedLemmas.{same_exact, or_false, sorted_back, head_below, below_all, set_without, set_with}
 use Rattle.gate_matrix.specs.declared.entry.Entry.{Entry}
 use Rattle.gate_matrix.specs.declared.merge.Rule.{Rule}
 use Rattle.gate_matrix.specs.declared.merge.Rule.TheVariants.{Union, Intersection, Difference}
 use Rattle.gate_matrix.specs.Matrices.{MatrixEntries, IsMatrix, tuples_of, truth_of, truth, has, AllBelong}
 use Rattle.gate_matrix.specs.Merged.{combine, OptionComputes, entries_of}
-use Rattle.gate_matrix.specs.Basics.{open_entry, tuples_append, keeps_trans, has_kept, belong_kept, head_all, tail_all, all_here, matrix_from_set, set_from_matrix}
-use Rattle.gate_matrix.specs.Found.{no_more, has_truth}
-use Rattle.gate_matrix.specs.Added.{and_false, has_more, belong_more}
+use Rattle.gate_matrix.proofs.BasicLemmas.{open_entry, tuples_append, keeps_trans, has_kept, belong_kept, head_all, tail_all, all_here, matrix_from_set, set_from_matrix}
+use Rattle.gate_matrix.proofs.FoundLemmas.{no_more, has_truth}
+use Rattle.gate_matrix.proofs.AddedLemmas.{and_false, has_more, belong_more}
 
 combine_none : (rule : Rule) → combine rule false false ≡ false
 combine_none Union = refl

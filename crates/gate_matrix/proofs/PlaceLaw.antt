@@ -11,12 +11,12 @@ use Rattle.std.proofs.lemmas.List.Elements.{All-set, All-append, All-take, All-d
 use Rattle.gate_trait.specs.declared.node.Node.{Node}
 use Rattle.core_tuples.specs.Index.{IsNumber}
 use Rattle.core_tuples.specs.Sets.{tuple_cmp, is_same, IsGap, IsTupleSet}
-use Rattle.core_tuples.specs.Order.{all_below, all_above, same_tuple, set_insert, cons_here, cons_later}
-use Rattle.core_tuples.specs.Ordered.{same_at, same_exact, same_itself, apart}
+use Rattle.core_tuples.proofs.OrderLemmas.{all_below, all_above, same_tuple, set_insert, cons_here, cons_later}
+use Rattle.core_tuples.proofs.OrderedLemmas.{same_at, same_exact, same_itself, apart}
 use Rattle.gate_matrix.specs.declared.entry.Entry.{Entry}
 use Rattle.gate_matrix.specs.Matrices.{MatrixEntries, IsMatrix, tuples_of, node_at, IsPut}
-use Rattle.gate_matrix.specs.Basics.{length_tuples, tuples_append, set_from_matrix, matrix_from_set, head_all, tail_all}
-use Rattle.gate_matrix.specs.Found.{node_here, rec_at}
+use Rattle.gate_matrix.proofs.BasicLemmas.{length_tuples, tuples_append, set_from_matrix, matrix_from_set, head_all, tail_all}
+use Rattle.gate_matrix.proofs.FoundLemmas.{node_here, rec_at}
 
 -- the tuple of the entry at a place
 pub tuple_at : (es : List Entry) (i : ℕ) (d : List ℕ) (e : Entry) → i < length es → e ≡ get_or es i e → get_or (tuples_of es) i d ≡ e.tuple

@@ -9,13 +9,13 @@ use Rattle.std.proofs.lemmas.List.Folds.{Any-from_list_any, list_any_at, list_an
 use Rattle.gate_trait.specs.declared.node.Node.{Node}
 use Rattle.gate_trait.specs.Built.{Keeps, Computes}
 use Rattle.core_tuples.specs.Sets.{tuple_cmp, is_same}
-use Rattle.core_tuples.specs.Ordered.{both, apart, same_exact, same_itself}
+use Rattle.core_tuples.proofs.OrderedLemmas.{both, apart, same_exact, same_itself}
 use Rattle.gate_matrix.specs.declared.entry.Entry.{Entry}
 use Rattle.gate_matrix.specs.Matrices.{MatrixEntries, IsMatrix, tuples_of, node_at, truth, truth_of, AllBelong}
 use Rattle.gate_matrix.specs.Merged.{OptionComputes}
 use Rattle.gate_matrix.specs.Questions.{HasSome, HasLone, HasOne, IsInside, IsEqual, more_than_one}
-use Rattle.gate_matrix.specs.Basics.{or_joined, option_kept, found_belongs}
-use Rattle.gate_matrix.specs.Found.{rec_at, node_here, found_entry, truth_here}
+use Rattle.gate_matrix.proofs.BasicLemmas.{or_joined, option_kept, found_belongs}
+use Rattle.gate_matrix.proofs.FoundLemmas.{rec_at, node_here, found_entry, truth_here}
 
 module _ (value : Node → Bool) (m : MatrixEntries) (i : IsMatrix m) where
   -- some node is true just where the set has a tuple

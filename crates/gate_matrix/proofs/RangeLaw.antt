@@ -16,7 +16,7 @@ use Rattle.gate_matrix.specs.declared.entry.Entry.{Entry}
 use Rattle.gate_matrix.specs.Matrices.{tuples_of}
 use Rattle.gate_matrix.specs.Joined.{first_of}
 use Rattle.gate_matrix.proofs.PlaceLaw.{tuple_at}
-use Rattle.gate_matrix.specs.Basics.{length_tuples, head_all, tail_all}
+use Rattle.gate_matrix.proofs.BasicLemmas.{length_tuples, head_all, tail_all}
 
 less_first : (s t : List ℕ) → 1 ≤ length s → tuple_cmp s t ≡ Less → get_or s 0 0 ≤ get_or t 0 0
 less_first [] t long h = absurd (omega arith)

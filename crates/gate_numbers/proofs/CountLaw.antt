@@ -12,10 +12,10 @@ use Rattle.core_meaning.specs.World.{World}
 use Rattle.core_meaning.specs.Integers.{wrap}
 use Rattle.core_meaning.specs.Operators.{IsCount}
 use Rattle.core_tuples.specs.Sets.{tuple_cmp, is_same}
-use Rattle.core_tuples.specs.Ordered.{same_exact, same_itself, apart}
+use Rattle.core_tuples.proofs.OrderedLemmas.{same_exact, same_itself, apart}
 use Rattle.gate_matrix.specs.declared.entry.Entry.{Entry}
 use Rattle.gate_matrix.specs.Matrices.{MatrixEntries, IsMatrix, tuples_of, truth, has}
-use Rattle.gate_matrix.specs.Found.{has_truth}
+use Rattle.gate_matrix.proofs.FoundLemmas.{has_truth}
 use Rattle.gate_operators.specs.Sets.{set_of}
 
 -- the tuples whose nodes are true

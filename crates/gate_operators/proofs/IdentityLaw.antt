@@ -4,10 +4,10 @@ use Rattle.std.specs.List.{list_any}
 use Rattle.std.proofs.lemmas.List.Folds.{Any-from_list_any, list_any_at}
 use Rattle.gate_trait.specs.declared.node.Node.{Node}
 use Rattle.core_tuples.specs.Sets.{is_same}
-use Rattle.core_tuples.specs.Ordered.{both, same_exact, same_itself}
+use Rattle.core_tuples.proofs.OrderedLemmas.{both, same_exact, same_itself}
 use Rattle.gate_matrix.specs.declared.entry.Entry.{Entry}
 use Rattle.gate_matrix.specs.Matrices.{MatrixEntries, IsMatrix, truth}
-use Rattle.gate_matrix.specs.Found.{found_entry, truth_here}
+use Rattle.gate_matrix.proofs.FoundLemmas.{found_entry, truth_here}
 use Rattle.gate_operators.specs.Sets.{set_of, pairs_with_itself}
 
 only_one : (t : List ℕ) → length t ≡ 1 → t ≡ get_or t 0 0 ∷ []

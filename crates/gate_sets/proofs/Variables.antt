@@ -1,7 +1,7 @@
 -- The tuples of a list whose variables are true, taken one after the other.
 use Rattle.std.proofs.Common.{◌≡◌, ◌↔◌, ◌⊎◌, ℕ, zero, suc, ◌+◌, ◌<◌, Bool, true, false, ◌&&◌, ◌||◌, List, [], ◌∷◌, ◌++◌, length, take, get_or, slice_get, Some, refl, sym, ap, ◌∙◌, arith, inl, inr}
 use Rattle.core_tuples.specs.Sets.{is_same}
-use Rattle.core_tuples.specs.Ordered.{same_exact, same_itself, or_false}
+use Rattle.core_tuples.proofs.OrderedLemmas.{same_exact, same_itself, or_false}
 use Rattle.gate_sets.specs.Sets.{InVariables}
 use Rattle.gate_sets.proofs.Truth.{and_means, or_means}
 

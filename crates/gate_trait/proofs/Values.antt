@@ -9,7 +9,7 @@ use Rattle.gate_trait.specs.declared.gate.Gate.{Gate}
 use Rattle.gate_trait.specs.declared.gate.Gate.TheVariants.{Constant}
 use Rattle.gate_trait.specs.NodeWords.{number_of, is_negated}
 use Rattle.gate_trait.specs.Built.{xor, Keeps, Computes}
-use Rattle.gate_trait.specs.Kept.{keeps_same}
+use Rattle.gate_trait.proofs.KeptLemmas.{keeps_same}
 use Rattle.gate_trait.specs.Circuit.{gate_value, values_after, values, value_in, BelongsTo, IsAbove, IsLayered}
 
 -- the last gate's value comes last

@@ -9,7 +9,7 @@ use Rattle.core_tree.specs.declared.tree.Variable.{Variable}
 use Rattle.core_tree.specs.declared.tree.Formula.{Formula}
 use Rattle.core_tree.specs.declared.tree.Expr.{Expr, Name, Combine, Product, Unary, Prime, Choose, Comprehension, Let}
 use Rattle.core_tree.specs.Trees.{Term, term_of, claim_of, variable_of, variable_list, let_term, comprehension}
-use Rattle.core_tree.specs.Rows.{comprehension_is}
+use Rattle.core_tree.proofs.RowLemmas.{comprehension_is}
 use Rattle.core_tree.specs.Types.{TypeRows, NameRows, with_rows, sig_rows, typed_as, type_of}
 use Rattle.resolve_type_check.specs.declared.names.NamedRows.{NamedRows}
 use Rattle.resolve_type_check.specs.Same.{SameRows}

@@ -1,4 +1,3 @@
-pub mod Steps
 pub mod Rows
 pub mod Types
 pub mod StaticRows

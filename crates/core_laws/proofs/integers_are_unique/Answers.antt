@@ -1,7 +1,7 @@
 use Rattle.core_meaning.specs.Called.{bodies_of}
 use Rattle.core_meaning.specs.Meaning.{InTerm}
 use Rattle.core_window.specs.Windows.{atom_names}
-use Rattle.core_laws.specs.Unique.{count_once, number_once}
+use Rattle.core_laws.proofs.UniqueLemmas.{count_once, number_once}
 use Rattle.core_laws.proofs.integers_are_unique.Goals as goal
 
 pub returns-clause-counts : goal.returns-clause-counts

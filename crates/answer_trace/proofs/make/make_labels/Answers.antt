@@ -1,7 +1,7 @@
 use Rattle.std.proofs.Common.{◌≡◌, List, length, ap, sym, subst, ◌∙◌, All, rules}
 use Rattle.answer_trace.specs.declared.label.RelationLabel.{RelationLabel}
 use Rattle.answer_trace.specs.Made.{IsRelationOf, relation_labels_of}
-use Rattle.answer_trace.specs.CountLaws.{labels_count}
+use Rattle.answer_trace.proofs.CountLaws.{labels_count}
 use Rattle.answer_trace.proofs.Labelled.{labels_are}
 use Rattle.answer_trace.proofs.make.make_labels.Goals as goal
 

@@ -1,9 +1,9 @@
 use Rattle.std.proofs.Common.{◌≡◌, ◌∷◌, [], List, Some, length, slice_get, refl, ap, ◌∙◌, subst, arith, length-append}
 use Rattle.std.proofs.lemmas.Option.{slice_get_within, slice_get_read}
 use Rattle.gate_trait.specs.declared.node.Node.{Node}
-use Rattle.gate_trait.specs.Kept.{keeps_trans, all_more}
+use Rattle.gate_trait.proofs.KeptLemmas.{keeps_trans, all_more}
 use Rattle.core_tree.specs.declared.tree.Formula.{Formula}
-use Rattle.bmc_windows.specs.Pushes.{push_kept}
+use Rattle.bmc_windows.proofs.PushLemmas.{push_kept}
 use Rattle.bmc_encoder.proofs.LoopLaws.{choices_kept}
 use Rattle.bmc_encoder.proofs.RootLaws.{roots_more}
 use Rattle.bmc_encoder.proofs.roots.add_roots.Goals as goal

@@ -1,7 +1,7 @@
 use Rattle.std.proofs.Common.{◌≡◌, List, Some, slice_get, sym, subst, arith}
 use Rattle.gate_trait.specs.declared.node.Node.{Node}
 use Rattle.gate_trait.specs.Built.{AllIn}
-use Rattle.gate_trait.specs.Kept.{keeps_refl, all_more, all_none}
+use Rattle.gate_trait.proofs.KeptLemmas.{keeps_refl, all_more, all_none}
 use Rattle.bmc_windows.specs.declared.frame.Stretch.{Stretch}
 use Rattle.bmc_encoder.proofs.RootLaws.{FirstsTo, firsts_none, firsts_more, firsts_all}
 use Rattle.bmc_encoder.proofs.roots.beginnings.Goals as goal

@@ -1,6 +1,6 @@
 use Rattle.std.proofs.Common.{◌≡◌, ◌∙◌, ◌↔◌, ◌+◌, ◌++◌, ◌∷◌, [], ℕ, true, List, Some, length, slice_get, sym, ap, subst, arith}
 use Rattle.gate_trait.specs.declared.node.Node.{Node}
-use Rattle.gate_trait.specs.Kept.{keeps_trans}
+use Rattle.gate_trait.proofs.KeptLemmas.{keeps_trans}
 use Rattle.core_meaning.specs.Kept.{world_of, KeepsNumbers}
 use Rattle.bmc_encoder.proofs.DecodedLaws.{decoded}
 use Rattle.bmc_encoder.proofs.LoopLaws.{choices_kept}

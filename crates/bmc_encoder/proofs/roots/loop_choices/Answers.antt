@@ -1,7 +1,7 @@
 use Rattle.std.proofs.Common.{◌≡◌, ◌∙◌, ◌+◌, ◌<◌, ℕ, length, ap, arith}
-use Rattle.gate_trait.specs.Kept.{keeps_trans, all_more}
+use Rattle.gate_trait.proofs.KeptLemmas.{keeps_trans, all_more}
 use Rattle.gate_temporal.specs.Rows.{row_value}
-use Rattle.bmc_leaves.specs.RowLaws.{long_more, values_push, row_kept}
+use Rattle.bmc_leaves.proofs.RowLaws.{long_more, values_push, row_kept}
 use Rattle.bmc_encoder.proofs.LoopLaws.{only_loop}
 use Rattle.bmc_encoder.proofs.roots.loop_choices.Goals as goal
 

@@ -1,7 +1,7 @@
 use Rattle.std.proofs.Common.{◌∙◌, ◌+◌, ◌∷◌, [], ℕ, List, length, ap, length-append, Vec, Global}
-use Rattle.gate_trait.specs.Kept.{keeps_trans}
+use Rattle.gate_trait.proofs.KeptLemmas.{keeps_trans}
 use Rattle.bmc_leaves.specs.Relations.{reading_of}
-use Rattle.bmc_leaves.specs.KeptLaws.{kept_more}
+use Rattle.bmc_leaves.proofs.KeptLaws.{kept_more}
 use Rattle.bmc_leaves.proofs.kept.kept_of.Goals as goal
 
 pub loop-number-preserved : goal.loop-number-preserved

@@ -2,7 +2,7 @@ use Rattle.std.proofs.Common.{◌∙◌, ℕ, List, ap, subst, slice_get}
 use Rattle.gate_matrix.specs.Matrices.{MatrixEntries}
 use Rattle.gate_operators.specs.Sets.{MeansSet}
 use Rattle.gate_sets.specs.Sets.{InVariables}
-use Rattle.bmc_windows.specs.Pushes.{push_at}
+use Rattle.bmc_windows.proofs.PushLemmas.{push_at}
 use Rattle.bmc_leaves.proofs.leaves.add_state.Goals as goal
 
 pub returns-clause-adds : goal.returns-clause-adds

@@ -1,6 +1,6 @@
 use Rattle.std.proofs.Common.{◌+◌, ◌∷◌, [], ℕ, List, length, ap, ◌∙◌, length-append}
-use Rattle.gate_trait.specs.Kept.{keeps_trans}
-use Rattle.bmc_leaves.specs.KeptLaws.{grows_trans}
+use Rattle.gate_trait.proofs.KeptLemmas.{keeps_trans}
+use Rattle.bmc_leaves.proofs.KeptLaws.{grows_trans}
 use Rattle.bmc_leaves.proofs.RelationLaws.{states_more}
 use Rattle.bmc_leaves.proofs.leaves.add_states.Goals as goal
 

@@ -1,7 +1,7 @@
 use Rattle.std.proofs.Common.{◌≡◌, ℕ, List, refl, subst}
 use Rattle.gate_sets.specs.declared.operators.SetOperator.TheVariants.{Identity}
 use Rattle.bmc_stack.specs.Sets.{AreMade}
-use Rattle.bmc_leaves.specs.KeptLaws.{grows_trans}
+use Rattle.bmc_leaves.proofs.KeptLaws.{grows_trans}
 use Rattle.bmc_leaves.specs.Relations.{reading_of}
 use Rattle.bmc_leaves.proofs.LeafLaws.{pairs_right}
 use Rattle.bmc_leaves.proofs.leaves.iden_sets.Goals as goal

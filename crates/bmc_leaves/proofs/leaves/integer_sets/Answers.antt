@@ -1,7 +1,7 @@
 use Rattle.std.proofs.Common.{◌≡◌, ◌∙◌, ◌+◌, ◌^◌, ℕ, length, replicate, ap, arith}
 use Rattle.core_meaning.specs.Kept.{atom_count}
 use Rattle.bmc_leaves.specs.Relations.{reading_of}
-use Rattle.bmc_leaves.specs.KeptLaws.{added_grows}
+use Rattle.bmc_leaves.proofs.KeptLaws.{added_grows}
 use Rattle.bmc_leaves.proofs.LeafLaws.{ints_right}
 use Rattle.bmc_leaves.proofs.leaves.integer_sets.Goals as goal
 

@@ -1,8 +1,8 @@
 use Rattle.std.proofs.Common.{◌≡◌, ◌∙◌, ℕ, length, replicate, ap, arith}
 use Rattle.bmc_leaves.specs.Relations.{reading_of}
 use Rattle.bmc_leaves.specs.Shown.{under}
-use Rattle.bmc_leaves.specs.KeptLaws.{added_grows}
-use Rattle.bmc_leaves.specs.RightLaws.{ok_under, empty_right}
+use Rattle.bmc_leaves.proofs.KeptLaws.{added_grows}
+use Rattle.bmc_leaves.proofs.RightLaws.{ok_under, empty_right}
 use Rattle.bmc_leaves.proofs.leaves.no_set.Goals as goal
 
 pub returns-clause-grows : goal.returns-clause-grows

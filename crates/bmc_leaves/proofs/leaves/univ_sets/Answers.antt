@@ -1,7 +1,7 @@
 use Rattle.std.proofs.Common.{◌≡◌, List, length, ap, arith}
-use Rattle.gate_trait.specs.Kept.{keeps_refl, keeps_trans}
+use Rattle.gate_trait.proofs.KeptLemmas.{keeps_refl, keeps_trans}
 use Rattle.core_meaning.specs.declared.scopes.SigScope.{SigScope}
-use Rattle.bmc_leaves.specs.KeptLaws.{grows_trans}
+use Rattle.bmc_leaves.proofs.KeptLaws.{grows_trans}
 use Rattle.bmc_leaves.specs.Relations.{reading_of}
 use Rattle.bmc_leaves.proofs.LeafLaws.{begin_univ, end_univ}
 use Rattle.bmc_leaves.proofs.leaves.univ_sets.Goals as goal

@@ -2,7 +2,7 @@ use Rattle.std.proofs.Common.{◌≡◌, ℕ, List, refl, subst}
 use Rattle.core_tree.specs.declared.operators.RelationOp.TheVariants.{Union}
 use Rattle.gate_sets.specs.declared.operators.SetOperator.TheVariants.{Combine}
 use Rattle.bmc_stack.specs.Sets.{AreMade}
-use Rattle.bmc_leaves.specs.KeptLaws.{grows_trans}
+use Rattle.bmc_leaves.proofs.KeptLaws.{grows_trans}
 use Rattle.bmc_leaves.specs.Relations.{reading_of}
 use Rattle.bmc_leaves.proofs.LeafLaws.{join_sig}
 use Rattle.bmc_leaves.proofs.leaves.with_sig.Goals as goal

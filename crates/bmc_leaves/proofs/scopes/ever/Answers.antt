@@ -1,6 +1,6 @@
 use Rattle.std.proofs.Common.{◌≡◌, ◌∙◌, ◌||◌, Bool, sym, ap, arith}
 use Rattle.std.proofs.lemmas.Bool.{false≢true}
-use Rattle.gate_trait.specs.Kept.{keeps_refl, keeps_trans}
+use Rattle.gate_trait.proofs.KeptLemmas.{keeps_refl, keeps_trans}
 use Rattle.bmc_leaves.proofs.ScopeLaws.{ever_more}
 use Rattle.bmc_leaves.proofs.scopes.ever.Goals as goal
 

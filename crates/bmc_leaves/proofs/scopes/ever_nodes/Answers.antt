@@ -1,5 +1,5 @@
-use Rattle.gate_trait.specs.Kept.{keeps_trans, all_more}
-use Rattle.bmc_leaves.specs.RowLaws.{long_more, row_kept}
+use Rattle.gate_trait.proofs.KeptLemmas.{keeps_trans, all_more}
+use Rattle.bmc_leaves.proofs.RowLaws.{long_more, row_kept}
 use Rattle.bmc_leaves.proofs.ScopeLaws.{nodes_more}
 use Rattle.bmc_leaves.proofs.scopes.ever_nodes.Goals as goal
 

@@ -1,5 +1,5 @@
 use Rattle.std.proofs.Common.{◌≡◌, ◌∙◌, ◌&&◌, Bool, sym, ap, arith}
-use Rattle.gate_trait.specs.Kept.{keeps_refl, keeps_trans}
+use Rattle.gate_trait.proofs.KeptLemmas.{keeps_refl, keeps_trans}
 use Rattle.bmc_leaves.proofs.ScopeLaws.{numbers_more}
 use Rattle.bmc_leaves.proofs.scopes.keeps_numbers.Goals as goal
 

@@ -3,9 +3,9 @@ use Rattle.gate_trait.specs.declared.node.Node.{Node}
 use Rattle.gate_trait.specs.Built.{AllIn}
 use Rattle.core_tree.specs.Trees.{inside}
 use Rattle.gate_sets.specs.Belonging.{AllLists}
-use Rattle.bmc_leaves.specs.RightLaws.{equal_right}
-use Rattle.bmc_leaves.specs.KeptLaws.{all_last, right_kept, again_right}
-use Rattle.bmc_leaves.specs.KeptLaws.{two_tops}
+use Rattle.bmc_leaves.proofs.RightLaws.{equal_right}
+use Rattle.bmc_leaves.proofs.KeptLaws.{all_last, right_kept, again_right}
+use Rattle.bmc_leaves.proofs.KeptLaws.{two_tops}
 use Rattle.bmc_leaves.proofs.tests_of_sets.push_equal.Goals as goal
 
 pub returns-clause-right : goal.returns-clause-right

@@ -1,6 +1,6 @@
 use Rattle.std.proofs.Common.{refl}
 use Rattle.gate_sets.specs.declared.questions.Question.TheVariants.{Lone as Asks}
-use Rattle.bmc_leaves.specs.RightLaws.{lone_right}
+use Rattle.bmc_leaves.proofs.RightLaws.{lone_right}
 use Rattle.bmc_leaves.proofs.tests_of_sets.push_lone.Goals as goal
 
 pub returns-clause-right : goal.returns-clause-right

@@ -3,8 +3,8 @@ use Rattle.gate_trait.specs.declared.node.Node.{Node}
 use Rattle.gate_trait.specs.Built.{AllIn}
 use Rattle.core_tree.specs.Trees.{inside, test}
 use Rattle.gate_sets.specs.Belonging.{AllLists}
-use Rattle.bmc_leaves.specs.LyingLaws.{both_said}
-use Rattle.bmc_leaves.specs.KeptLaws.{all_last, right_kept, again_right, two_tops}
+use Rattle.bmc_leaves.proofs.LyingLaws.{both_said}
+use Rattle.bmc_leaves.proofs.KeptLaws.{all_last, right_kept, again_right, two_tops}
 use Rattle.bmc_leaves.proofs.tests_of_sets.push_lying.Goals as goal
 
 pub returns-clause-right : goal.returns-clause-right

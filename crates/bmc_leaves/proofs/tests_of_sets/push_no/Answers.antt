@@ -1,4 +1,4 @@
-use Rattle.bmc_leaves.specs.RightLaws.{no_right}
+use Rattle.bmc_leaves.proofs.RightLaws.{no_right}
 use Rattle.bmc_leaves.proofs.tests_of_sets.push_no.Goals as goal
 
 pub returns-clause-right : goal.returns-clause-right

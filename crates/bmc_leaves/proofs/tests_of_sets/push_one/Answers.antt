@@ -4,9 +4,9 @@ use Rattle.gate_trait.specs.Built.{AllIn}
 use Rattle.core_tree.specs.Trees.{test}
 use Rattle.core_tree.specs.declared.operators.Quantity.TheVariants.{Some as SomeOf}
 use Rattle.gate_sets.specs.Belonging.{AllLists}
-use Rattle.bmc_leaves.specs.RightLaws.{one_right}
-use Rattle.bmc_leaves.specs.KeptLaws.{all_last, right_kept, again_right}
-use Rattle.bmc_leaves.specs.KeptLaws.{two_tops}
+use Rattle.bmc_leaves.proofs.RightLaws.{one_right}
+use Rattle.bmc_leaves.proofs.KeptLaws.{all_last, right_kept, again_right}
+use Rattle.bmc_leaves.proofs.KeptLaws.{two_tops}
 use Rattle.bmc_leaves.proofs.tests_of_sets.push_one.Goals as goal
 
 pub returns-clause-right : goal.returns-clause-right

@@ -1,6 +1,6 @@
 use Rattle.std.proofs.Common.{refl}
 use Rattle.gate_sets.specs.declared.questions.Question.TheVariants.{Some as Asks}
-use Rattle.bmc_leaves.specs.RightLaws.{some_right}
+use Rattle.bmc_leaves.proofs.RightLaws.{some_right}
 use Rattle.bmc_leaves.proofs.tests_of_sets.push_some.Goals as goal
 
 pub returns-clause-right : goal.returns-clause-right

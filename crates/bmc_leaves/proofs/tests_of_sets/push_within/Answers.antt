@@ -3,7 +3,7 @@ use Rattle.core_tree.specs.declared.operators.Multiplicity.{Multiplicity}
 use Rattle.core_tree.specs.Trees.{within}
 use Rattle.bmc_stack.specs.Rows.{HasTop}
 use Rattle.bmc_leaves.specs.Shown.{IsRight}
-use Rattle.bmc_leaves.specs.LyingLaws.{within_set, within_some, within_lone, within_one}
+use Rattle.bmc_leaves.proofs.LyingLaws.{within_set, within_some, within_lone, within_one}
 use Rattle.bmc_leaves.proofs.tests_of_sets.push_within.Goals as goal
 
 pub returns-in_ok-push_inside-in-Set-clause-right : goal.returns-in_ok-push_inside-in-Set-clause-right

@@ -1,5 +1,5 @@
 use Rattle.std.proofs.Common.{◌≡◌, ◌∙◌, ◌≤◌, sym, length, arith}
-use Rattle.gate_trait.specs.Kept.{all_get}
+use Rattle.gate_trait.proofs.KeptLemmas.{all_get}
 use Rattle.bmc_stack.proofs.RowLaws.{value_at, value_past}
 use Rattle.bmc_stack.proofs.basics.node_or_false.Goals as goal
 

@@ -1,6 +1,6 @@
 use Rattle.std.proofs.Common.{◌≡◌, ◌∙◌, ◌++◌, ◌∷◌, [], ◌+◌, ◌-◌, ℕ, List, length, ap, sym, refl, subst, slice_get, Some, arith}
 use Rattle.gate_trait.specs.declared.node.Node.{Node}
-use Rattle.bmc_windows.specs.Pushes.{push_kept, push_at}
+use Rattle.bmc_windows.proofs.PushLemmas.{push_kept, push_at}
 use Rattle.bmc_stack.proofs.RowLaws.{two_rows, row_kept}
 use Rattle.bmc_stack.proofs.TopLaws.{top_at, long_by, row_belongs, three_rows, pushed_two}
 use Rattle.bmc_stack.proofs.LogicLaws.{choice_law}

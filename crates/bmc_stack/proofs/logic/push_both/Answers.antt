@@ -1,6 +1,6 @@
 use Rattle.std.proofs.Common.{◌≡◌, ◌∙◌, ◌++◌, ◌∷◌, [], ℕ, List, ap, sym, subst, slice_get}
 use Rattle.gate_trait.specs.declared.node.Node.{Node}
-use Rattle.bmc_windows.specs.Pushes.{push_kept}
+use Rattle.bmc_windows.proofs.PushLemmas.{push_kept}
 use Rattle.bmc_stack.proofs.RowLaws.{two_rows}
 use Rattle.bmc_stack.proofs.LogicLaws.{both_part_law}
 use Rattle.bmc_stack.proofs.logic.push_both.Goals as goal

@@ -1,7 +1,7 @@
 use Rattle.std.proofs.Common.{◌≡◌, ◌++◌, ◌∷◌, [], ◌≤◌, ℕ, List, length, get_or, sym, ap, ◌∙◌, arith, append_assoc, append-nil}
 use Rattle.std.proofs.lemmas.Option.{slice_get-get_or}
 use Rattle.gate_trait.specs.declared.node.Node.{Node}
-use Rattle.gate_trait.specs.Kept.{all_more, keeps_refl}
+use Rattle.gate_trait.proofs.KeptLemmas.{all_more, keeps_refl}
 use Rattle.bmc_stack.proofs.MemberLaws.{says_none, says_more, says_all}
 use Rattle.bmc_stack.proofs.members.add_row.Goals as goal
 

@@ -1,6 +1,6 @@
 use Rattle.std.proofs.Common.{sym, ap, Option}
 use Rattle.gate_trait.specs.declared.node.Node.{Node}
-use Rattle.gate_matrix.specs.Basics.{found_belongs}
+use Rattle.gate_matrix.proofs.BasicLemmas.{found_belongs}
 use Rattle.gate_matrix.specs.Matrices.{truth_of}
 use Rattle.bmc_stack.proofs.members.found_in.Goals as goal
 

@@ -1,6 +1,6 @@
 use Rattle.std.proofs.Common.{◌≡◌, ◌∙◌, ap, List, slice_get}
 use Rattle.gate_matrix.specs.Matrices.{MatrixEntries}
-use Rattle.bmc_windows.specs.Pushes.{push_at}
+use Rattle.bmc_windows.proofs.PushLemmas.{push_at}
 use Rattle.bmc_stack.proofs.numbers.add_set.Goals as goal
 
 pub returns-clause-makes : goal.returns-clause-makes

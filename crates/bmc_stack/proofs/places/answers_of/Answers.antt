@@ -1,12 +1,12 @@
 use Rattle.std.proofs.Common.{◌≡◌, ◌++◌, ◌∷◌, [], ℕ, List, ap, ◌∙◌, subst, arith}
 use Rattle.gate_trait.specs.declared.node.Node.{Node}
-use Rattle.gate_trait.specs.Kept.{keeps_trans}
+use Rattle.gate_trait.proofs.KeptLemmas.{keeps_trans}
 use Rattle.gate_matrix.specs.Matrices.{MatrixEntries}
 use Rattle.gate_sets.specs.Belonging.{AllLists}
 use Rattle.bmc_stack.specs.Steps.{AnswersSets}
 use Rattle.bmc_stack.proofs.PlaceLaws.{answered_none, answered_more, answered_all, last_belongs, pair_found}
 use Rattle.bmc_stack.proofs.RowLaws.{beside_refl, beside_trans}
-use Rattle.gate_trait.specs.Kept.{keeps_refl}
+use Rattle.gate_trait.proofs.KeptLemmas.{keeps_refl}
 use Rattle.bmc_stack.proofs.places.answers_of.Goals as goal
 
 pub loop-place-init : goal.loop-place-init

@@ -1,5 +1,5 @@
 use Rattle.std.proofs.Common.{◌≡◌, ◌+◌, ◌++◌, ◌∷◌, [], ℕ, List, length, ap, ◌∙◌, length-append, arith}
-use Rattle.gate_trait.specs.Kept.{keeps_trans}
+use Rattle.gate_trait.proofs.KeptLemmas.{keeps_trans}
 use Rattle.bmc_stack.proofs.PlaceLaws.{made_more, made_all, pair_found}
 use Rattle.bmc_stack.proofs.RowLaws.{grows_trans}
 use Rattle.bmc_stack.proofs.places.made_of.Goals as goal

@@ -1,6 +1,6 @@
 use Rattle.std.proofs.Common.{◌≡◌, ◌∙◌, ◌++◌, ◌∷◌, [], List, ap, append_assoc, take, sym}
 use Rattle.gate_trait.specs.declared.node.Node.{Node}
-use Rattle.gate_trait.specs.Kept.{keeps_refl, all_more, all_get}
+use Rattle.gate_trait.proofs.KeptLemmas.{keeps_refl, all_more, all_get}
 use Rattle.bmc_stack.proofs.RowLaws.{take_push}
 use Rattle.bmc_stack.proofs.windows.append.Goals as goal
 

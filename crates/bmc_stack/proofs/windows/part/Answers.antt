@@ -1,6 +1,6 @@
 use Rattle.std.proofs.Common.{◌≡◌, ◌-◌, ℕ, List, [], sym, subst, arith}
 use Rattle.gate_trait.specs.declared.node.Node.{Node}
-use Rattle.gate_trait.specs.Kept.{keeps_refl, all_more, all_none, all_same}
+use Rattle.gate_trait.proofs.KeptLemmas.{keeps_refl, all_more, all_none, all_same}
 use Rattle.bmc_stack.specs.Rows.{IsPart}
 use Rattle.bmc_stack.proofs.RowLaws.{part_none, part_more}
 use Rattle.bmc_stack.proofs.windows.part.Goals as goal

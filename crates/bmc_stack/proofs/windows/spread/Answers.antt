@@ -1,7 +1,7 @@
 use Rattle.std.proofs.Common.{◌≡◌, ◌≤◌, List, [], length, get_or, sym, subst, arith}
 use Rattle.std.proofs.lemmas.Option.{slice_get-get_or}
 use Rattle.gate_trait.specs.declared.node.Node.{Node}
-use Rattle.gate_trait.specs.Kept.{keeps_refl, all_more, all_none, all_same}
+use Rattle.gate_trait.proofs.KeptLemmas.{keeps_refl, all_more, all_none, all_same}
 use Rattle.bmc_stack.proofs.RowLaws.{SpreadTo, spread_none, spread_more, spread_all}
 use Rattle.bmc_stack.proofs.windows.spread.Goals as goal
 

@@ -2,7 +2,7 @@ use Rattle.std.proofs.Common.{◌≡◌, ◌∙◌, List, map, sym, ap}
 use Rattle.core_tree.specs.declared.tree.Formula.{Formula}
 use Rattle.core_tree.specs.declared.tree.Variable.{Variable}
 use Rattle.core_tree.specs.Trees.{every, for_all, claim_of, claim_list, variable_of, variable_list}
-use Rattle.core_tree.specs.Rows.{every_is, for_all_is}
+use Rattle.core_tree.proofs.RowLemmas.{every_is, for_all_is}
 use Rattle.bmc_translate.proofs.formulas.plan_formula.Goals as goal
 
 pub open_every-requires : goal.open_every-requires

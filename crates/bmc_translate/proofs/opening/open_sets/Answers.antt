@@ -1,6 +1,6 @@
 use Rattle.std.proofs.Common.{◌∙◌, ap, subst}
 use Rattle.core_tree.specs.Trees.{Term, term_of}
-use Rattle.core_tree.specs.Rows.{comprehension_is}
+use Rattle.core_tree.proofs.RowLemmas.{comprehension_is}
 use Rattle.bmc_translate.specs.declared.plan.Task.TheVariants.{Sets}
 use Rattle.bmc_translate.specs.Forms.{IsPlainTerm}
 use Rattle.bmc_leaves.specs.Relations.{reading_of}

@@ -1,5 +1,5 @@
 use Rattle.std.proofs.Common.{◌∙◌, ℕ, List, sym, subst, Vec, Global}
-use Rattle.gate_trait.specs.Kept.{keeps_trans}
+use Rattle.gate_trait.proofs.KeptLemmas.{keeps_trans}
 use Rattle.core_tree.specs.Trees.{claim_of}
 use Rattle.bmc_leaves.specs.Relations.{reading_of}
 use Rattle.bmc_leaves.specs.Shown.{AreKept}

@@ -2,7 +2,7 @@ use Rattle.std.proofs.Common.{◌≡◌, ◌++◌, ◌∷◌, [], ℕ, List, len
 use Rattle.gate_trait.specs.declared.node.Node.{Node}
 use Rattle.bmc_stack.specs.Rows.{HasTop}
 use Rattle.bmc_stack.specs.Logic.{AreSame, IsChoice}
-use Rattle.gate_trait.specs.Kept.{keeps_refl}
+use Rattle.gate_trait.proofs.KeptLemmas.{keeps_refl}
 use Rattle.bmc_translate.specs.declared.plan.RowStep.{RowStep}
 use Rattle.bmc_leaves.specs.Relations.{reading_of}
 use Rattle.bmc_translate.specs.Ways.{RowsGoOn}

@@ -1,5 +1,5 @@
 use Rattle.std.proofs.Common.{◌<◌, length, slice_get, ap, sym, ◌∙◌, arith}
-use Rattle.core_tuples.specs.Order.{take_get}
+use Rattle.core_tuples.proofs.OrderLemmas.{take_get}
 use Rattle.bound_uppers.proofs.Cut.{place_before}
 use Rattle.bound_uppers.proofs.shortening.first_states.Goals as goal
 

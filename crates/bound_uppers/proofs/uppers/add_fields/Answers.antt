@@ -1,5 +1,5 @@
 use Rattle.std.proofs.Common.{arith, length, ap, ◌∙◌, ◌+◌, ◌++◌, map, List}
-use Rattle.core_tuples.specs.Order.{take_all}
+use Rattle.core_tuples.proofs.OrderLemmas.{take_all}
 use Rattle.core_tree.specs.declared.model.Field.{Field}
 use Rattle.bound_uppers.specs.declared.uppers.Sketch.{Sketch}
 use Rattle.bound_uppers.specs.Table.{is_fixed}

@@ -1,6 +1,6 @@
 use Rattle.std.proofs.Common.{◌≡◌, ◌<◌, ◌+◌, ◌*◌, arith, ap, sym, ◌∙◌, take, get_or}
 use Rattle.core_tuples.specs.Index.{index_of}
-use Rattle.core_tuples.specs.IndexLaw.{prefix_small, prefix_more}
+use Rattle.core_tuples.proofs.IndexLaw.{prefix_small, prefix_more}
 use Rattle.core_tuples.proofs.keyed.index_of_numbers.Goals as goal
 
 pub overflow_mul-index : goal.overflow_mul-index

@@ -4,7 +4,7 @@ use Rattle.std.proofs.lemmas.List.Elements.{at_read}
 use Rattle.core_tuples.specs.Sets.{tuple_cmp}
 use Rattle.core_tuples.specs.Index.{index_of}
 use Rattle.core_tuples.proofs.JoinLaw.{all_here}
-use Rattle.core_tuples.specs.Order.{all_below, all_above, same_tuple}
+use Rattle.core_tuples.proofs.OrderLemmas.{all_below, all_above, same_tuple}
 use Rattle.core_tuples.proofs.set.place_of.Goals as goal
 
 pub against-requires : goal.against-requires

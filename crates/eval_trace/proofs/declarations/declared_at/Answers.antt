@@ -1,4 +1,4 @@
-use Rattle.eval_tree.specs.Found.{said_true, said_false}
+use Rattle.eval_tree.proofs.FoundLemmas.{said_true, said_false}
 use Rattle.eval_trace.proofs.AllLaw.{all_sigs, all_fields}
 use Rattle.eval_trace.proofs.declarations.declared_at.Goals as goal
 

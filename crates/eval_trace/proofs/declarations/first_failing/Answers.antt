@@ -1,5 +1,5 @@
 use Rattle.std.proofs.Common.{arith}
-use Rattle.eval_tree.specs.Found.{said_true, said_false}
+use Rattle.eval_tree.proofs.FoundLemmas.{said_true, said_false}
 use Rattle.eval_trace.specs.Asked.{AllAre}
 use Rattle.eval_trace.proofs.FrontLaw.{none_yet, one_more}
 use Rattle.eval_trace.proofs.RoundLaw.{everywhere}

@@ -1,5 +1,5 @@
 use Rattle.std.proofs.Common.{ap, length, arith}
-use Rattle.eval_tree.specs.Found.{said_true, said_false}
+use Rattle.eval_tree.proofs.FoundLemmas.{said_true, said_false}
 use Rattle.eval_trace.specs.Asked.{SigIs}
 use Rattle.eval_trace.proofs.FrontLaw.{before_none, before_more, before_fails, before_all}
 use Rattle.eval_trace.proofs.declarations.sigs_hold.Goals as goal

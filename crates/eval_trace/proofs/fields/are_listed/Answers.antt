@@ -1,5 +1,5 @@
 use Rattle.std.proofs.Common.{rules, tests}
-use Rattle.eval_tree.specs.Found.{said_true, said_false}
+use Rattle.eval_tree.proofs.FoundLemmas.{said_true, said_false}
 use Rattle.eval_trace.proofs.FieldLaw.{other_owner, no_list, no_other_list, one_list}
 use Rattle.eval_trace.proofs.fields.are_listed.Goals as goal
 

@@ -1,4 +1,4 @@
-use Rattle.eval_tree.specs.Found.{said_true, said_false}
+use Rattle.eval_tree.proofs.FoundLemmas.{said_true, said_false}
 use Rattle.eval_trace.proofs.FieldLaw.{field_owned, field_bounded, field_differ, field_all}
 use Rattle.eval_trace.proofs.fields.declared_holds.Goals as goal
 

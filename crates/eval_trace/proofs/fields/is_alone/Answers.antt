@@ -1,5 +1,5 @@
 use Rattle.std.proofs.Common.{ap, length, arith}
-use Rattle.eval_tree.specs.Found.{said_true, said_false}
+use Rattle.eval_tree.proofs.FoundLemmas.{said_true, said_false}
 use Rattle.eval_trace.proofs.FieldLaw.{alone_none, alone_same, alone_unlisted, alone_more, alone_fails, alone_all}
 use Rattle.eval_trace.proofs.fields.is_alone.Goals as goal
 

@@ -1,6 +1,6 @@
 use Rattle.std.proofs.Common.{◌∙◌, ◌∷◌, [], arith}
-use Rattle.eval_tree.specs.Found.{said_true, said_false}
-use Rattle.eval_tree.specs.Fronts.{fresh}
+use Rattle.eval_tree.proofs.FoundLemmas.{said_true, said_false}
+use Rattle.eval_tree.proofs.FrontLemmas.{fresh}
 use Rattle.eval_trace.proofs.FieldLaw.{differ_none, values_none, values_more, values_fail, values_all}
 use Rattle.eval_trace.proofs.fields.values_differ.Goals as goal
 

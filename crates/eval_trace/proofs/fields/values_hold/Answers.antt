@@ -1,7 +1,7 @@
 use Rattle.std.proofs.Common.{◌∙◌, arith}
 use Rattle.core_window.specs.Same.{same_trans}
-use Rattle.eval_tree.specs.Found.{said_true, said_false}
-use Rattle.eval_tree.specs.Fronts.{front_none, front_more}
+use Rattle.eval_tree.proofs.FoundLemmas.{said_true, said_false}
+use Rattle.eval_tree.proofs.FrontLemmas.{front_none, front_more}
 use Rattle.eval_trace.specs.Asked.{IsBounded}
 use Rattle.eval_trace.proofs.FieldLaw.{bounded_none, bounded_fails, bounded_all, bounded_is}
 use Rattle.eval_trace.proofs.fields.values_hold.Goals as goal

@@ -1,4 +1,4 @@
-use Rattle.eval_tree.specs.Fronts.{ForFront}
+use Rattle.eval_tree.proofs.FrontLemmas.{ForFront}
 use Rattle.eval_trace.specs.Asked.{IsBounded}
 use Rattle.eval_trace.proofs.fields.values_hold.Given as goal
 

@@ -1,4 +1,4 @@
-use Rattle.eval_tree.specs.Found.{true_holds}
+use Rattle.eval_tree.proofs.FoundLemmas.{true_holds}
 use Rattle.eval_trace.proofs.sigs.appended_holds.Goals as goal
 
 pub returns-in-None : goal.returns-in-None

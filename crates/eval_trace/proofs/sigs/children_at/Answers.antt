@@ -1,5 +1,5 @@
 use Rattle.std.proofs.Common.{ap, length, arith}
-use Rattle.eval_tree.specs.Found.{said_true, said_false}
+use Rattle.eval_tree.proofs.FoundLemmas.{said_true, said_false}
 use Rattle.eval_trace.proofs.SigLaw.{children_none, children_skip, children_more, children_fail, children_all}
 use Rattle.eval_trace.proofs.sigs.children_at.Goals as goal
 

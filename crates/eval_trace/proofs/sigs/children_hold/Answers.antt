@@ -1,4 +1,4 @@
-use Rattle.eval_tree.specs.Found.{said_true, said_false}
+use Rattle.eval_tree.proofs.FoundLemmas.{said_true, said_false}
 use Rattle.eval_trace.proofs.SigLaw.{filled_fails, filled_not_asked, filled_childless, filled_by}
 use Rattle.eval_trace.proofs.sigs.children_hold.Goals as goal
 

@@ -1,5 +1,5 @@
 use Rattle.std.proofs.Common.{arith}
-use Rattle.eval_tree.specs.Found.{said_true, said_false}
+use Rattle.eval_tree.proofs.FoundLemmas.{said_true, said_false}
 use Rattle.eval_trace.proofs.SigLaw.{none_before, child_here, no_more, childless}
 use Rattle.eval_trace.proofs.sigs.has_child.Goals as goal
 

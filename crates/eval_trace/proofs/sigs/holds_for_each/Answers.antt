@@ -1,6 +1,6 @@
 use Rattle.std.proofs.Common.{◌∙◌, arith}
-use Rattle.eval_tree.specs.Found.{said_true, said_false}
-use Rattle.eval_tree.specs.Fronts.{front_none, front_more}
+use Rattle.eval_tree.proofs.FoundLemmas.{said_true, said_false}
+use Rattle.eval_tree.proofs.FrontLemmas.{front_none, front_more}
 use Rattle.eval_trace.proofs.SigLaw.{ForMember, no_member, member_fails, members_all}
 use Rattle.eval_trace.proofs.sigs.holds_for_each.Goals as goal
 

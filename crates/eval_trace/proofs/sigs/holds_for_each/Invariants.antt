@@ -1,4 +1,4 @@
-use Rattle.eval_tree.specs.Fronts.{ForFront}
+use Rattle.eval_tree.proofs.FrontLemmas.{ForFront}
 use Rattle.eval_trace.proofs.SigLaw.{ForMember}
 use Rattle.eval_trace.proofs.sigs.holds_for_each.Given as goal
 

@@ -1,4 +1,4 @@
-use Rattle.eval_tree.specs.Found.{true_holds}
+use Rattle.eval_tree.proofs.FoundLemmas.{true_holds}
 use Rattle.eval_trace.proofs.sigs.is_placed.Goals as goal
 
 pub returns-in-Top : goal.returns-in-Top

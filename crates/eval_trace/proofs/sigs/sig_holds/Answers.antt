@@ -1,4 +1,4 @@
-use Rattle.eval_tree.specs.Found.{said_true, said_false}
+use Rattle.eval_tree.proofs.FoundLemmas.{said_true, said_false}
 use Rattle.eval_trace.proofs.SetLaw.{many_found}
 use Rattle.eval_trace.proofs.SigLaw.{sig_many, sig_placed, sig_children, sig_all}
 use Rattle.eval_trace.specs.Asked.{Members}

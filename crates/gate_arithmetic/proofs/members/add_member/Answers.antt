@@ -1,6 +1,6 @@
 use Rattle.std.proofs.Common.{◌+◌, ◌*◌, ◌%◌, ◌^◌, ℕ, List, length, ap, sym, ◌∙◌}
 use Rattle.gate_trait.specs.declared.node.Node.{Node}
-use Rattle.gate_trait.specs.Kept.{all_same}
+use Rattle.gate_trait.proofs.KeptLemmas.{all_same}
 use Rattle.gate_integers.specs.Numbers.{number, bit}
 use Rattle.gate_arithmetic.specs.Members.{amount_for}
 use Rattle.gate_arithmetic.proofs.members.add_member.Goals as goal

@@ -2,15 +2,15 @@ use Rattle.std.proofs.Common.{◌≡◌, ◌≤◌, ◌<◌, ◌+◌, ◌*◌, �
 use Rattle.std.proofs.Math.Nat.{zero-mod, mod-add-mod}
 use Rattle.std.proofs.lemmas.List.Sums.{sum_by_more}
 use Rattle.gate_trait.specs.declared.node.Node.{Node}
-use Rattle.gate_trait.specs.Kept.{keeps_refl, keeps_trans, all_same}
+use Rattle.gate_trait.proofs.KeptLemmas.{keeps_refl, keeps_trans, all_same}
 use Rattle.core_tuples.specs.Index.{IsNumber}
 use Rattle.gate_integers.specs.Numbers.{number, bit, from_bits}
-use Rattle.gate_integers.specs.Binary.{binary_zeros}
-use Rattle.gate_integers.specs.Wrapped.{wrap_count}
+use Rattle.gate_integers.proofs.BinaryLemmas.{binary_zeros}
+use Rattle.gate_integers.proofs.WrappedLemmas.{wrap_count}
 use Rattle.gate_integers.specs.Numbers.{binary}
 use Rattle.gate_matrix.specs.declared.entry.Entry.{Entry}
 use Rattle.gate_matrix.specs.Joined.{first_of}
-use Rattle.gate_matrix.specs.Basics.{all_here, all_as}
+use Rattle.gate_matrix.proofs.BasicLemmas.{all_here, all_as}
 use Rattle.gate_arithmetic.specs.Members.{amount_for, sum_of_members}
 use Rattle.gate_arithmetic.proofs.SumLaw.{members_sum}
 use Rattle.gate_arithmetic.proofs.members.integer_of.Goals as goal

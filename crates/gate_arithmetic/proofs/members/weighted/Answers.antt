@@ -1,9 +1,9 @@
 use Rattle.std.proofs.Common.{◌≡◌, ◌≤◌, ◌+◌, ◌*◌, ◌/◌, ◌^◌, ℕ, List, [], length, ap, sym, ◌∙◌, arith, subst}
 use Rattle.gate_trait.specs.declared.node.Node.{Node}
-use Rattle.gate_trait.specs.Kept.{keeps_refl, all_more, all_none, all_same, length_push}
+use Rattle.gate_trait.proofs.KeptLemmas.{keeps_refl, all_more, all_none, all_same, length_push}
 use Rattle.gate_integers.specs.Numbers.{number, bit}
-use Rattle.gate_integers.specs.Binary.{pow_next}
-use Rattle.gate_integers.specs.Sums.{number_more}
+use Rattle.gate_integers.proofs.BinaryLemmas.{pow_next}
+use Rattle.gate_integers.proofs.SumLemmas.{number_more}
 use Rattle.gate_arithmetic.proofs.MemberLaw.{weighted_turn, half_bound, none_left}
 use Rattle.gate_arithmetic.proofs.members.weighted.Goals as goal
 

@@ -1,12 +1,12 @@
 use Rattle.std.proofs.Common.{◌≡◌, ◌↔◌, ◌<◌, ◌+◌, ◌^◌, [], ℕ, Bool, true, List, All, length, ap, sym, subst, ◌∙◌, arith}
 use Rattle.std.proofs.lemmas.List.Elements.{All-push, All-cons, All-nil}
 use Rattle.gate_trait.specs.declared.node.Node.{Node}
-use Rattle.gate_trait.specs.Kept.{keeps_trans, values_kept}
+use Rattle.gate_trait.proofs.KeptLemmas.{keeps_trans, values_kept}
 use Rattle.core_tuples.specs.Index.{IsNumber}
 use Rattle.gate_integers.specs.Numbers.{binary, from_bits, signed}
 use Rattle.gate_matrix.specs.declared.entry.Entry.{Entry}
 use Rattle.gate_matrix.specs.Matrices.{has}
-use Rattle.gate_matrix.specs.Basics.{has_kept, belong_kept}
+use Rattle.gate_matrix.proofs.BasicLemmas.{has_kept, belong_kept}
 use Rattle.gate_arithmetic.specs.Members.{amount_from}
 use Rattle.gate_arithmetic.specs.Singles.{IsEarly}
 use Rattle.gate_arithmetic.proofs.SingleLaw.{early_more, early_means, iff_from, iff_as}

@@ -1,7 +1,7 @@
 use Rattle.std.proofs.Common.{◌≡◌, ◌↔◌, ◌≤◌, true, sym, ap, subst, ◌∙◌, arith}
-use Rattle.gate_trait.specs.Kept.{keeps_refl}
+use Rattle.gate_trait.proofs.KeptLemmas.{keeps_refl}
 use Rattle.gate_matrix.specs.Matrices.{MatrixEntries, AllBelong, truth}
-use Rattle.gate_matrix.specs.Basics.{keeps_trans}
+use Rattle.gate_matrix.proofs.BasicLemmas.{keeps_trans}
 use Rattle.gate_closure.proofs.WalkLaw.{one_step, pairs_wide, squared_truth, closed_truth}
 use Rattle.gate_closure.specs.Walks.{IsReachedWithin}
 use Rattle.gate_closure.proofs.closed.closure.Goals as goal

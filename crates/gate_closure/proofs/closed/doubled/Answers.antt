@@ -1,5 +1,5 @@
-use Rattle.gate_matrix.specs.Basics.{belong_kept}
-use Rattle.gate_matrix.specs.Found.{truth_kept}
+use Rattle.gate_matrix.proofs.BasicLemmas.{belong_kept}
+use Rattle.gate_matrix.proofs.FoundLemmas.{truth_kept}
 use Rattle.gate_closure.proofs.WalkLaw.{doubled_made}
 use Rattle.gate_closure.proofs.FilterLaw.{arity_made}
 use Rattle.gate_closure.proofs.closed.doubled.Goals as goal

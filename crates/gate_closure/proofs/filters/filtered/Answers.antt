@@ -4,9 +4,9 @@ use Rattle.core_tuples.specs.Index.{IsNumber}
 use Rattle.core_tuples.specs.Sets.{is_same}
 use Rattle.gate_matrix.specs.declared.entry.Entry.{Entry}
 use Rattle.gate_matrix.specs.Matrices.{has, truth, truth_of}
-use Rattle.gate_matrix.specs.Basics.{keeps_trans, all_here, all_as, any_more, has_kept, belong_kept, found_belongs}
-use Rattle.gate_matrix.specs.Found.{truth_kept, has_truth}
-use Rattle.gate_matrix.specs.Added.{has_more, belong_more, tuples_more}
+use Rattle.gate_matrix.proofs.BasicLemmas.{keeps_trans, all_here, all_as, any_more, has_kept, belong_kept, found_belongs}
+use Rattle.gate_matrix.proofs.FoundLemmas.{truth_kept, has_truth}
+use Rattle.gate_matrix.proofs.AddedLemmas.{has_more, belong_more, tuples_more}
 use Rattle.gate_closure.specs.Filters.{atom_at, counts}
 use Rattle.gate_closure.proofs.FilterLaw.{filtered_made, shared_truth}
 use Rattle.gate_closure.proofs.FilterLaw.{arity_made}

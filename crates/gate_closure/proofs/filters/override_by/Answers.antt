@@ -1,7 +1,7 @@
 use Rattle.std.proofs.Common.{◌&&◌, ◌||◌, ◌∷◌, [], not, ap, ◌∙◌}
 use Rattle.gate_matrix.specs.Matrices.{truth}
-use Rattle.gate_matrix.specs.Basics.{belong_kept}
-use Rattle.gate_matrix.specs.Found.{truth_kept}
+use Rattle.gate_matrix.proofs.BasicLemmas.{belong_kept}
+use Rattle.gate_matrix.proofs.FoundLemmas.{truth_kept}
 use Rattle.gate_closure.specs.declared.filters.Side.TheVariants.{First}
 use Rattle.gate_closure.specs.Filters.{atom_at, IsOverridden}
 use Rattle.gate_closure.proofs.FilterLaw.{means_made, filtered_made, override_means}

@@ -1,8 +1,8 @@
 use Rattle.std.proofs.Common.{◌+ℤ◌, ◌≡◌, ◌+◌, ◌%◌, ◌^◌, ℕ, List, length, ap, ◌∙◌}
 use Rattle.gate_trait.specs.declared.node.Node.{Node}
-use Rattle.gate_trait.specs.Kept.{all_same}
+use Rattle.gate_trait.proofs.KeptLemmas.{all_same}
 use Rattle.gate_integers.specs.Numbers.{number, from_bits, wrap}
-use Rattle.gate_integers.specs.Wrapped.{wrap_add}
+use Rattle.gate_integers.proofs.WrappedLemmas.{wrap_add}
 use Rattle.gate_integers.proofs.adder.add.Goals as goal
 
 pub add_numbers-requires-clause-a_belongs : goal.add_numbers-requires-clause-a_belongs

@@ -1,8 +1,8 @@
 use Rattle.std.proofs.Common.{◌≡◌, ◌<◌, List, [], length, ap, ◌∙◌, arith}
 use Rattle.gate_trait.specs.declared.node.Node.{Node}
-use Rattle.gate_trait.specs.Kept.{keeps_refl, keeps_trans, all_more, all_none, all_same, length_push}
+use Rattle.gate_trait.proofs.KeptLemmas.{keeps_refl, keeps_trans, all_more, all_none, all_same, length_push}
 use Rattle.gate_integers.specs.Numbers.{number}
-use Rattle.gate_integers.specs.Sums.{add_turn, add_whole}
+use Rattle.gate_integers.proofs.SumLemmas.{add_turn, add_whole}
 use Rattle.gate_integers.proofs.adder.add_carried.Goals as goal
 
 pub loop-i-init : goal.loop-i-init

@@ -1,7 +1,7 @@
 use Rattle.std.proofs.Common.{◌≡◌, Bool, cond, ap, ◌∙◌}
 use Rattle.gate_trait.specs.Built.{xor}
-use Rattle.gate_integers.specs.Rows.{two_same}
-use Rattle.gate_integers.specs.Binary.{digit_law}
+use Rattle.gate_integers.proofs.RowLemmas.{two_same}
+use Rattle.gate_integers.proofs.BinaryLemmas.{digit_law}
 use Rattle.gate_integers.proofs.adder.add_digits.Goals as goal
 
 pub returns-clause-digits : goal.returns-clause-digits

@@ -1,6 +1,6 @@
 use Rattle.std.proofs.Common.{ap}
 use Rattle.gate_integers.specs.Numbers.{bit}
-use Rattle.gate_integers.specs.Sums.{lost_carry}
+use Rattle.gate_integers.proofs.SumLemmas.{lost_carry}
 use Rattle.gate_integers.proofs.adder.add_numbers.Goals as goal
 
 pub returns-clause-number : goal.returns-clause-number

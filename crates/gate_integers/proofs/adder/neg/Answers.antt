@@ -1,9 +1,9 @@
 use Rattle.std.proofs.Common.{◌≡◌, ◌-◌, ◌%◌, ◌^◌, ℕ, Bool, cond, List, length, ap, ◌∙◌, arith}
 use Rattle.gate_trait.specs.declared.node.Node.{Node}
-use Rattle.gate_trait.specs.Kept.{all_same}
+use Rattle.gate_trait.proofs.KeptLemmas.{all_same}
 use Rattle.gate_integers.specs.Numbers.{number, from_bits}
-use Rattle.gate_integers.specs.Wrapped.{wrap_neg}
-use Rattle.gate_integers.specs.Sums.{number_below}
+use Rattle.gate_integers.proofs.WrappedLemmas.{wrap_neg}
+use Rattle.gate_integers.proofs.SumLemmas.{number_below}
 use Rattle.gate_integers.proofs.adder.neg.Goals as goal
 
 pub negate_where-requires-clause-a_belongs : goal.negate_where-requires-clause-a_belongs

@@ -1,8 +1,8 @@
 use Rattle.std.proofs.Common.{◌≡◌, ◌+◌, ◌*◌, ◌^◌, ℕ, Bool, List, length, sym, ap, ◌∙◌}
 use Rattle.gate_trait.specs.declared.node.Node.{Node}
-use Rattle.gate_trait.specs.Kept.{all_same}
+use Rattle.gate_trait.proofs.KeptLemmas.{all_same}
 use Rattle.gate_integers.specs.Numbers.{bit, number}
-use Rattle.gate_integers.specs.Sums.{negate_law}
+use Rattle.gate_integers.proofs.SumLemmas.{negate_law}
 use Rattle.gate_integers.proofs.adder.negate_where.Goals as goal
 
 pub add_carried-requires-clause-a_belongs : goal.add_carried-requires-clause-a_belongs

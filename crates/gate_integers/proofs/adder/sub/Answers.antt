@@ -1,9 +1,9 @@
 use Rattle.std.proofs.Common.{◌-ℤ◌, ◌≡◌, ◌+◌, ◌*◌, ◌^◌, ◌<◌, ℕ, List, length, sym, ap, ◌∙◌, subst, arith}
 use Rattle.gate_trait.specs.declared.node.Node.{Node}
-use Rattle.gate_trait.specs.Kept.{all_same}
+use Rattle.gate_trait.proofs.KeptLemmas.{all_same}
 use Rattle.gate_integers.specs.Numbers.{bit, number, from_bits, wrap}
-use Rattle.gate_integers.specs.Wrapped.{wrap_sub}
-use Rattle.gate_integers.specs.Sums.{number_below, difference_is}
+use Rattle.gate_integers.proofs.WrappedLemmas.{wrap_sub}
+use Rattle.gate_integers.proofs.SumLemmas.{number_below, difference_is}
 use Rattle.gate_integers.proofs.adder.sub.Goals as goal
 
 pub subtract_carried-requires-clause-a_belongs : goal.subtract_carried-requires-clause-a_belongs

@@ -1,8 +1,8 @@
 use Rattle.std.proofs.Common.{◌+◌, List, length, sym, ap, ◌∙◌}
 use Rattle.gate_trait.specs.declared.node.Node.{Node}
-use Rattle.gate_trait.specs.Kept.{all_same}
+use Rattle.gate_trait.proofs.KeptLemmas.{all_same}
 use Rattle.gate_integers.specs.Numbers.{bit, number}
-use Rattle.gate_integers.specs.Sums.{difference_law}
+use Rattle.gate_integers.proofs.SumLemmas.{difference_law}
 use Rattle.gate_integers.proofs.adder.subtract_carried.Goals as goal
 
 pub add_carried-requires-clause-b_belongs : goal.add_carried-requires-clause-b_belongs

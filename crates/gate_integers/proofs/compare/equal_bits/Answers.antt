@@ -1,8 +1,8 @@
 use Rattle.std.proofs.Common.{◌≡◌, ◌<◌, ◌&&◌, not, List, length, sym, ap, ◌∙◌, arith}
 use Rattle.gate_trait.specs.declared.node.Node.{Node}
 use Rattle.gate_trait.specs.Built.{xor}
-use Rattle.gate_trait.specs.Kept.{keeps_refl, keeps_trans, all_same}
-use Rattle.gate_integers.specs.Rows.{two_same}
+use Rattle.gate_trait.proofs.KeptLemmas.{keeps_refl, keeps_trans, all_same}
+use Rattle.gate_integers.proofs.RowLemmas.{two_same}
 use Rattle.gate_integers.proofs.Alike.{alike_turn}
 use Rattle.gate_integers.proofs.Finals.{equal_final}
 use Rattle.gate_integers.proofs.compare.equal_bits.Goals as goal

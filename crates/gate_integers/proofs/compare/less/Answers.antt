@@ -1,8 +1,8 @@
 use Rattle.std.proofs.Common.{◌≡◌, ◌-◌, ◌<◌, List, length, refl, ap, ◌∙◌, arith}
 use Rattle.gate_trait.specs.declared.node.Node.{Node}
 use Rattle.gate_trait.specs.Built.{xor}
-use Rattle.gate_trait.specs.Kept.{keeps_trans, all_same}
-use Rattle.gate_integers.specs.Rows.{choice_same, two_same}
+use Rattle.gate_trait.proofs.KeptLemmas.{keeps_trans, all_same}
+use Rattle.gate_integers.proofs.RowLemmas.{choice_same, two_same}
 use Rattle.gate_integers.proofs.Finals.{less_final}
 use Rattle.gate_integers.proofs.compare.less.Goals as goal
 

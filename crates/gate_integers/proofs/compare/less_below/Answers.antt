@@ -1,9 +1,9 @@
 use Rattle.std.proofs.Common.{◌≡◌, ◌<◌, nat_lt, ℕ, length, take, ap, ◌∙◌, arith}
 use Rattle.gate_trait.specs.Built.{xor}
-use Rattle.gate_trait.specs.Kept.{keeps_refl, keeps_trans}
+use Rattle.gate_trait.proofs.KeptLemmas.{keeps_refl, keeps_trans}
 use Rattle.gate_integers.specs.Numbers.{number}
-use Rattle.gate_integers.specs.Rows.{choice_same, two_same}
-use Rattle.gate_integers.specs.Sums.{less_turn}
+use Rattle.gate_integers.proofs.RowLemmas.{choice_same, two_same}
+use Rattle.gate_integers.proofs.SumLemmas.{less_turn}
 use Rattle.gate_integers.proofs.compare.less_below.Goals as goal
 
 pub loop-i-init : goal.loop-i-init

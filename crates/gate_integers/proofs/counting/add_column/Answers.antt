@@ -2,7 +2,7 @@ use Rattle.std.proofs.Common.{◌≡◌, ◌+◌, ◌*◌, List, [], ap, ◌∙�
 use Rattle.std.specs.Prelude.{count_by}
 use Rattle.std.proofs.lemmas.List.{take_all}
 use Rattle.gate_trait.specs.declared.node.Node.{Node}
-use Rattle.gate_trait.specs.Kept.{keeps_refl, keeps_trans, all_more, all_kept, all_same, all_none}
+use Rattle.gate_trait.proofs.KeptLemmas.{keeps_refl, keeps_trans, all_more, all_kept, all_same, all_none}
 use Rattle.gate_integers.specs.Numbers.{bit}
 use Rattle.gate_integers.proofs.Columns.{column_turn}
 use Rattle.gate_integers.proofs.counting.add_column.Goals as goal

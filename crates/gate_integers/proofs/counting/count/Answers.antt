@@ -1,7 +1,7 @@
 use Rattle.std.proofs.Common.{◌≡◌, ◌+◌, ◌*◌, ◌^◌, ℕ, List, [], length, ap, sym, ◌∙◌, arith}
 use Rattle.std.specs.Prelude.{count_by}
 use Rattle.gate_trait.specs.declared.node.Node.{Node}
-use Rattle.gate_trait.specs.Kept.{keeps_refl, keeps_trans, all_more, all_same, all_none, length_push}
+use Rattle.gate_trait.proofs.KeptLemmas.{keeps_refl, keeps_trans, all_more, all_same, all_none, length_push}
 use Rattle.gate_integers.specs.Numbers.{number}
 use Rattle.gate_integers.proofs.Columns.{place_turn, counted}
 use Rattle.gate_integers.proofs.counting.count.Goals as goal

@@ -3,10 +3,10 @@ use Rattle.std.proofs.lemmas.List.{length-reverse}
 use Rattle.std.proofs.lemmas.Option.{get_or_from_slice_get}
 use Rattle.std.proofs.lemmas.List.Sorted.{All-permutation, IsPermutation-reverse}
 use Rattle.gate_trait.specs.declared.node.Node.{Node}
-use Rattle.gate_trait.specs.Kept.{keeps_refl, keeps_trans, all_kept, all_same, all_more, all_get, length_push}
+use Rattle.gate_trait.proofs.KeptLemmas.{keeps_refl, keeps_trans, all_kept, all_same, all_more, all_get, length_push}
 use Rattle.gate_integers.specs.Numbers.{bit, binary, number}
-use Rattle.gate_integers.specs.Binary.{binary_zeros, pow_next}
-use Rattle.gate_integers.specs.Sums.{number_kept}
+use Rattle.gate_integers.proofs.BinaryLemmas.{binary_zeros, pow_next}
+use Rattle.gate_integers.proofs.SumLemmas.{number_kept}
 use Rattle.gate_integers.proofs.DivideSteps.{top_first, top_push, top_reversed, top_kept, number_drop, divided_turn, below_turn, zero_turn, room, dropped_none}
 use Rattle.gate_integers.proofs.divide.divide.Goals as goal
 

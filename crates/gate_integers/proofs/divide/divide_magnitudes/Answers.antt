@@ -1,8 +1,8 @@
 use Rattle.std.proofs.Common.{◌≡◌, ◌+◌, ◌*◌, ◌^◌, ◌<◌, ℕ, List, length, ap, sym, ◌∙◌, subst}
 use Rattle.gate_trait.specs.declared.node.Node.{Node}
-use Rattle.gate_trait.specs.Kept.{all_kept, all_same}
+use Rattle.gate_trait.proofs.KeptLemmas.{all_kept, all_same}
 use Rattle.gate_integers.specs.Numbers.{number}
-use Rattle.gate_integers.specs.Sums.{number_kept}
+use Rattle.gate_integers.proofs.SumLemmas.{number_kept}
 use Rattle.gate_integers.specs.Quotients.{magnitude}
 use Rattle.gate_integers.proofs.divide.divide_magnitudes.Goals as goal
 

@@ -1,8 +1,8 @@
 use Rattle.std.proofs.Common.{◌≡◌, ◌+◌, ◌*◌, ◌^◌, ◌<◌, ℕ, cond, List, length, ap, sym, ◌∙◌, subst}
 use Rattle.gate_trait.specs.declared.node.Node.{Node}
-use Rattle.gate_trait.specs.Kept.{all_kept, all_same}
+use Rattle.gate_trait.proofs.KeptLemmas.{all_kept, all_same}
 use Rattle.gate_integers.specs.Numbers.{bit, binary, number}
-use Rattle.gate_integers.specs.Sums.{number_kept, number_below}
+use Rattle.gate_integers.proofs.SumLemmas.{number_kept, number_below}
 use Rattle.gate_integers.proofs.DivideSteps.{step_sum, step_less, chosen_number}
 use Rattle.gate_integers.proofs.divide.divide_step.Goals as goal
 

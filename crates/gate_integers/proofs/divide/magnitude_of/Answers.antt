@@ -1,6 +1,6 @@
 use Rattle.std.proofs.Common.{◌-◌, length, arith}
 use Rattle.gate_integers.specs.Numbers.{number}
-use Rattle.gate_integers.specs.Sums.{number_below}
+use Rattle.gate_integers.proofs.SumLemmas.{number_below}
 use Rattle.gate_integers.proofs.DivideSteps.{sign_top, magnitude_law}
 use Rattle.gate_integers.proofs.divide.magnitude_of.Goals as goal
 

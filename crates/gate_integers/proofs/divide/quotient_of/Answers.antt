@@ -1,10 +1,10 @@
 use Rattle.std.proofs.Common.{◌≡◌, ◌-◌, ◌*◌, ◌%◌, ◌^◌, ◌<◌, nat_lt, ℕ, Bool, true, false, cond, List, length, ap, sym, ◌∙◌, arith, subst}
 use Rattle.gate_trait.specs.declared.node.Node.{Node}
 use Rattle.gate_trait.specs.Built.{xor}
-use Rattle.gate_trait.specs.Kept.{keeps_trans, all_same, all_kept}
+use Rattle.gate_trait.proofs.KeptLemmas.{keeps_trans, all_same, all_kept}
 use Rattle.gate_integers.specs.Numbers.{bit, binary, number, from_bits, wrap}
-use Rattle.gate_integers.specs.Rows.{two_same}
-use Rattle.gate_integers.specs.Sums.{number_below, number_kept}
+use Rattle.gate_integers.proofs.RowLemmas.{two_same}
+use Rattle.gate_integers.proofs.SumLemmas.{number_below, number_kept}
 use Rattle.gate_integers.specs.Quotients.{quotient}
 use Rattle.gate_integers.proofs.Divided.{is_negative, quotient_law}
 use Rattle.gate_integers.proofs.DivideSteps.{sign_top}

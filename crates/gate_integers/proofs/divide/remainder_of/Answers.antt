@@ -1,8 +1,8 @@
 use Rattle.std.proofs.Common.{◌≡◌, ◌-◌, ◌%◌, ◌^◌, ◌<◌, ℕ, Bool, cond, List, length, ap, sym, ◌∙◌, arith, subst}
 use Rattle.gate_trait.specs.declared.node.Node.{Node}
-use Rattle.gate_trait.specs.Kept.{all_same}
+use Rattle.gate_trait.proofs.KeptLemmas.{all_same}
 use Rattle.gate_integers.specs.Numbers.{number, from_bits, wrap}
-use Rattle.gate_integers.specs.Sums.{number_below}
+use Rattle.gate_integers.proofs.SumLemmas.{number_below}
 use Rattle.gate_integers.specs.Quotients.{remainder}
 use Rattle.gate_integers.proofs.Divided.{is_negative, remainder_law}
 use Rattle.gate_integers.proofs.DivideSteps.{sign_top}

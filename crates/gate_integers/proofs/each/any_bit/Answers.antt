@@ -1,9 +1,9 @@
 use Rattle.std.proofs.Common.{◌<◌, ◌||◌, nat_lt, Bool, List, length, ap, ◌∙◌, arith}
 use Rattle.std.proofs.lemmas.List.{take_all}
 use Rattle.gate_trait.specs.declared.node.Node.{Node}
-use Rattle.gate_trait.specs.Kept.{keeps_trans, keeps_refl}
+use Rattle.gate_trait.proofs.KeptLemmas.{keeps_trans, keeps_refl}
 use Rattle.gate_integers.specs.Numbers.{number}
-use Rattle.gate_integers.specs.Sums.{any_turn}
+use Rattle.gate_integers.proofs.SumLemmas.{any_turn}
 use Rattle.gate_integers.proofs.each.any_bit.Goals as goal
 
 pub loop-node-init : goal.loop-node-init

@@ -1,7 +1,7 @@
 use Rattle.std.proofs.Common.{◌≡◌, ◌<◌, Bool, true, false, cond, List, [], length, map, refl, ap, ◌∙◌, arith}
 use Rattle.gate_trait.specs.declared.node.Node.{Node}
-use Rattle.gate_trait.specs.Kept.{keeps_refl, keeps_trans, all_more, all_none, all_same, length_push}
-use Rattle.gate_integers.specs.Rows.{choice_turn}
+use Rattle.gate_trait.proofs.KeptLemmas.{keeps_refl, keeps_trans, all_more, all_none, all_same, length_push}
+use Rattle.gate_integers.proofs.RowLemmas.{choice_turn}
 use Rattle.gate_integers.proofs.each.chosen.Goals as goal
 
 pub loop-i-init : goal.loop-i-init

@@ -1,7 +1,7 @@
 use Rattle.std.proofs.Common.{◌<◌, not, List, [], length, map, ap, ◌∙◌, arith}
 use Rattle.gate_trait.specs.declared.node.Node.{Node}
-use Rattle.gate_trait.specs.Kept.{keeps_refl, all_more, all_none, all_same, length_push}
-use Rattle.gate_integers.specs.Rows.{map_turn}
+use Rattle.gate_trait.proofs.KeptLemmas.{keeps_refl, all_more, all_none, all_same, length_push}
+use Rattle.gate_integers.proofs.RowLemmas.{map_turn}
 use Rattle.gate_integers.proofs.each.negated.Goals as goal
 
 pub loop-node-init : goal.loop-node-init

@@ -1,8 +1,8 @@
 use Rattle.std.proofs.Common.{◌<◌, List, [], length, map, ap, ◌∙◌, arith}
 use Rattle.gate_trait.specs.declared.node.Node.{Node}
 use Rattle.gate_trait.specs.Built.{xor}
-use Rattle.gate_trait.specs.Kept.{keeps_refl, keeps_trans, all_more, all_none, all_same, length_push}
-use Rattle.gate_integers.specs.Rows.{map_turn, two_same}
+use Rattle.gate_trait.proofs.KeptLemmas.{keeps_refl, keeps_trans, all_more, all_none, all_same, length_push}
+use Rattle.gate_integers.proofs.RowLemmas.{map_turn, two_same}
 use Rattle.gate_integers.proofs.each.negated_where.Goals as goal
 
 pub loop-node-init : goal.loop-node-init

@@ -3,7 +3,7 @@ use Rattle.std.specs.Prelude.{count_by}
 use Rattle.std.proofs.lemmas.List.Sums.{count_by-le-length}
 use Rattle.std.proofs.lemmas.Option.{get_or_from_slice_get}
 use Rattle.gate_trait.specs.declared.node.Node.{Node}
-use Rattle.gate_trait.specs.Kept.{all_get}
+use Rattle.gate_trait.proofs.KeptLemmas.{all_get}
 use Rattle.gate_integers.proofs.Finals.{most_law}
 use Rattle.gate_integers.proofs.limit.at_most.Goals as goal
 

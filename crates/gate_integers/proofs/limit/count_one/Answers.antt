@@ -1,9 +1,9 @@
 use Rattle.std.proofs.Common.{◌≡◌, ◌+◌, ◌<◌, nat_lt, true, List, [], length, sym, ap, ◌∙◌, arith}
 use Rattle.std.proofs.lemmas.Bool.Decides.{nat_tests}
 use Rattle.gate_trait.specs.declared.node.Node.{Node}
-use Rattle.gate_trait.specs.Kept.{keeps_refl, keeps_trans, all_more, all_same, length_push, all_none}
+use Rattle.gate_trait.proofs.KeptLemmas.{keeps_refl, keeps_trans, all_more, all_same, length_push, all_none}
 use Rattle.gate_integers.specs.Numbers.{bit}
-use Rattle.gate_integers.specs.Rows.{told_more, choice_same}
+use Rattle.gate_integers.proofs.RowLemmas.{told_more, choice_same}
 use Rattle.gate_integers.proofs.Finals.{entry_law, test_next}
 use Rattle.gate_integers.proofs.limit.count_one.Goals as goal
 

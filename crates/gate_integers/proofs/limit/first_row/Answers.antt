@@ -1,8 +1,8 @@
 use Rattle.std.proofs.Common.{◌≡◌, nat_lt, false, List, [], length, sym, ap, ◌∙◌, arith}
 use Rattle.std.proofs.lemmas.Bool.Decides.{nat_tests}
 use Rattle.gate_trait.specs.declared.node.Node.{Node}
-use Rattle.gate_trait.specs.Kept.{keeps_refl, all_more, all_same, length_push, all_none}
-use Rattle.gate_integers.specs.Rows.{told_more}
+use Rattle.gate_trait.proofs.KeptLemmas.{keeps_refl, all_more, all_same, length_push, all_none}
+use Rattle.gate_integers.proofs.RowLemmas.{told_more}
 use Rattle.gate_integers.proofs.limit.first_row.Goals as goal
 
 pub loop-entry-init : goal.loop-entry-init

@@ -2,7 +2,7 @@ use Rattle.std.proofs.Common.{◌+◌, ◌<◌, ℕ, Bool, List, length, take, s
 use Rattle.std.specs.Prelude.{count_by}
 use Rattle.std.proofs.lemmas.List.{take_all}
 use Rattle.gate_trait.specs.declared.node.Node.{Node}
-use Rattle.gate_trait.specs.Kept.{keeps_refl, keeps_trans, all_same}
+use Rattle.gate_trait.proofs.KeptLemmas.{keeps_refl, keeps_trans, all_same}
 use Rattle.gate_integers.specs.Numbers.{bit}
 use Rattle.gate_integers.specs.Counts.{Tells}
 use Rattle.gate_integers.proofs.Finals.{count_more}

@@ -1,8 +1,8 @@
 use Rattle.std.proofs.Common.{◌≡◌, ◌*◌, ◌%◌, ◌^◌, ℕ, List, length, ap, ◌∙◌, ◌*ℤ◌}
 use Rattle.gate_trait.specs.declared.node.Node.{Node}
-use Rattle.gate_trait.specs.Kept.{all_same}
+use Rattle.gate_trait.proofs.KeptLemmas.{all_same}
 use Rattle.gate_integers.specs.Numbers.{number, from_bits, wrap}
-use Rattle.gate_integers.specs.Wrapped.{wrap_mul}
+use Rattle.gate_integers.proofs.WrappedLemmas.{wrap_mul}
 use Rattle.gate_integers.proofs.product.mul.Goals as goal
 
 pub multiply-requires-clause-a_belongs : goal.multiply-requires-clause-a_belongs

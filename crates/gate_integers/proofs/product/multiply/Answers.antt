@@ -1,10 +1,10 @@
 use Rattle.std.proofs.Common.{◌≡◌, ◌*◌, ◌%◌, ◌^◌, ◌<◌, ℕ, List, length, take, ap, sym, ◌∙◌, arith}
 use Rattle.std.proofs.lemmas.List.{take_all}
 use Rattle.gate_trait.specs.declared.node.Node.{Node}
-use Rattle.gate_trait.specs.Kept.{keeps_refl, keeps_trans, all_same}
+use Rattle.gate_trait.proofs.KeptLemmas.{keeps_refl, keeps_trans, all_same}
 use Rattle.gate_integers.specs.Numbers.{binary, number}
-use Rattle.gate_integers.specs.Binary.{binary_zeros, pow_next}
-use Rattle.gate_integers.specs.Sums.{number_below, number_take}
+use Rattle.gate_integers.proofs.BinaryLemmas.{binary_zeros, pow_next}
+use Rattle.gate_integers.proofs.SumLemmas.{number_below, number_take}
 use Rattle.gate_integers.proofs.Multiplied.{added_as, row_added, row_doubled, none_added, first_row}
 use Rattle.gate_integers.proofs.product.multiply.Goals as goal
 

@@ -1,8 +1,8 @@
 use Rattle.std.proofs.Common.{◌≡◌, ◌+◌, ◌*◌, ◌%◌, ◌^◌, ℕ, Bool, List, length, ap, sym, ◌∙◌, arith}
 use Rattle.gate_trait.specs.declared.node.Node.{Node}
-use Rattle.gate_trait.specs.Kept.{keeps_trans, all_kept, all_same}
+use Rattle.gate_trait.proofs.KeptLemmas.{keeps_trans, all_kept, all_same}
 use Rattle.gate_integers.specs.Numbers.{bit, binary, number}
-use Rattle.gate_integers.specs.Sums.{number_kept}
+use Rattle.gate_integers.proofs.SumLemmas.{number_kept}
 use Rattle.gate_integers.proofs.Multiplied.{masked_number}
 use Rattle.gate_integers.proofs.product.multiply_step.Goals as goal
 

@@ -1,6 +1,6 @@
 use Rattle.std.proofs.Common.{◌≡◌, ◌<◌, List, [], length, ap, ◌∙◌, arith}
 use Rattle.gate_trait.specs.declared.node.Node.{Node}
-use Rattle.gate_trait.specs.Kept.{keeps_refl, all_more, all_none, all_same, length_push}
+use Rattle.gate_trait.proofs.KeptLemmas.{keeps_refl, all_more, all_none, all_same, length_push}
 use Rattle.gate_integers.specs.Numbers.{number}
 use Rattle.gate_integers.proofs.Multiplied.{shift_turn, shifted_whole}
 use Rattle.gate_integers.proofs.product.shifted_in.Goals as goal

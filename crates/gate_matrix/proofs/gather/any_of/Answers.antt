@@ -1,5 +1,5 @@
 use Rattle.gate_matrix.specs.declared.entry.Entry.{Entry}
-use Rattle.gate_matrix.specs.Basics.{keeps_trans, all_here, any_more}
+use Rattle.gate_matrix.proofs.BasicLemmas.{keeps_trans, all_here, any_more}
 use Rattle.gate_matrix.proofs.gather.any_of.Goals as goal
 
 pub loop-entry-preserved : goal.loop-entry-preserved

@@ -2,7 +2,7 @@ use Rattle.std.proofs.Common.{arith, ◌≡◌, ◌≤◌, ◌<◌, ◌+◌, ◌
 use Rattle.std.proofs.lemmas.List.Elements.{All-take, All-drop}
 use Rattle.gate_matrix.specs.declared.entry.Entry.{Entry}
 use Rattle.gate_matrix.specs.Matrices.{MatrixEntries, truth}
-use Rattle.gate_matrix.specs.Basics.{belong_kept}
+use Rattle.gate_matrix.proofs.BasicLemmas.{belong_kept}
 use Rattle.gate_matrix.proofs.GatherLaw.{Collapsing, collapsing_none, collapsing_step, collapsed_matrix, collapsed_truth}
 use Rattle.gate_matrix.proofs.gather.collapsed.Goals as goal
 

@@ -5,7 +5,7 @@ use Rattle.core_tuples.specs.Index.{IsNumber, FitsIndex}
 use Rattle.core_tuples.specs.Sets.{is_same}
 use Rattle.gate_matrix.specs.declared.entry.Entry.{Entry}
 use Rattle.gate_matrix.specs.Matrices.{AllBelong, has, has_row}
-use Rattle.gate_matrix.specs.Basics.{keeps_trans, all_here, any_step, any_push, slice_from, has_kept, belong_kept}
+use Rattle.gate_matrix.proofs.BasicLemmas.{keeps_trans, all_here, any_step, any_push, slice_from, has_kept, belong_kept}
 use Rattle.gate_matrix.proofs.JoinLaw.{two_values}
 use Rattle.gate_matrix.proofs.joins.add_row.Goals as goal
 

@@ -6,7 +6,7 @@ use Rattle.core_tuples.specs.Sets.{is_same}
 use Rattle.gate_matrix.specs.declared.entry.Entry.{Entry}
 use Rattle.gate_matrix.specs.Matrices.{AllBelong, has}
 use Rattle.gate_matrix.specs.Joined.{first_of, last_of, front_of, has_join, has_pair, has_turned, IsJoined, IsPaired, IsTurned}
-use Rattle.gate_matrix.specs.Basics.{keeps_trans, all_here, all_as, any_more, any_push, has_kept, belong_kept}
+use Rattle.gate_matrix.proofs.BasicLemmas.{keeps_trans, all_here, all_as, any_more, any_push, has_kept, belong_kept}
 use Rattle.gate_matrix.proofs.JoinLaw.{part_all, glued_fits, glued_columns, entry_fits, join_row, pair_row, joined_means, paired_means, turned_means, gathered_made}
 use Rattle.gate_matrix.proofs.MergeLaw.{arity_as}
 use Rattle.std.proofs.lemmas.List.Elements.{All-cons, All-nil}

@@ -2,7 +2,7 @@ use Rattle.std.proofs.Common.{arith, ap, ◌∙◌, ◌≡◌, ◌⊎◌, ◌<�
 use Rattle.gate_matrix.specs.declared.entry.Entry.{Entry}
 use Rattle.gate_matrix.specs.Matrices.{MatrixEntries, truth}
 use Rattle.gate_matrix.proofs.MergeLaw.{Merging, first_at, second_at, both_at, less_within, greater_within, equal_within, merging_none, merged_matrix, merged_truth}
-use Rattle.gate_matrix.specs.Basics.{all_here}
+use Rattle.gate_matrix.proofs.BasicLemmas.{all_here}
 use Rattle.gate_matrix.proofs.MergeLaw.{some_belongs}
 use Rattle.gate_matrix.proofs.merge.merge.Goals as goal
 use Rattle.gate_matrix.proofs.merge.merge.Goals.{then-i-a, else-i-a+then-j-b}

@@ -1,6 +1,6 @@
 use Rattle.std.proofs.Common.{◌≡◌, ◌∙◌, Bool, List, ap, length, ℤ, ◌+ℤ◌}
 use Rattle.core_meaning.specs.Integers.{wrap}
-use Rattle.gate_trait.specs.Kept.{values_kept}
+use Rattle.gate_trait.proofs.KeptLemmas.{values_kept}
 use Rattle.gate_integers.specs.Numbers.{binary, signed, from_bits}
 use Rattle.gate_numbers.specs.Numbers.{where_true}
 use Rattle.gate_numbers.proofs.integers.masked_sum.Goals as goal

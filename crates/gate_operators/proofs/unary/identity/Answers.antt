@@ -5,7 +5,7 @@ use Rattle.core_tuples.specs.Index.{IsNumber}
 use Rattle.core_tuples.specs.Sets.{is_same}
 use Rattle.gate_matrix.specs.declared.entry.Entry.{Entry}
 use Rattle.gate_matrix.specs.Matrices.{has}
-use Rattle.gate_matrix.specs.Basics.{all_here, all_as, any_more, any_push}
+use Rattle.gate_matrix.proofs.BasicLemmas.{all_here, all_as, any_more, any_push}
 use Rattle.gate_operators.proofs.IdentityLaw.{doubled_means}
 use Rattle.gate_operators.proofs.unary.identity.Goals as goal
 

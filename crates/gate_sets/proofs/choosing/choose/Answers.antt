@@ -1,5 +1,5 @@
 use Rattle.std.proofs.Common.{◌∙◌}
-use Rattle.gate_matrix.specs.Found.{truth_kept}
+use Rattle.gate_matrix.proofs.FoundLemmas.{truth_kept}
 use Rattle.gate_sets.proofs.Masks.{chosen_means, and_both, or_both}
 use Rattle.gate_sets.proofs.choosing.choose.Goals as goal
 

@@ -4,8 +4,8 @@ use Rattle.core_tuples.specs.Index.{IsNumber}
 use Rattle.core_tuples.specs.Sets.{is_same}
 use Rattle.gate_matrix.specs.declared.entry.Entry.{Entry}
 use Rattle.gate_matrix.specs.Matrices.{AllBelong, has}
-use Rattle.gate_matrix.specs.Basics.{keeps_trans, all_here, all_as, any_push, has_kept, belong_kept}
-use Rattle.gate_matrix.specs.Found.{has_truth}
+use Rattle.gate_matrix.proofs.BasicLemmas.{keeps_trans, all_here, all_as, any_push, has_kept, belong_kept}
+use Rattle.gate_matrix.proofs.FoundLemmas.{has_truth}
 use Rattle.gate_sets.proofs.Masks.{mask_more, and_swap, and_both}
 use Rattle.gate_sets.proofs.choosing.masked.Goals as goal
 

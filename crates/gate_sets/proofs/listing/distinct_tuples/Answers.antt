@@ -5,7 +5,7 @@ use Rattle.std.proofs.lemmas.List.Filters.{dedup_is}
 use Rattle.std.proofs.lemmas.List.Kept.{Contains-dedup, Contains-from_dedup}
 use Rattle.std.proofs.lemmas.List.Sorted.{Contains-permutation, IsPermutation-sym}
 use Rattle.core_tuples.specs.Sets.{is_same}
-use Rattle.core_tuples.specs.Ordered.{same_exact}
+use Rattle.core_tuples.proofs.OrderedLemmas.{same_exact}
 use Rattle.gate_sets.proofs.listing.distinct_tuples.Goals as goal
 
 pub returns : goal.returns

@@ -4,7 +4,7 @@ use Rattle.core_tuples.specs.Index.{IsNumber}
 use Rattle.core_tuples.specs.Sets.{is_same}
 use Rattle.gate_matrix.specs.declared.entry.Entry.{Entry}
 use Rattle.gate_matrix.specs.Matrices.{AllBelong, has}
-use Rattle.gate_matrix.specs.Basics.{keeps_trans, all_here, all_as, any_push, has_kept, belong_kept}
+use Rattle.gate_matrix.proofs.BasicLemmas.{keeps_trans, all_here, all_as, any_push, has_kept, belong_kept}
 use Rattle.gate_sets.proofs.Masks.{or_both}
 use Rattle.gate_sets.proofs.Variables.{any_variable, any_next, any_means}
 use Rattle.gate_sets.proofs.relation.relation_matrix.Goals as goal

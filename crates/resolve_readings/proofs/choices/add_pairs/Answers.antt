@@ -1,6 +1,6 @@
 use Rattle.std.proofs.Common.{◌++◌, [], ◌∙◌, ap}
 use Rattle.std.specs.List.{cons_option}
-use Rattle.resolve_types.specs.Steps.{filter_map_more}
+use Rattle.resolve_types.proofs.StepLemmas.{filter_map_more}
 use Rattle.resolve_readings.specs.Found.{paired}
 use Rattle.resolve_readings.proofs.choices.add_pairs.Goals as goal
 

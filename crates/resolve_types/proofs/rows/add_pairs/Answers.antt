@@ -1,7 +1,7 @@
 use Rattle.std.proofs.Common.{◌≡◌, ◌++◌, [], ◌∙◌, ap}
 use Rattle.std.specs.List.{cons_option}
 use Rattle.resolve_types.specs.Types.{row_of}
-use Rattle.resolve_types.specs.Steps.{filter_map_more}
+use Rattle.resolve_types.proofs.StepLemmas.{filter_map_more}
 use Rattle.resolve_types.proofs.rows.add_pairs.Goals as goal
 
 pub loop-other-preserved : goal.loop-other-preserved

@@ -1,7 +1,7 @@
 use Rattle.std.proofs.Common.{◌≡◌, ℕ, List, All, ap, ◌∙◌, subst}
 use Rattle.std.specs.Ordering.{nat_cmp}
 use Rattle.core_tuples.specs.Index.{IsNumber, index_of}
-use Rattle.core_tuples.specs.IndexLaw.{index_order}
+use Rattle.core_tuples.proofs.IndexLaw.{index_order}
 use Rattle.core_tuples.proofs.keyed.Keyed.against.Goals as goal
 
 pub returns : goal.returns

@@ -1,6 +1,6 @@
 use Rattle.std.proofs.Common.{◌≡◌, subst, sym, ap, ◌∙◌, Contains, List, ℕ}
 use Rattle.core_tuples.specs.Sets.{TupleList}
-use Rattle.core_tuples.specs.Order.{found_means}
+use Rattle.core_tuples.proofs.OrderLemmas.{found_means}
 use Rattle.core_tuples.proofs.set.TupleSet.contains.Goals as goal
 
 pub returns-then-is_row : goal.returns-then-is_row

@@ -1,5 +1,5 @@
 use Rattle.std.proofs.lemmas.List.Elements.{All-nil}
-use Rattle.core_tuples.specs.Ordered.{none_sorted}
+use Rattle.core_tuples.proofs.OrderedLemmas.{none_sorted}
 use Rattle.core_tuples.proofs.set.TupleSet.empty.Goals as goal
 
 pub invariant_of-result : goal.invariant_of-result

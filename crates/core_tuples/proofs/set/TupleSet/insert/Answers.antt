@@ -1,6 +1,6 @@
 use Rattle.std.proofs.Common.{◌≡◌, ◌⊎◌, subst, sym, ap, ◌∙◌}
 use Rattle.core_tuples.specs.Sets.{TupleList, HasJust, In, IsGap}
-use Rattle.core_tuples.specs.Order.{set_insert, just_insert}
+use Rattle.core_tuples.proofs.OrderLemmas.{set_insert, just_insert}
 use Rattle.core_tuples.proofs.set.TupleSet.insert.Goals as goal
 
 pub invariant_of-self : goal.invariant_of-self

@@ -3,7 +3,7 @@ use Rattle.core_tree.specs.Trees.{term_of}
 use Rattle.core_tuples.specs.Sets.{In}
 use Rattle.core_window.specs.Same.{same_trans}
 use Rattle.eval_steps.specs.Judged.{scope_names, FitsAfter, FitsBefore, GoesAfter, GoesBefore}
-use Rattle.eval_tree.specs.Found.{if_ok_to, said_true, said_false}
+use Rattle.eval_tree.proofs.FoundLemmas.{if_ok_to, said_true, said_false}
 use Rattle.eval_tree.proofs.ListCases.{arrow_fails, arrow_fits, fits_yes, read_set}
 use Rattle.eval_tree.proofs.FitsLaw.{tuples_none, tuples_more, tuples_all, tuples_fail, after_any, before_any, after_is, before_is, goes_yes, goes_no}
 use Rattle.eval_tree.proofs.walk.Walk.+arrows.Goals as goal

@@ -2,9 +2,9 @@ use Rattle.std.proofs.Common.{◌∙◌, map, arith}
 use Rattle.std.proofs.lemmas.List.{nil_from_length}
 use Rattle.core_tree.specs.Trees.{claim_of, variable_of, variable_list}
 use Rattle.eval_steps.specs.Judged.{scope_names, HoldsIn, Says, earlier_list}
-use Rattle.eval_tree.specs.Found.{says_said, said_true, said_false, true_holds}
+use Rattle.eval_tree.proofs.FoundLemmas.{says_said, said_true, said_false, true_holds}
 use Rattle.eval_tree.proofs.ListCases.{each_none, each_some, read_set}
-use Rattle.eval_tree.specs.Fronts.{front_none, front_more, front_all}
+use Rattle.eval_tree.proofs.FrontLemmas.{front_none, front_more, front_all}
 use Rattle.eval_tree.proofs.ChoiceLaw.{ForAtom, no_atoms_each, each_fails}
 use Rattle.eval_tree.proofs.walk.Walk.+each.Goals as goal
 

@@ -1,7 +1,7 @@
 use Rattle.std.proofs.Common.{map}
 use Rattle.core_tree.specs.Trees.{claim_of, variable_of, variable_list}
 use Rattle.eval_steps.specs.Judged.{scope_names, HoldsIn, Says, earlier_list}
-use Rattle.eval_tree.specs.Fronts.{ForFront}
+use Rattle.eval_tree.proofs.FrontLemmas.{ForFront}
 use Rattle.eval_tree.proofs.ChoiceLaw.{ForAtom}
 use Rattle.eval_tree.proofs.walk.Walk.+each.Given as goal
 

@@ -1,6 +1,6 @@
 use Rattle.std.proofs.lemmas.List.{nil_from_length}
 use Rattle.eval_steps.specs.Judged.{scope_names}
-use Rattle.eval_tree.specs.Found.{said_true, said_false}
+use Rattle.eval_tree.proofs.FoundLemmas.{said_true, said_false}
 use Rattle.eval_tree.proofs.ListCases.{every_none, every_fails, every_more}
 use Rattle.eval_tree.proofs.walk.Walk.+every.Goals as goal
 

@@ -1,6 +1,6 @@
 use Rattle.core_tree.specs.Trees.{term_of}
 use Rattle.eval_steps.specs.Judged.{scope_names}
-use Rattle.eval_tree.specs.Found.{said_true, said_false}
+use Rattle.eval_tree.proofs.FoundLemmas.{said_true, said_false}
 use Rattle.eval_tree.proofs.ListCases.{product_fails, product_inside, other_inside, read_set}
 use Rattle.eval_tree.proofs.walk.Walk.+lies_in.Goals as goal
 

@@ -2,9 +2,9 @@ use Rattle.std.proofs.Common.{◌+◌, ◌∙◌, map, arith}
 use Rattle.std.proofs.lemmas.List.{nil_from_length}
 use Rattle.core_tree.specs.Trees.{variable_of, variable_list}
 use Rattle.eval_steps.specs.Judged.{scope_names, earlier_list}
-use Rattle.eval_tree.specs.Found.{if_ok_to, said_true, said_false}
+use Rattle.eval_tree.proofs.FoundLemmas.{if_ok_to, said_true, said_false}
 use Rattle.eval_tree.proofs.ListCases.{rows_none as no_variable, rows_some, read_set}
-use Rattle.eval_tree.specs.Fronts.{fresh}
+use Rattle.eval_tree.proofs.FrontLemmas.{fresh}
 use Rattle.eval_tree.proofs.RowLaw.{rows_none, rows_unfit, rows_skip, rows_more, rows_all, rows_stop}
 use Rattle.eval_tree.proofs.walk.Walk.+rows.Goals as goal
 

@@ -1,6 +1,6 @@
 use Rattle.eval_steps.specs.Judged.{scope_names}
 use Rattle.eval_tree.proofs.CallLaw.{call_true}
-use Rattle.eval_tree.specs.Found.{said_true, said_false}
+use Rattle.eval_tree.proofs.FoundLemmas.{said_true, said_false}
 use Rattle.eval_tree.proofs.Cases.{inside_case, equal_case, within_case, test_case, compare_case, not_case, every_case, for_all_case, counted_case, choose_yes_true, choose_no_true}
 use Rattle.eval_tree.proofs.walk.Walk.claim_at.Goals as goal
 

@@ -1,6 +1,6 @@
 use Rattle.core_tree.specs.Trees.{claim_of}
 use Rattle.eval_steps.specs.Judged.{scope_names, HoldsIn}
-use Rattle.eval_tree.specs.Found.{if_ok_to, said_true, said_false}
+use Rattle.eval_tree.proofs.FoundLemmas.{if_ok_to, said_true, said_false}
 use Rattle.eval_tree.proofs.Cases.{or_first, or_second, implies_first, implies_second, iff_says}
 use Rattle.std.proofs.Common.{◌↔◌, IsTrue}
 use Rattle.core_meaning.specs.Operators.{Connects}

@@ -1,6 +1,6 @@
 use Rattle.core_tree.specs.Trees.{claim_of}
 use Rattle.eval_steps.specs.Judged.{scope_names, HoldsIn, Says, SaysFirst}
-use Rattle.eval_tree.specs.Found.{says_said, said_true, said_false}
+use Rattle.eval_tree.proofs.FoundLemmas.{says_said, said_true, said_false}
 use Rattle.eval_tree.proofs.TimeLaw.{none_passed, until_more, until_here, until_stops, until_ends, says_limit}
 use Rattle.eval_tree.proofs.walk.Walk.forward.Goals as goal
 

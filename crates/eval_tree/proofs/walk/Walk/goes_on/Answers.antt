@@ -1,4 +1,4 @@
-use Rattle.eval_tree.specs.Found.{says_said}
+use Rattle.eval_tree.proofs.FoundLemmas.{says_said}
 use Rattle.eval_tree.proofs.walk.Walk.goes_on.Goals as goal
 
 pub returns-in_ok-truth-in-Each : goal.returns-in_ok-truth-in-Each

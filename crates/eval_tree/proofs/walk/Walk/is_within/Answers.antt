@@ -1,6 +1,6 @@
 use Rattle.core_tree.specs.Trees.{term_of}
 use Rattle.eval_steps.specs.Judged.{scope_names}
-use Rattle.eval_tree.specs.Found.{said_true, said_false}
+use Rattle.eval_tree.proofs.FoundLemmas.{said_true, said_false}
 use Rattle.eval_tree.proofs.ListCases.{within_count, within_outside, within_fits}
 use Rattle.eval_tree.proofs.walk.Walk.is_within.Goals as goal
 

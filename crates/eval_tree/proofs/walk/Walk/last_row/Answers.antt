@@ -1,7 +1,7 @@
 use Rattle.std.proofs.Common.{rules, w64, SFits}
 use Rattle.std.proofs.lemmas.Int.{to_z-of_z}
 use Rattle.eval_steps.specs.Judged.{scope_names}
-use Rattle.eval_tree.specs.Found.{said_true, said_false}
+use Rattle.eval_tree.proofs.FoundLemmas.{said_true, said_false}
 use Rattle.eval_tree.proofs.RowLaw.{last_passes, last_fails, last_value}
 use Rattle.eval_tree.proofs.walk.Walk.last_row.Goals as goal
 

@@ -2,7 +2,7 @@ use Rattle.std.proofs.Common.{◌↔◌, IsTrue, arith, subst, IfOk}
 use Rattle.core_meaning.specs.Operators.{Happens}
 use Rattle.core_tree.specs.Trees.{claim_of}
 use Rattle.eval_steps.specs.Judged.{scope_names, HoldsIn}
-use Rattle.eval_tree.specs.Found.{if_ok_to}
+use Rattle.eval_tree.proofs.FoundLemmas.{if_ok_to}
 use Rattle.eval_tree.proofs.Cases.{always_true, eventually_true, historically_true, once_true, before_start, before_there}
 use Rattle.core_tree.specs.declared.operators.TemporalUnary.TheVariants.{Eventually, Before, Once}
 use Rattle.eval_tree.proofs.walk.Walk.temporal.Goals as goal

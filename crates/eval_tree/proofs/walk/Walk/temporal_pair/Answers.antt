@@ -1,4 +1,4 @@
-use Rattle.eval_tree.specs.Found.{not_said}
+use Rattle.eval_tree.proofs.FoundLemmas.{not_said}
 use Rattle.eval_tree.proofs.walk.Walk.temporal_pair.Goals as goal
 
 pub returns-in-Until : goal.returns-in-Until

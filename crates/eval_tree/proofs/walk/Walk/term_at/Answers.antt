@@ -3,7 +3,7 @@ use Rattle.std.proofs.lemmas.Int.{to_z-of_z}
 use Rattle.eval_steps.specs.Judged.{scope_names}
 use Rattle.eval_tree.proofs.NameLaw.{name_atom, name_written, name_unknown}
 use Rattle.eval_tree.proofs.CallLaw.{call_found}
-use Rattle.eval_tree.specs.Found.{said_true, said_false}
+use Rattle.eval_tree.proofs.FoundLemmas.{said_true, said_false}
 use Rattle.eval_tree.proofs.Cases.{combine_case, product_case, unary_case, prime_case, choose_yes_case, choose_no_case, comprehension_case, count_case, arithmetic_case, sum_case}
 use Rattle.eval_tree.proofs.walk.Walk.term_at.Goals as goal
 

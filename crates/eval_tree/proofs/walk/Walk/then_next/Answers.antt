@@ -1,7 +1,7 @@
 use Rattle.std.proofs.Common.{ℕ, ◌+◌, ◌↔◌, IsTrue, subst}
 use Rattle.core_tree.specs.Trees.{claim_of}
 use Rattle.eval_steps.specs.Judged.{scope_names, HoldsIn}
-use Rattle.eval_tree.specs.Found.{said_true, said_false}
+use Rattle.eval_tree.proofs.FoundLemmas.{said_true, said_false}
 use Rattle.eval_tree.proofs.Cases.{both_first, both_second}
 use Rattle.eval_tree.proofs.walk.Walk.then_next.Goals as goal
 

@@ -10,10 +10,10 @@ use Rattle.std.proofs.lemmas.List.Elements.{All-contains}
 use Rattle.gate_trait.specs.declared.node.Node.{Node}
 use Rattle.gate_trait.specs.Built.{Keeps}
 use Rattle.core_tuples.specs.Sets.{tuple_cmp, is_same}
-use Rattle.core_tuples.specs.Ordered.{same_exact, same_itself, apart, or_false}
+use Rattle.core_tuples.proofs.OrderedLemmas.{same_exact, same_itself, apart, or_false}
 use Rattle.gate_matrix.specs.declared.entry.Entry.{Entry}
 use Rattle.gate_matrix.specs.Matrices.{MatrixEntries, IsMatrix, IsPut, AllBelong, tuples_of, node_at, truth_of, truth, has}
-use Rattle.gate_matrix.specs.Basics.{option_kept, found_belongs}
+use Rattle.gate_matrix.proofs.BasicLemmas.{option_kept, found_belongs}
 
 pub rec_at : (P : List ℕ → Type 0) (es : List Entry) (k : ℕ) (d : Entry) → AllByRecursion P (tuples_of es) → k < length es → P (get_or es k d).tuple
 rec_at P [] k d all lt = absurd (omega arith)

@@ -5,7 +5,7 @@ use Rattle.std.proofs.Common.{sym, ap, ◌∙◌}
 use Rattle.core_meaning.specs.Integers.{wrap}
 use Rattle.core_meaning.specs.World.{World, integer_of, IsInteger}
 use Rattle.core_meaning.specs.Operators.{Tuples, IsListOf, IsCount, IsNumber}
-use Rattle.core_laws.specs.ListedMore.{once, SameMembers, same_length, same_sum}
+use Rattle.core_laws.proofs.ListedLemmas.{once, SameMembers, same_length, same_sum}
 
 listed_same : {X : Type 0} (In : X → Type 0) (xs ys : List X) → IsListOf In xs → IsListOf In ys → SameMembers xs ys
 listed_same In xs ys a b z = ((λ c. (b.all_and_only z).1 ((a.all_and_only z).0 c)), (λ c. (a.all_and_only z).1 ((b.all_and_only z).0 c)))

@@ -8,15 +8,15 @@ use Rattle.core_tree.specs.Trees.{Term, Claim}
 use Rattle.core_meaning.specs.Sequence.{LassoValue}
 use Rattle.core_meaning.specs.Operators.{Tuples}
 use Rattle.gate_matrix.specs.Matrices.{MatrixEntries, AllBelong}
-use Rattle.gate_matrix.specs.Found.{truth_kept}
+use Rattle.gate_matrix.proofs.FoundLemmas.{truth_kept}
 use Rattle.gate_sets.specs.Belonging.{AllMatrices}
-use Rattle.bmc_windows.specs.Pushes.{push_kept, push_cases}
+use Rattle.bmc_windows.proofs.PushLemmas.{push_kept, push_cases}
 use Rattle.bmc_stack.specs.declared.store.Store.{Store}
 use Rattle.bmc_stack.specs.Rows.{Grows, IsAdded, AreBeside}
 use Rattle.bmc_stack.specs.Stored.{AreStored}
 use Rattle.bmc_leaves.specs.Shown.{Reading, IsRight, HaveTuples, AreRight, Leaf, IsLeafAt, AreOf, AreKept, Stay}
-use Rattle.bmc_leaves.specs.RowLaws.{row_kept}
-use Rattle.bmc_leaves.specs.RightLaws.{true_same}
+use Rattle.bmc_leaves.proofs.RowLaws.{row_kept}
+use Rattle.bmc_leaves.proofs.RightLaws.{true_same}
 
 pub all_front : {X : Type 0} (P : X → Type 0) (xs : List X) (y : X) → All P (xs ++ y ∷ []) → All P xs
 all_front P [] y all k d lt = absurd (omega arith)

@@ -26,13 +26,13 @@ use Rattle.gate_sets.specs.declared.questions.Question.TheVariants.{Inside, Some
 use Rattle.gate_temporal.specs.Rows.{row_value, folded}
 use Rattle.gate_temporal.specs.Times.{UntilAt, SinceAt}
 use Rattle.bmc_windows.specs.Frames.{place_next}
-use Rattle.bmc_windows.specs.Pushes.{push_last}
+use Rattle.bmc_windows.proofs.PushLemmas.{push_last}
 use Rattle.bmc_windows.specs.Pairing.{IsMoved}
 use Rattle.bmc_stack.specs.declared.windows.TimeOperator.TheVariants.{Before, Since, Until}
 use Rattle.bmc_stack.specs.Rows.{AreBoth, IsSpread, IsAlong, IsNegated, IsConstant}
 use Rattle.bmc_stack.specs.Sets.{AreMade, AreAnswered}
 use Rattle.bmc_leaves.specs.Shown.{Atoms, names_of, atom_in, Reading, under, IsReading, HasPlace, IsRight, HaveTuples, AreRight, none_nested}
-use Rattle.bmc_leaves.specs.PlaceLaws.{holds_folds, term_folds, loop_of, place_within, next_is, next_place, next_at, loop_below, fold_place, back_is}
+use Rattle.bmc_leaves.proofs.PlaceLaws.{holds_folds, term_folds, loop_of, place_within, next_is, next_place, next_at, loop_below, fold_place, back_is}
 
 -- the same reading where names stand for atoms
 pub ok_under : (r : Reading) (atoms : Atoms) → IsReading r → IsReading (under r atoms)

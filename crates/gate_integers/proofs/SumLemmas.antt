@@ -7,10 +7,10 @@ use Rattle.std.proofs.Common.{◌≡◌, ℕ, ◌+◌, ◌-◌, ◌*◌, ◌%◌
 use Rattle.std.proofs.lemmas.List.{map_more, length-map, take_all}
 use Rattle.gate_trait.specs.declared.node.Node.{Node}
 use Rattle.gate_trait.specs.Built.{Keeps, AllIn, xor}
-use Rattle.gate_trait.specs.Kept.{values_kept}
+use Rattle.gate_trait.proofs.KeptLemmas.{values_kept}
 use Rattle.gate_integers.specs.Numbers.{bit, binary, number}
-use Rattle.gate_integers.specs.Rows.{values_more}
-use Rattle.gate_integers.specs.Binary.{less_step, pow_next, binary_push, binary_below, binary_not, binary_zeros, wraps, sum_step}
+use Rattle.gate_integers.proofs.RowLemmas.{values_more}
+use Rattle.gate_integers.proofs.BinaryLemmas.{less_step, pow_next, binary_push, binary_below, binary_not, binary_zeros, wraps, sum_step}
 
 pub number_below : (v : Node → Bool) (xs : List Node) → number v xs < 2 ^ length xs
 number_below v xs = let long : length (map v xs) ≡ length xs = length-map xs v in subst (λ (k : ℕ). number v xs < 2 ^ k) long (binary_below (map v xs))

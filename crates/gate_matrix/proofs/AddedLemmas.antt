@@ -6,7 +6,7 @@ use Rattle.std.proofs.lemmas.List.Elements.{All-append, All-nil, All-cons}
 use Rattle.std.proofs.lemmas.List.Folds.{list_any-append}
 use Rattle.gate_trait.specs.declared.node.Node.{Node}
 use Rattle.core_tuples.specs.Sets.{is_same}
-use Rattle.core_tuples.specs.Ordered.{or_false}
+use Rattle.core_tuples.proofs.OrderedLemmas.{or_false}
 use Rattle.gate_matrix.specs.declared.entry.Entry.{Entry}
 use Rattle.gate_matrix.specs.Matrices.{truth_of, has, AllBelong}
 use Rattle.gate_matrix.specs.Merged.{entries_of}

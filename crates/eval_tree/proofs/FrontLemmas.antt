@@ -4,11 +4,11 @@ use Rattle.std.proofs.Common.{◌≡◌, ◌≢◌, ℕ, zero, suc, ◌+◌, ◌
 use Rattle.std.proofs.lemmas.List.Elements.{All-contains}
 use Rattle.std.specs.declared.cmp.Ordering.TheVariants.{Less}
 use Rattle.std.proofs.lemmas.Map.Keys.{Less-from_sorted}
-use Rattle.core_tuples.specs.Order.{not_below_itself}
+use Rattle.core_tuples.proofs.OrderLemmas.{not_below_itself}
 use Rattle.core_tuples.specs.Sets.{TupleList, In, IsTupleSet, tuple_cmp}
 use Rattle.core_laws.specs.Listed.{AreOnce}
-use Rattle.core_laws.specs.ListedMore.{once}
-use Rattle.eval_tree.specs.Lists.{contains_first, contains_later, contains_cases, contains_none, take_all, take_front, more_cases, more_here}
+use Rattle.core_laws.proofs.ListedLemmas.{once}
+use Rattle.eval_tree.proofs.ListLemmas.{contains_first, contains_later, contains_cases, contains_none, take_all, take_front, more_cases, more_here}
 
 pub first_of : (a b : ℕ) (s t : List ℕ) → a ∷ s ≡ b ∷ t → a ≡ b
 first_of a b s t e = ap (λ (l : List ℕ). get_or l 0 0) e

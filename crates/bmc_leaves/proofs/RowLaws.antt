@@ -4,7 +4,7 @@ use Rattle.std.proofs.Common.{◌≡◌, ◌<◌, ◌+◌, ℕ, zero, suc, Bool,
 use Rattle.std.proofs.lemmas.Bool.{cases_lt}
 use Rattle.gate_trait.specs.declared.node.Node.{Node}
 use Rattle.gate_trait.specs.Built.{Keeps, AllIn}
-use Rattle.gate_trait.specs.Kept.{all_tail}
+use Rattle.gate_trait.proofs.KeptLemmas.{all_tail}
 use Rattle.gate_temporal.specs.Rows.{row_value}
 
 pub row_kept : {S : Type 0} (belongs : S → Node → Type 0) (value : S → (ℕ → Bool) → Node → Bool) (g h : S) → Keeps belongs value g h → (row : List Node) → AllIn (belongs g) row → (x : ℕ → Bool) (k : ℕ) → row_value (value h x) row k ≡ row_value (value g x) row k

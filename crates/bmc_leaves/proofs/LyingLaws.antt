@@ -12,7 +12,7 @@ use Rattle.core_meaning.specs.Called.{no_bodies}
 use Rattle.core_meaning.specs.Kept.{world_of}
 use Rattle.bmc_stack.specs.Rows.{AreBoth}
 use Rattle.bmc_leaves.specs.Shown.{names_of, Reading, IsRight}
-use Rattle.bmc_leaves.specs.RightLaws.{both_means}
+use Rattle.bmc_leaves.proofs.RightLaws.{both_means}
 use Rattle.bmc_leaves.specs.Lying.{AsksNothing, SaysBoth}
 
 -- such arrows are kept by each set

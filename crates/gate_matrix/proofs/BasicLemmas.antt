@@ -10,7 +10,7 @@ use Rattle.gate_trait.specs.declared.node.Node.{Node}
 use Rattle.gate_trait.specs.Built.{Keeps}
 use Rattle.core_tuples.specs.Sets.{tuple_cmp, is_same, IsTupleSet}
 use Rattle.core_tuples.specs.Index.{IsNumber}
-use Rattle.core_tuples.specs.Ordered.{same_exact, or_false}
+use Rattle.core_tuples.proofs.OrderedLemmas.{same_exact, or_false}
 use Rattle.gate_matrix.specs.declared.entry.Entry.{Entry}
 use Rattle.gate_matrix.specs.Matrices.{MatrixEntries, IsMatrix, tuples_of, node_at, truth_of, truth, has, AllBelong}
 
