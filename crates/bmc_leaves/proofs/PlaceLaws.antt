@@ -12,13 +12,11 @@ use Rattle.core_meaning.specs.World.{World}
 use Rattle.core_meaning.specs.Operators.{Tuples}
 use Rattle.core_meaning.specs.Meaning.{atom, one_of, InTerm, Holds}
 use Rattle.core_meaning.specs.Called.{no_bodies}
-use Rattle.core_window.specs.Same.{SameTuples}
-use Rattle.core_window.specs.Shifts.{uncounted}
-use Rattle.core_window.specs.Window.{HasLoop, RepeatNames, RepeatBodies}
-use Rattle.core_window.specs.Fold.{repeats_from, window_end, fold_of, fold_below, holds_folded, term_folded}
+use Rattle.core_window.specs.Fold.{fold_below, holds_folded, term_folded}
 use Rattle.bmc_windows.specs.declared.frame.Stretch.{Stretch}
 use Rattle.bmc_windows.specs.Frames.{IsStretch, window_length, place_next}
 use Rattle.bmc_leaves.specs.Shown.{Atoms, names_of, Reading, IsReading, Shows, HasPlace, none_nested}
+use Rattle.core_window.specs.Repeats.{SameTuples, uncounted, HasLoop, RepeatNames, RepeatBodies, repeats_from, window_end, fold_of}
 
 -- ---- the window law, where nothing is called and names stand for atoms
 

@@ -17,7 +17,6 @@ use Rattle.core_meaning.specs.Operators.{Tuples}
 use Rattle.core_meaning.specs.Meaning.{atom, one_of, InTerm, Holds}
 use Rattle.core_meaning.specs.Called.{no_bodies}
 use Rattle.core_window.specs.Same.{same_trans, combined_same, product_same, closure_same, inside_same, some_same, lone_same}
-use Rattle.core_window.specs.Fold.{repeats_from, fold_of}
 use Rattle.gate_matrix.specs.Matrices.{MatrixEntries, truth}
 use Rattle.gate_operators.specs.Sets.{MeansSet, set_of}
 use Rattle.gate_sets.specs.Sets.{one_atom}
@@ -33,6 +32,7 @@ use Rattle.bmc_stack.specs.Rows.{AreBoth, IsSpread, IsAlong, IsNegated, IsConsta
 use Rattle.bmc_stack.specs.Sets.{AreMade, AreAnswered}
 use Rattle.bmc_leaves.specs.Shown.{Atoms, names_of, atom_in, Reading, under, IsReading, HasPlace, IsRight, HaveTuples, AreRight, none_nested}
 use Rattle.bmc_leaves.proofs.PlaceLaws.{holds_folds, term_folds, loop_of, place_within, next_is, next_place, next_at, loop_below, fold_place, back_is}
+use Rattle.core_window.specs.Repeats.{repeats_from, fold_of}
 
 -- the same reading where names stand for atoms
 pub ok_under : (r : Reading) (atoms : Atoms) → IsReading r → IsReading (under r atoms)

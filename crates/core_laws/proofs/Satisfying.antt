@@ -20,9 +20,10 @@ use Rattle.core_meaning.specs.Declarations.{this_is, InColumn, IsPlaced, InValue
 use Rattle.core_meaning.specs.Called.{bodies_of}
 use Rattle.core_meaning.specs.Kept.{world_of, IsEverIn, Keeps}
 use Rattle.core_meaning.specs.Satisfied.{HoldsAt, DeclaresAt, SatisfiesWith}
-use Rattle.core_window.specs.Same.{SameTuples, multiplicity_same}
+use Rattle.core_window.specs.Same.{multiplicity_same}
 use Rattle.core_laws.specs.Sequences.{ShowSame, SameSatisfied}
 use Rattle.core_laws.proofs.Meanings.{relation_same, SameNames, term_same, holds_same, fits_same, model_same, nothing_same, more_same}
+use Rattle.core_window.specs.Repeats.{SameTuples}
 
 some_to : {X : Type 0} {P Q : X → Type 0} (o : Option X) → ((x : X) → P x → Q x) → IfSome o P → IfSome o Q
 some_to None f h = tt

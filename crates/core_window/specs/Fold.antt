@@ -1,5 +1,5 @@
+-- Lemmas and their proofs; nothing to read here.
 -- The window: finitely many positions that show the truth at every position.
--- To be read are `repeats_from`, `window_end` and `fold_of`; the rest are lemmas and their proofs.
 use Rattle.std.specs.Prelude.{◌≡◌, ◌↔◌, ℕ, zero, suc, ◌+◌, ◌-◌, ◌*◌, ◌/◌, ◌%◌, ◌<◌, ◌≤◌, nat_lt, if◌then◌else◌}
 use Rattle.std.proofs.Common.{inl, inr, refl, sym, subst, arith}
 use Rattle.std.proofs.lemmas.Bool.{cases_lt, cond_below, cond_above}
@@ -9,20 +9,8 @@ use Rattle.core_tree.specs.Past.{Depths, BodyDepths, past_in, past_of}
 use Rattle.core_meaning.specs.Sequence.{LassoValue, period}
 use Rattle.core_meaning.specs.World.{World}
 use Rattle.core_meaning.specs.Meaning.{Names, Bodies, InTerm, Holds}
-use Rattle.core_window.specs.Same.{SameTuples}
-use Rattle.core_window.specs.Shifts.{uncounted}
-use Rattle.core_window.specs.Window.{IsFar, HasLoop, RepeatNames, RepeatBodies, term_again, holds_again}
-
--- where the truth of a formula of past depth h begins to repeat, and one round after that
-abbrev pub repeats_from : LassoValue → ℕ → ℕ
-repeats_from lasso h = lasso.loop_start + h * period lasso
-
-abbrev pub window_end : LassoValue → ℕ → ℕ
-window_end lasso h = repeats_from lasso h + period lasso
-
--- the place in the window with the same truth
-abbrev pub fold_of : LassoValue → ℕ → ℕ → ℕ
-fold_of lasso h i = if nat_lt i (window_end lasso h) then i else repeats_from lasso h + (i - repeats_from lasso h) % period lasso
+use Rattle.core_window.specs.Window.{term_again, holds_again}
+use Rattle.core_window.specs.Repeats.{SameTuples, uncounted, IsFar, HasLoop, RepeatNames, RepeatBodies, repeats_from, window_end, fold_of}
 
 -- what repeats after each round from m on
 rounds : (P : ℕ → Type 0) (p m : ℕ) → ((i : ℕ) → m ≤ i → P i ↔ P (i + p)) → (n i : ℕ) → m ≤ i → P i ↔ P (i + n * p)

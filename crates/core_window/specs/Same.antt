@@ -1,4 +1,4 @@
--- Lemmas and their proofs; nothing to read here but `SameTuples`.
+-- Lemmas and their proofs; nothing to read here.
 -- Each operator on sets of tuples keeps that they are the same.
 use Rattle.std.specs.Prelude.{◌⊎◌, ◌↔◌, ◌≢◌, ℕ, List, [], ◌∷◌, ◌++◌, Contains, ℤ}
 use Rattle.std.proofs.Common.{inl, inr}
@@ -16,9 +16,7 @@ use Rattle.core_tree.specs.declared.operators.UnaryRelation.{UnaryRelation}
 use Rattle.core_tree.specs.declared.operators.UnaryRelation.TheVariants.{Transpose, Closure, ReflexiveClosure}
 use Rattle.core_meaning.specs.World.{World, InUniverse}
 use Rattle.core_meaning.specs.Operators.{Tuples, IsListOf, Walk, last_step, step, combined_tuples, product_tuples, identity_tuples, closure_tuples, unary_tuples, IsInside, IsEqual, HasSome, IsLone, HasQuantity, HasMultiplicity, Quantified, IsCount, IsNumber, IsSumOver, IsLess, Compares, IsImplied, Connects, Chooses}
-
-abbrev pub SameTuples : Tuples → Tuples → Type 0
-SameTuples A B = (t : List ℕ) → A t ↔ B t
+use Rattle.core_window.specs.Repeats.{SameTuples}
 
 pub turn : {P Q : Type 0} → P ↔ Q → Q ↔ P
 turn h = (h.1, h.0)

@@ -1,4 +1,4 @@
--- Lemmas and their proofs; nothing to read here but `uncounted`.
+-- Lemmas and their proofs; nothing to read here.
 -- They are on temporal operators one period later, where their formulas repeat.
 use Rattle.std.specs.Prelude.{◌≡◌, ◌⊎◌, ◌↔◌, ℕ, zero, suc, ◌+◌, ◌-◌, ◌*◌, ◌^◌, ◌<◌, ◌≤◌, Bool, true, false, nat_lt, if◌then◌else◌, max}
 use Rattle.std.proofs.Common.{inl, inr, refl, sym, subst, arith}
@@ -11,10 +11,7 @@ use Rattle.core_tree.specs.declared.operators.TemporalBinary.TheVariants.{Until,
 use Rattle.core_tree.specs.Past.{one_more, under_unary, under_binary}
 use Rattle.core_meaning.specs.Operators.{Times, SomeLater, SomeEarlier, UntilAt, SinceAt, Happens, HappenBoth}
 use Rattle.core_window.specs.Same.{both_same, not_same, turn, same_trans}
-
--- the greatest 32-bit number: past depths are counted up to it, and below it they are exact
-abbrev pub uncounted : ℕ
-uncounted = 2 ^ 32 - 1
+use Rattle.core_window.specs.Repeats.{uncounted}
 
 pub until_again : (F G : Times) (p i : ℕ) → ((j : ℕ) → i ≤ j → F j ↔ F (j + p)) → ((j : ℕ) → i ≤ j → G j ↔ G (j + p)) → UntilAt F G i ↔ UntilAt F G (i + p)
 until_again F G p i f g = (

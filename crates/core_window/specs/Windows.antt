@@ -1,12 +1,9 @@
 -- What a window is of, and environments of atoms.
-use Rattle.std.specs.Prelude.{◌≡◌, ◌↔◌, ℕ, ◌<◌, ◌≤◌, List, [], ◌∷◌, length}
-use Rattle.core_tree.specs.Trees.{Term, Claim}
+use Rattle.std.specs.Prelude.{◌≡◌, ℕ, List, [], ◌∷◌, length}
 use Rattle.core_tree.specs.Past.{Depths, no_depths, with_depth}
 use Rattle.core_meaning.specs.Sequence.{LassoValue}
-use Rattle.core_meaning.specs.World.{World}
 use Rattle.core_meaning.specs.Meaning.{Names, no_names, with_name, atom}
 use Rattle.core_window.specs.declared.Window.{Window}
-use Rattle.core_window.specs.Window.{HasLoop, RepeatNames, atom_again, no_names_again}
 
 -- the window is of this lasso
 pub record IsOf (window : Window) (lasso : LassoValue) : Type 0 where
@@ -26,7 +23,3 @@ atom_names (b ∷ bs) = with_name (atom_names bs) b.name (atom b.value)
 abbrev pub atom_depths : List Binding → Depths
 atom_depths [] = no_depths
 atom_depths (b ∷ bs) = with_depth (atom_depths bs) b.name 0
-
-pub atoms_again : (w : World) (some : HasLoop w.lasso) (bs : List Binding) → RepeatNames w some (atom_names bs) (atom_depths bs)
-atoms_again w some [] = no_names_again w some
-atoms_again w some (b ∷ bs) = atom_again w some (atom_names bs) (atom_depths bs) b.name b.value (atoms_again w some bs)

@@ -9,10 +9,8 @@ ghost use Rattle.core_meaning.specs.Meaning.{Holds, InTerm};
 ghost use Rattle.core_tree.specs.Past.{body_depths, past_of, past_in};
 ghost use Rattle.core_tree.specs.Trees.{Claim, Term};
 ghost use Rattle.core_tree.specs.declared.model.Body.{Body};
-ghost use Rattle.core_window.specs.Fold.{fold_of, window_end};
-ghost use Rattle.core_window.specs.Shifts.{uncounted};
-ghost use Rattle.core_window.specs.Window.{IsFar, HasLoop};
 ghost use Rattle.core_window.specs.Windows.{Binding, atom_names, atom_depths};
+ghost use Rattle.core_window.specs.Repeats.{uncounted, IsFar, HasLoop, fold_of, window_end};
 
 /// The first states of a lasso, and one round of its loop more for each level of past operators.
 ///

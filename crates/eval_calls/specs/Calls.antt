@@ -1,4 +1,4 @@
--- Lemmas and their proofs; nothing to read here but `entered`, the names that a body sees.
+-- Lemmas and their proofs; nothing to read here.
 -- A call means its body: where each body calls only bodies of lower rank, calls that may nest
 -- deeper than the ranks go change nothing. The names that a body sees, one added after the other,
 -- are those that the arguments pass.
@@ -13,9 +13,11 @@ use Rattle.core_meaning.specs.World.{World}
 use Rattle.core_meaning.specs.Operators.{Tuples}
 use Rattle.core_meaning.specs.Meaning.{Names, Bodies, one_of, no_names, with_name, InTerm, passed}
 use Rattle.core_meaning.specs.Called.{InForm, FormHolds, InBody, BodyHolds, called, bodies_of}
-use Rattle.core_window.specs.Same.{SameTuples, same_trans, turn}
+use Rattle.core_window.specs.Same.{same_trans, turn}
 use Rattle.eval_calls.specs.Weight.{most, weight_of_form, weight_of_called, calls_below, AreWeighed}
+use Rattle.eval_calls.specs.Entered.{entered}
 use Rattle.eval_calls.specs.Congruent.{self, SameNames, Agree, term_same, claim_same}
+use Rattle.core_window.specs.Repeats.{SameTuples}
 
 -- the greatest weight that says something
 abbrev pub top : ℕ
@@ -122,12 +124,6 @@ module _ (w : World) (list : List Body) (weights : List ℕ) (weighed : AreWeigh
       go : (o : Option Body) → slice_get list body ≡ o → BodyHolds w (bodies_of w list) (slice_get list body) x i ↔ (bodies_of w list).claim body y i
       go (Some b) is = subst (λ o. BodyHolds w (bodies_of w list) o x i ↔ (bodies_of w list).claim body y i) (sym is) (call_claims body b is x y same i)
       go None is = ((λ k. absurd (subst (λ o. BodyHolds w (bodies_of w list) o x i) is k)), (λ k. absurd (no_claims_there (length list) body is y i k)))
-
--- the parameters from number k on stand for expressions with these outer names; `inner` are the
--- names of the parameters before them
-abbrev pub entered : World → Bodies → ℕ → Terms → Names → Names → Names
-entered w bodies k no_terms outer inner = inner
-entered w bodies k (more_terms e rest) outer inner = entered w bodies (k + 1) rest outer (with_name inner k (λ i. InTerm w bodies e outer i))
 
 one_here : (b : Bool) → b ≡ true → (A B : Tuples) → SameTuples (one_of b A B) A
 one_here true e A B = λ t. self

@@ -1,3 +1,4 @@
 pub mod Weight
+pub mod Entered
 pub mod Congruent
 pub mod Calls

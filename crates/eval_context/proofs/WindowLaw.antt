@@ -2,9 +2,9 @@
 use Rattle.std.proofs.Common.{◌≡◌, ℕ, ◌+◌, ◌-◌, ◌*◌, ◌^◌, ◌<◌, ◌≤◌, length, sym, ap, ◌∙◌, subst, arith, mul-le-mul_right}
 use Rattle.core_meaning.specs.Sequence.{LassoValue}
 use Rattle.core_window.specs.declared.Window.{Window}
-use Rattle.core_window.specs.Window.{HasLoop}
-use Rattle.core_window.specs.Fold.{fold_of, window_end, fold_below}
+use Rattle.core_window.specs.Fold.{fold_below}
 use Rattle.core_window.specs.Windows.{IsOf}
+use Rattle.core_window.specs.Repeats.{HasLoop, fold_of, window_end}
 
 module _ (w : Window) (lasso : LassoValue) (states : w.states ≡ length lasso.states) (start : w.loop_start ≡ lasso.loop_start) where
   its : IsOf w lasso

@@ -3,9 +3,8 @@
 ghost use Rattle.std.specs.Prelude.{◌≡◌, ◌<◌, ◌≤◌, ◌+◌, ◌^◌, length, IfOk};
 ghost use Rattle.core_meaning.specs.Kept.{atom_count};
 ghost use Rattle.core_meaning.specs.Sequence.{period};
-ghost use Rattle.core_window.specs.Fold.{fold_of, window_end};
-ghost use Rattle.core_window.specs.Window.{HasLoop};
 ghost use Rattle.eval_context.specs.Settings.{SettingValue, IsSetting, world};
+ghost use Rattle.core_window.specs.Repeats.{HasLoop, fold_of, window_end};
 
 use crate::sizes::{count_atoms, integer_count};
 use core_meaning::{Lasso, Scopes};

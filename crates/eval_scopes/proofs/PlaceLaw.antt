@@ -7,10 +7,10 @@ use Rattle.core_meaning.specs.Sequence.{LassoValue, period, place_of}
 use Rattle.core_meaning.specs.World.{World, InRelation}
 use Rattle.core_meaning.specs.Operators.{combined_tuples, IsInside}
 use Rattle.core_meaning.specs.Kept.{IsStatic}
-use Rattle.core_window.specs.Window.{HasLoop}
 use Rattle.core_tuples.specs.Sets.{TupleList, In}
 use Rattle.eval_sets.specs.SetOf.{IsSetOf}
 use Rattle.eval_scopes.specs.Asked.{IsEver}
+use Rattle.core_window.specs.Repeats.{HasLoop}
 
 -- ---- sets
 

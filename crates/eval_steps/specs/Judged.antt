@@ -10,8 +10,6 @@ use Rattle.core_meaning.specs.Operators.{Tuples, Times, IsNumber, HasMultiplicit
 use Rattle.core_meaning.specs.Meaning.{Names, Bodies, with_name, atom, IsApart, InTerm, Picked, ForEach, Fits, Holds}
 use Rattle.core_meaning.specs.Called.{InBody, BodyHolds, bodies_of, names_of}
 use Rattle.core_meaning.specs.declared.scope.Environment.{Environment}
-use Rattle.core_window.specs.Window.{IsFar, HasLoop, RepeatsSet, RepeatNames}
-use Rattle.core_window.specs.Shifts.{uncounted}
 use Rattle.core_meaning.specs.Sequence.{LassoValue, period}
 use Rattle.eval_context.specs.Settings.{SettingValue, world}
 use Rattle.eval_sets.specs.SetOf.{IsSetOf}
@@ -28,6 +26,7 @@ use Rattle.eval_steps.specs.declared.rows.Goal.TheVariants.{Passes, Value}
 use Rattle.eval_steps.specs.declared.rows.Row.{Row}
 use Rattle.eval_steps.specs.declared.rows.First.{First}
 use Rattle.eval_steps.specs.declared.rows.First.TheVariants.{Any, Each}
+use Rattle.core_window.specs.Repeats.{uncounted, IsFar, HasLoop, RepeatsSet, RepeatNames}
 
 -- what the bodies of the model mean, and what the names of a scope stand for
 abbrev pub bodies : SettingValue → Bodies

@@ -6,10 +6,9 @@ ghost use Rattle.core_tree.specs.declared.operators.Multiplicity.{Multiplicity};
 ghost use Rattle.core_meaning.specs.Sequence.{period};
 ghost use Rattle.core_meaning.specs.declared.scope.Environment.{Environment};
 ghost use Rattle.core_meaning.specs.Meaning.{no_names};
-ghost use Rattle.core_window.specs.Fold.{repeats_from, window_end};
-ghost use Rattle.core_window.specs.Window.{HasLoop};
 ghost use Rattle.core_window.specs.Windows.{Binding, atom_names};
 ghost use Rattle.eval_steps.specs.Judged.{scope_names, Means, HoldsIn, HasWeights, NamesRepeat, TermRepeats, ClaimRepeats, Again, value_term, IsLimit, IsFolded};
+ghost use Rattle.core_window.specs.Repeats.{HasLoop, repeats_from, window_end};
 
 use core_meaning::{Environment, Lasso, Scopes};
 use core_tree::{BodyList, Expr, Formula};

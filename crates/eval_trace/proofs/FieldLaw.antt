@@ -8,7 +8,7 @@ use Rattle.core_tree.specs.Trees.{term_of}
 use Rattle.core_meaning.specs.Operators.{Tuples, IsInside, HasMultiplicity}
 use Rattle.core_meaning.specs.Meaning.{Fits}
 use Rattle.core_meaning.specs.Declarations.{this_is, FieldDeclared}
-use Rattle.core_window.specs.Same.{SameTuples, same_trans, turn, inside_same, multiplicity_same}
+use Rattle.core_window.specs.Same.{same_trans, turn, inside_same, multiplicity_same}
 use Rattle.core_tuples.specs.Sets.{TupleList, In, IsTupleSet}
 use Rattle.eval_sets.specs.SetOf.{IsSetOf}
 use Rattle.eval_context.specs.Settings.{SettingValue, world}
@@ -20,6 +20,7 @@ use Rattle.eval_tree.proofs.FrontLemmas.{ForFront, front_all, first_of, columns_
 use Rattle.eval_tree.proofs.FitsSame.{fits_to}
 use Rattle.eval_trace.proofs.SetLaw.{same_self, AreGathered, gathered_none, gathered_more, gathered_fails}
 use Rattle.eval_trace.specs.Asked.{Members, Entries, Values, IsBounded, AreBounded, IsOwned, AreDifferent, ListIs, IsListed, IsAlone, FieldIs}
+use Rattle.core_window.specs.Repeats.{SameTuples}
 
 -- what an atom has in a field
 pub values_found : (s : SettingValue) (i k a : ℕ) (x : Held) (set rest : TupleList) → IsFound x (Entries s i k) → set ≡ set_in x → IsSetOf rest (λ t. In ((a ∷ []) ++ t) set) → IsSetOf rest (Values s i k a)

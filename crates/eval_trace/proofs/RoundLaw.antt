@@ -15,10 +15,9 @@ use Rattle.core_meaning.specs.Sequence.{period}
 use Rattle.core_meaning.specs.World.{World, InRelation}
 use Rattle.core_meaning.specs.Operators.{Tuples, IsInside}
 use Rattle.core_meaning.specs.Declarations.{this_is, IsPlaced}
-use Rattle.core_window.specs.Same.{SameTuples, same_trans, turn, inside_same, multiplicity_same}
-use Rattle.core_window.specs.Shifts.{uncounted}
-use Rattle.core_window.specs.Fold.{fold_of, window_end, folded, fold_below}
-use Rattle.core_window.specs.Window.{IsFar, HasLoop, place_again}
+use Rattle.core_window.specs.Same.{same_trans, turn, inside_same, multiplicity_same}
+use Rattle.core_window.specs.Fold.{folded, fold_below}
+use Rattle.core_window.specs.Window.{place_again}
 use Rattle.eval_context.specs.Settings.{SettingValue, world}
 use Rattle.eval_steps.specs.Judged.{bodies, Means, HoldsIn, value_term}
 use Rattle.eval_tree.proofs.FoundLemmas.{three_same}
@@ -27,6 +26,7 @@ use Rattle.eval_tree.proofs.FitsSame.{fits_to}
 use Rattle.eval_trace.proofs.SetLaw.{same_self}
 use Rattle.eval_trace.proofs.FrontLaw.{got_below}
 use Rattle.eval_trace.specs.Asked.{Members, Values, InParent, HasAppended, IsBounded, SigIs, FieldIs, AllAre, FactRepeats, BoundRepeats, SigRepeats, FieldRepeats, AllRepeat}
+use Rattle.core_window.specs.Repeats.{SameTuples, uncounted, IsFar, HasLoop, fold_of, window_end}
 
 -- one period later a relation is the same
 relation_again : (w : World) (n i : ℕ) → HasLoop w.lasso → w.lasso.loop_start ≤ i → SameTuples (InRelation w n i) (InRelation w n (i + period w.lasso))

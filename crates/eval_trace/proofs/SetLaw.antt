@@ -4,7 +4,7 @@ use Rattle.core_tree.specs.declared.model.Column.{Column}
 use Rattle.core_tree.specs.declared.operators.RelationOp.TheVariants.{Union, Intersection, LeftRestrict}
 use Rattle.core_tree.specs.declared.operators.Multiplicity.{Multiplicity}
 use Rattle.core_meaning.specs.Operators.{Tuples, combined_tuples, IsInside, HasSome, HasMultiplicity}
-use Rattle.core_window.specs.Same.{SameTuples, same_trans, inside_same, multiplicity_same}
+use Rattle.core_window.specs.Same.{same_trans, inside_same, multiplicity_same}
 use Rattle.core_tuples.specs.Sets.{TupleList, In}
 use Rattle.eval_sets.specs.SetOf.{IsSetOf}
 use Rattle.eval_context.specs.Settings.{SettingValue}
@@ -13,6 +13,7 @@ use Rattle.eval_steps.specs.declared.held.Held.{Held}
 use Rattle.eval_tree.proofs.FoundLemmas.{if_ok_to, set_to}
 use Rattle.eval_tree.proofs.ListLemmas.{contains_first, contains_later, contains_cases, contains_none}
 use Rattle.eval_trace.specs.Asked.{InParent, InParents}
+use Rattle.core_window.specs.Repeats.{SameTuples}
 
 pub same_self : (A : Tuples) → SameTuples A A
 same_self A t = ((λ x. x), (λ x. x))

@@ -18,7 +18,7 @@ use Rattle.core_meaning.specs.Integers.{wrap, result_of, sum_of}
 use Rattle.core_meaning.specs.World.{atom_of}
 use Rattle.core_meaning.specs.Operators.{Tuples, Times, combined_tuples, product_tuples, unary_tuples, IsCount, IsNumber, IsInside, IsEqual, HasQuantity, HasMultiplicity, Compares, Connects, Chooses, Happens, UntilAt, SinceAt, Quantified}
 use Rattle.core_meaning.specs.Meaning.{Names, Fits, ForEach, Picked, HoldEach}
-use Rattle.core_window.specs.Same.{SameTuples, same_trans, turn, both_same, not_same, inside_same, multiplicity_same}
+use Rattle.core_window.specs.Same.{same_trans, turn, both_same, not_same, inside_same, multiplicity_same}
 use Rattle.core_window.specs.Shifts.{Always_true, later_is_until, earlier_is_since}
 use Rattle.core_tuples.specs.Sets.{TupleList, In}
 use Rattle.eval_context.specs.Settings.{SettingValue, world}
@@ -31,6 +31,7 @@ use Rattle.eval_tree.proofs.FoundLemmas.{if_ok_to, set_to, combine_found, produc
 use Rattle.eval_tree.proofs.FitsSame.{fits_to}
 use Rattle.eval_tree.proofs.RowLaw.{chosen_of}
 use Rattle.eval_tree.proofs.SumLaw.{comprehension_is as rows_are_choices, sum_is}
+use Rattle.core_window.specs.Repeats.{SameTuples}
 
 -- facts on connectives
 module _ (F G H : Type 0) where

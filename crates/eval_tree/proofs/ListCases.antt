@@ -14,11 +14,11 @@ use Rattle.core_tree.specs.Trees.{Term, Variables, sig, field, name, univ, iden,
 use Rattle.core_meaning.specs.Operators.{Tuples, IsInside, HasMultiplicity, Quantified, IsNumber}
 use Rattle.core_meaning.specs.Called.{InForm, FormHolds, InBody, BodyHolds}
 use Rattle.core_meaning.specs.Meaning.{Names, Fits, ForEach, Picked, HoldEach, with_name}
-use Rattle.core_window.specs.Same.{SameTuples, same_trans, inside_same, number_same}
+use Rattle.core_window.specs.Same.{same_trans, inside_same, number_same}
 use Rattle.core_tuples.specs.Sets.{TupleList, In, IsTupleSet}
 use Rattle.eval_context.specs.Settings.{SettingValue, world}
 use Rattle.eval_sets.specs.SetOf.{IsSetOf}
-use Rattle.eval_calls.specs.Calls.{entered}
+use Rattle.eval_calls.specs.Entered.{entered}
 use Rattle.eval_steps.specs.Judged.{bodies, Means, HoldsIn, InCalled, CalledHolds, IsFound, set_in, AreRows, AreRowsOfAtoms, ForEachAtom, FitsAfter, FitsBefore, GivesHead, GivesTail, is_product}
 use Rattle.eval_steps.specs.declared.held.Held.{Held}
 use Rattle.eval_steps.specs.declared.rows.Goal.{Goal}
@@ -30,6 +30,7 @@ use Rattle.eval_tree.proofs.ChoiceLaw.{each_is}
 use Rattle.eval_tree.proofs.RowLaw.{rows_are}
 use Rattle.eval_tree.proofs.FitsLaw.{inside_product}
 use Rattle.eval_tree.proofs.SumLaw.{lone_is, one_is}
+use Rattle.core_window.specs.Repeats.{SameTuples}
 
 pub got_none : {X : Type 0} (xs : List X) (k : ℕ) → length xs ≤ k → slice_get xs k ≡ None
 got_none [] k over = refl

@@ -6,7 +6,6 @@ use Rattle.core_meaning.specs.Integers.{wrap, sum_of}
 use Rattle.core_meaning.specs.World.{World, atom_of}
 use Rattle.core_meaning.specs.Operators.{IsNumber, IsSumOver, IsLone}
 use Rattle.core_meaning.specs.Meaning.{Names, Bodies, with_name, atom, ForEach, Picked}
-use Rattle.core_window.specs.Same.{SameTuples}
 use Rattle.core_laws.specs.Listed.{AreOnce}
 use Rattle.core_laws.proofs.ListedLemmas.{once, same_sum}
 use Rattle.core_laws.proofs.UniqueLemmas.{number_once}
@@ -17,6 +16,7 @@ use Rattle.eval_steps.specs.declared.rows.Row.{Row}
 use Rattle.eval_tree.proofs.ListLemmas.{contains_first, contains_later, contains_cases, contains_none, contains_map, map_contains, once_pairs}
 use Rattle.eval_tree.proofs.FrontLemmas.{first_of, rest_of}
 use Rattle.eval_tree.proofs.RowLaw.{chosen_of, picked_some, none_picked}
+use Rattle.core_window.specs.Repeats.{SameTuples}
 
 all_of : {X : Type 0} (P : X → Type 0) (xs : List X) → ((x : X) → Contains xs x → P x) → All P xs
 all_of P [] h = All-nil P

@@ -3,7 +3,7 @@
 ghost use Rattle.std.specs.Prelude.{◌↔◌, map, IfOk, IsTrue};
 ghost use Rattle.core_tree.specs.Trees.{term_of, term_list};
 ghost use Rattle.eval_context.specs.Settings.{world};
-ghost use Rattle.eval_calls.specs.Calls.{entered};
+ghost use Rattle.eval_calls.specs.Entered.{entered};
 ghost use Rattle.eval_steps.specs.Judged.{bodies, scope_names, IsFound, InCalled, CalledHolds};
 ghost use Rattle.eval_tree.specs.Evaluates.{Evaluates};
 

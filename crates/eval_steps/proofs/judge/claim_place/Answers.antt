@@ -1,10 +1,10 @@
 use Rattle.std.proofs.Common.{◌-◌, ◌^◌, ◌<◌, ◌≤◌, arith}
 use Rattle.core_tree.specs.Trees.{claim_of}
 use Rattle.core_meaning.specs.Meaning.{no_names}
-use Rattle.core_window.specs.Shifts.{uncounted}
 use Rattle.eval_steps.specs.Judged.{HoldsIn}
 use Rattle.eval_steps.proofs.Rounds.{same_truth}
 use Rattle.eval_steps.proofs.judge.claim_place.Goals as goal
+use Rattle.core_window.specs.Repeats.{uncounted}
 
 pub returns : goal.returns
 returns c =

@@ -1,8 +1,8 @@
 use Rattle.std.proofs.Common.{◌≡◌, ◌∙◌, ◌+◌, ◌-◌, ◌^◌, ◌<◌, ℕ, ap, arith}
 use Rattle.core_tree.specs.Trees.{claim_of}
-use Rattle.core_window.specs.Shifts.{uncounted}
 use Rattle.eval_steps.proofs.Rounds.{limit_is}
 use Rattle.eval_steps.proofs.judge.limit.Goals as goal
+use Rattle.core_window.specs.Repeats.{uncounted}
 
 pub returns-in-Some : goal.returns-in-Some
 returns-in-Some c =
