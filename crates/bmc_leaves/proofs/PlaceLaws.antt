@@ -12,7 +12,7 @@ use Rattle.core_meaning.specs.World.{World}
 use Rattle.core_meaning.specs.Operators.{Tuples}
 use Rattle.core_meaning.specs.Meaning.{atom, one_of, InTerm, Holds}
 use Rattle.core_meaning.specs.Called.{no_bodies}
-use Rattle.core_window.specs.Fold.{fold_below, holds_folded, term_folded}
+use Rattle.core_window.proofs.FoldLemmas.{fold_below, holds_folded, term_folded}
 use Rattle.bmc_windows.specs.declared.frame.Stretch.{Stretch}
 use Rattle.bmc_windows.specs.Frames.{IsStretch, window_length, place_next}
 use Rattle.bmc_leaves.specs.Shown.{Atoms, names_of, Reading, IsReading, Shows, HasPlace, none_nested}

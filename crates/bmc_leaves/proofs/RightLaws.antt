@@ -16,7 +16,7 @@ use Rattle.core_meaning.specs.Kept.{world_of}
 use Rattle.core_meaning.specs.Operators.{Tuples}
 use Rattle.core_meaning.specs.Meaning.{atom, one_of, InTerm, Holds}
 use Rattle.core_meaning.specs.Called.{no_bodies}
-use Rattle.core_window.specs.Same.{same_trans, combined_same, product_same, closure_same, inside_same, some_same, lone_same}
+use Rattle.core_window.proofs.SameLemmas.{same_trans, combined_same, product_same, closure_same, inside_same, some_same, lone_same}
 use Rattle.gate_matrix.specs.Matrices.{MatrixEntries, truth}
 use Rattle.gate_operators.specs.Sets.{MeansSet, set_of}
 use Rattle.gate_sets.specs.Sets.{one_atom}

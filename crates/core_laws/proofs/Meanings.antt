@@ -15,7 +15,7 @@ use Rattle.core_meaning.specs.Meaning.{Names, Bodies, one_of, with_name, atom, n
 use Rattle.core_meaning.specs.Called.{InForm, FormHolds, InBody, BodyHolds, called, bodies_of}
 use Rattle.core_meaning.specs.Kept.{world_of}
 use Rattle.core_laws.specs.Sequences.{ShowSame}
-use Rattle.core_window.specs.Same.{both_same, either_same, not_same, combined_same, product_same, closure_same, inside_same, equal_same, quantity_same, multiplicity_same, quantified_same, count_same, number_same, sum_same, compare_same, connects_same, chooses_same}
+use Rattle.core_window.proofs.SameLemmas.{both_same, either_same, not_same, combined_same, product_same, closure_same, inside_same, equal_same, quantity_same, multiplicity_same, quantified_same, count_same, number_same, sum_same, compare_same, connects_same, chooses_same}
 use Rattle.core_laws.proofs.Happening.{happens_same, happen_both_same}
 use Rattle.core_window.specs.Repeats.{SameTuples}
 

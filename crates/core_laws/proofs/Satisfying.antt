@@ -20,7 +20,7 @@ use Rattle.core_meaning.specs.Declarations.{this_is, InColumn, IsPlaced, InValue
 use Rattle.core_meaning.specs.Called.{bodies_of}
 use Rattle.core_meaning.specs.Kept.{world_of, IsEverIn, Keeps}
 use Rattle.core_meaning.specs.Satisfied.{HoldsAt, DeclaresAt, SatisfiesWith}
-use Rattle.core_window.specs.Same.{multiplicity_same}
+use Rattle.core_window.proofs.SameLemmas.{multiplicity_same}
 use Rattle.core_laws.specs.Sequences.{ShowSame, SameSatisfied}
 use Rattle.core_laws.proofs.Meanings.{relation_same, SameNames, term_same, holds_same, fits_same, model_same, nothing_same, more_same}
 use Rattle.core_window.specs.Repeats.{SameTuples}

@@ -9,7 +9,7 @@ use Rattle.core_meaning.specs.declared.scopes.SigScope.{SigScope}
 use Rattle.core_meaning.specs.declared.scopes.Scopes.{Scopes}
 use Rattle.core_meaning.specs.World.{InRelation}
 use Rattle.core_meaning.specs.Kept.{world_of, atoms_of_sig, atom_count}
-use Rattle.core_window.specs.Same.{same_trans}
+use Rattle.core_window.proofs.SameLemmas.{same_trans}
 use Rattle.core_renaming.specs.Renamings.{Renaming}
 use Rattle.core_renaming.specs.Sigs.{IsOwnAtom, KeepsSigs, literal_atom}
 use Rattle.core_renaming.specs.Composed.{exchanged, exchanged_first, exchanged_second, exchanged_other, exchanged_twice, exchange, IsNoLiteral, RenamingsGoBack, RenamingsCompose, ExchangesKeepSigs}

@@ -14,7 +14,7 @@ use Rattle.core_meaning.specs.Operators.{Tuples, HasMultiplicity, IsCount, IsNum
 use Rattle.core_meaning.specs.Meaning.{Names, Bodies, with_name, atom, no_names, IsApart, InTerm, passed, Picked, ForEach, Fits, Holds, HoldEach}
 use Rattle.core_meaning.specs.Called.{InForm, FormHolds, InBody, BodyHolds, called, bodies_of}
 use Rattle.core_meaning.specs.Kept.{world_of}
-use Rattle.core_window.specs.Same.{both_same, not_same, connects_same, chooses_same}
+use Rattle.core_window.proofs.SameLemmas.{both_same, not_same, connects_same, chooses_same}
 use Rattle.core_window.specs.Windows.{Binding, atom_names}
 use Rattle.core_renaming.specs.Renamings.{Renaming, KeepsIntegers, ShowsRenamed, renamed_names, FormulasKeepTruth, TermsKeepTuples}
 use Rattle.core_renaming.proofs.Moves.{Moved, MovedAtoms, alike, moved_by, all_atoms, all_tuples, implied, combined_moved, product_moved, closure_moved, transpose_moved, pairs_moved, atoms_moved, atom_moved, either_moved, where_moved, one_moved, inside_moved, equal_moved, quantity_moved, multiplicity_moved, quantified_moved, after_moved, before_moved, apart_moved, split_moved, empty_moved, nothing_moved}

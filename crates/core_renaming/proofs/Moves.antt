@@ -10,7 +10,7 @@ use Rattle.core_tree.specs.declared.operators.RelationOp.{RelationOp}
 use Rattle.core_tree.specs.declared.operators.RelationOp.TheVariants.{Union, Difference, Intersection, Join, Override, LeftRestrict, RightRestrict}
 use Rattle.core_meaning.specs.Operators.{Tuples, Walk, last_step, step, combined_tuples, product_tuples, closure_tuples, IsInside, IsEqual, HasSome, IsLone, HasQuantity, HasMultiplicity, Quantified}
 use Rattle.core_meaning.specs.Meaning.{one_of, atom}
-use Rattle.core_window.specs.Same.{both_same, not_same}
+use Rattle.core_window.proofs.SameLemmas.{both_same, not_same}
 use Rattle.core_renaming.specs.Renamings.{Renaming, inverse}
 
 -- renamed there and back

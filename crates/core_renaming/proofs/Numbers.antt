@@ -7,7 +7,7 @@ use Rattle.core_tree.specs.declared.operators.Comparison.TheVariants.{Equal, Les
 use Rattle.core_meaning.specs.Integers.{wrap, sum_of}
 use Rattle.core_meaning.specs.World.{World, atom_of, IsInteger}
 use Rattle.core_meaning.specs.Operators.{Tuples, IsListOf, IsCount, IsNumber, IsSumOver, IsLess, Compares}
-use Rattle.core_window.specs.Same.{not_same}
+use Rattle.core_window.proofs.SameLemmas.{not_same}
 use Rattle.core_renaming.specs.Renamings.{Renaming, inverse}
 use Rattle.core_renaming.proofs.Moves.{renamed_back, Moved, turn}
 

@@ -5,7 +5,7 @@ use Rattle.core_tree.specs.declared.operators.TemporalUnary.TheVariants.{After, 
 use Rattle.core_tree.specs.declared.operators.TemporalBinary.{TemporalBinary}
 use Rattle.core_tree.specs.declared.operators.TemporalBinary.TheVariants.{Until, Releases, Since, Triggered, Then}
 use Rattle.core_meaning.specs.Operators.{Times, SomeLater, SomeEarlier, UntilAt, SinceAt, Happens, HappenBoth}
-use Rattle.core_window.specs.Same.{turn, not_same, both_same}
+use Rattle.core_window.proofs.SameLemmas.{turn, not_same, both_same}
 
 abbrev pub SameTimes : Times → Times → Type 0
 SameTimes F G = (j : ℕ) → F j ↔ G j

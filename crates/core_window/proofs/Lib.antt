@@ -1,0 +1,4 @@
+pub mod FoldLemmas
+pub mod SameLemmas
+pub mod ShiftLemmas
+pub mod WindowLemmas

@@ -1,2 +1,4 @@
 pub mod Weighed
 pub mod RoundLemmas
+pub mod CallLemmas
+pub mod CongruentLemmas

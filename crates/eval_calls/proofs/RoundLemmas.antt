@@ -14,10 +14,10 @@ use Rattle.core_tree.specs.declared.model.BodyForm.{BodyForm}
 use Rattle.core_tree.specs.declared.model.BodyForm.TheVariants.{Test, Term as Value}
 use Rattle.core_tree.specs.Trees.{Term, Terms, Variables, Claim, Claims, sig, field, name, univ, iden, empty, int, combine, product, unary, prime, choose_term, comprehension, number, count, arithmetic, sum_over, let_term, call_term, no_terms, more_terms, no_variables, more_variables, inside, equal, within, test, compare, negation, every, connect, choose_claim, for_all, counted, temporal, temporal_pair, let_claim, call_claim, no_claims, more_claims, term_of, claim_of}
 use Rattle.core_tree.specs.Past.{Depths, BodyDepths, with_depth, one_more, under_unary, under_binary, past_in, past_under, past_of_arguments, past_of, past_of_each, past_of_form, past_of_body, called_depths, body_depths}
-use Rattle.core_window.specs.Shifts.{max-le_left, max-le_right, le_trans}
+use Rattle.core_window.proofs.ShiftLemmas.{max-le_left, max-le_right, le_trans}
 use Rattle.eval_calls.specs.Weight.{most, both, on_one, on_two, weight_in, weight_of_terms, weight_of_bounds, weight_of, weight_of_each, weight_of_form, weight_of_called, calls_below, AreWeighed}
-use Rattle.eval_calls.specs.Congruent.{both_left, both_right, on_one_below, on_two_below}
-use Rattle.eval_calls.specs.Calls.{top, top_few, below_top}
+use Rattle.eval_calls.proofs.CongruentLemmas.{both_left, both_right, on_one_below, on_two_below}
+use Rattle.eval_calls.proofs.CallLemmas.{top, top_few, below_top}
 
 pub max_to : (a b c : ℕ) → a ≤ c → b ≤ c → max a b ≤ c
 max_to a b c x y = grind (arith)

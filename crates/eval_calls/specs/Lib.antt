@@ -1,4 +1,2 @@
 pub mod Weight
 pub mod Entered
-pub mod Congruent
-pub mod Calls

@@ -2,7 +2,7 @@
 use Rattle.std.proofs.Common.{◌≡◌, ℕ, ◌+◌, ◌-◌, ◌*◌, ◌^◌, ◌<◌, ◌≤◌, length, sym, ap, ◌∙◌, subst, arith, mul-le-mul_right}
 use Rattle.core_meaning.specs.Sequence.{LassoValue}
 use Rattle.core_window.specs.declared.Window.{Window}
-use Rattle.core_window.specs.Fold.{fold_below}
+use Rattle.core_window.proofs.FoldLemmas.{fold_below}
 use Rattle.core_window.specs.Windows.{IsOf}
 use Rattle.core_window.specs.Repeats.{HasLoop, fold_of, window_end}
 

@@ -3,7 +3,7 @@ use Rattle.std.proofs.Common.{◌≡◌, ◌≢◌, ◌↔◌, ℕ, zero, suc, �
 use Rattle.std.proofs.lemmas.Bool.Decides.{nat_tests}
 use Rattle.std.proofs.lemmas.List.Elements.{All-nil, All-cons}
 use Rattle.core_meaning.specs.Meaning.{IsApart}
-use Rattle.core_window.specs.Same.{same_trans}
+use Rattle.core_window.proofs.SameLemmas.{same_trans}
 
 apart_cons : (m a b : ℕ) (l : List ℕ) → IsApart (suc m) a (b ∷ l) ↔ ((a ≢ b) × IsApart m a l)
 apart_cons m a b l = (

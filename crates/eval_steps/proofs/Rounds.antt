@@ -10,13 +10,13 @@ use Rattle.core_meaning.specs.declared.scope.Environment.TheVariants.{Empty}
 use Rattle.core_meaning.specs.Meaning.{Names, with_name, atom}
 use Rattle.core_meaning.specs.Sequence.{LassoValue, period}
 use Rattle.core_meaning.specs.Operators.{Times}
-use Rattle.core_window.specs.Shifts.{le_trans}
+use Rattle.core_window.proofs.ShiftLemmas.{le_trans}
 use Rattle.core_window.specs.Windows.{Binding, atom_names, atom_depths}
-use Rattle.core_window.specs.Window.{atoms_again}
-use Rattle.core_window.specs.Window.{no_names_again, atom_again, more_again, term_again, holds_again, bodies_again}
+use Rattle.core_window.proofs.WindowLemmas.{atoms_again}
+use Rattle.core_window.proofs.WindowLemmas.{no_names_again, atom_again, more_again, term_again, holds_again, bodies_again}
 use Rattle.eval_context.specs.Settings.{SettingValue, world}
 use Rattle.eval_calls.specs.Weight.{most, weight_in, weight_of, calls_below, AreWeighed}
-use Rattle.eval_calls.specs.Calls.{top, top_few, below_top}
+use Rattle.eval_calls.proofs.CallLemmas.{top, top_few, below_top}
 use Rattle.eval_calls.proofs.RoundLemmas.{AreWithin, one_within, term_below, claim_below, bodies_bounded}
 use Rattle.eval_steps.specs.Judged.{bodies, scope_names, Means, HoldsIn, NamesRepeat, TermRepeats, ClaimRepeats, Again, value_term, IsLimit, IsFolded}
 use Rattle.core_window.specs.Repeats.{uncounted, IsFar, HasLoop, RepeatNames, repeats_from}

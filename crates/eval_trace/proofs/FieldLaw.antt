@@ -8,7 +8,7 @@ use Rattle.core_tree.specs.Trees.{term_of}
 use Rattle.core_meaning.specs.Operators.{Tuples, IsInside, HasMultiplicity}
 use Rattle.core_meaning.specs.Meaning.{Fits}
 use Rattle.core_meaning.specs.Declarations.{this_is, FieldDeclared}
-use Rattle.core_window.specs.Same.{same_trans, turn, inside_same, multiplicity_same}
+use Rattle.core_window.proofs.SameLemmas.{same_trans, turn, inside_same, multiplicity_same}
 use Rattle.core_tuples.specs.Sets.{TupleList, In, IsTupleSet}
 use Rattle.eval_sets.specs.SetOf.{IsSetOf}
 use Rattle.eval_context.specs.Settings.{SettingValue, world}

@@ -15,9 +15,9 @@ use Rattle.core_meaning.specs.Sequence.{period}
 use Rattle.core_meaning.specs.World.{World, InRelation}
 use Rattle.core_meaning.specs.Operators.{Tuples, IsInside}
 use Rattle.core_meaning.specs.Declarations.{this_is, IsPlaced}
-use Rattle.core_window.specs.Same.{same_trans, turn, inside_same, multiplicity_same}
-use Rattle.core_window.specs.Fold.{folded, fold_below}
-use Rattle.core_window.specs.Window.{place_again}
+use Rattle.core_window.proofs.SameLemmas.{same_trans, turn, inside_same, multiplicity_same}
+use Rattle.core_window.proofs.FoldLemmas.{folded, fold_below}
+use Rattle.core_window.proofs.WindowLemmas.{place_again}
 use Rattle.eval_context.specs.Settings.{SettingValue, world}
 use Rattle.eval_steps.specs.Judged.{bodies, Means, HoldsIn, value_term}
 use Rattle.eval_tree.proofs.FoundLemmas.{three_same}

@@ -4,7 +4,7 @@ use Rattle.core_tree.specs.declared.model.Column.{Column}
 use Rattle.core_tree.specs.declared.operators.RelationOp.TheVariants.{Union, Intersection, LeftRestrict}
 use Rattle.core_tree.specs.declared.operators.Multiplicity.{Multiplicity}
 use Rattle.core_meaning.specs.Operators.{Tuples, combined_tuples, IsInside, HasSome, HasMultiplicity}
-use Rattle.core_window.specs.Same.{same_trans, inside_same, multiplicity_same}
+use Rattle.core_window.proofs.SameLemmas.{same_trans, inside_same, multiplicity_same}
 use Rattle.core_tuples.specs.Sets.{TupleList, In}
 use Rattle.eval_sets.specs.SetOf.{IsSetOf}
 use Rattle.eval_context.specs.Settings.{SettingValue}

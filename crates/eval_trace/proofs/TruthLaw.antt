@@ -2,7 +2,7 @@
 use Rattle.std.proofs.Common.{◌≡◌, ◌↔◌, ℕ, List, sym, subst, Result, IfOk, Bool, IsTrue}
 use Rattle.core_tree.specs.Trees.{Term, Claim}
 use Rattle.core_meaning.specs.Meaning.{no_names}
-use Rattle.core_window.specs.Same.{same_trans}
+use Rattle.core_window.proofs.SameLemmas.{same_trans}
 use Rattle.core_tuples.specs.Sets.{TupleList}
 use Rattle.eval_sets.specs.SetOf.{IsSetOf}
 use Rattle.eval_context.specs.Settings.{SettingValue}

@@ -5,10 +5,10 @@ use Rattle.core_tree.proofs.RowLemmas.{call_term_is, call_claim_is}
 use Rattle.core_tree.specs.declared.tree.Expr.{Expr, Call as CallExpr}
 use Rattle.core_tree.specs.declared.tree.Formula.{Call as CallFormula}
 use Rattle.core_meaning.specs.Meaning.{Names, no_names}
-use Rattle.core_window.specs.Same.{same_trans}
+use Rattle.core_window.proofs.SameLemmas.{same_trans}
 use Rattle.eval_context.specs.Settings.{SettingValue, world}
 use Rattle.eval_calls.specs.Entered.{entered}
-use Rattle.eval_calls.specs.Calls.{entered_is, called_terms, called_claims}
+use Rattle.eval_calls.proofs.CallLemmas.{entered_is, called_terms, called_claims}
 use Rattle.eval_steps.specs.Judged.{bodies, HasWeights, Means, HoldsIn, InCalled, CalledHolds, IsFound, set_in}
 use Rattle.eval_steps.specs.declared.held.Held.{Held}
 use Rattle.eval_tree.proofs.FoundLemmas.{if_ok_to, set_to}

@@ -18,8 +18,8 @@ use Rattle.core_meaning.specs.Integers.{wrap, result_of, sum_of}
 use Rattle.core_meaning.specs.World.{atom_of}
 use Rattle.core_meaning.specs.Operators.{Tuples, Times, combined_tuples, product_tuples, unary_tuples, IsCount, IsNumber, IsInside, IsEqual, HasQuantity, HasMultiplicity, Compares, Connects, Chooses, Happens, UntilAt, SinceAt, Quantified}
 use Rattle.core_meaning.specs.Meaning.{Names, Fits, ForEach, Picked, HoldEach}
-use Rattle.core_window.specs.Same.{same_trans, turn, both_same, not_same, inside_same, multiplicity_same}
-use Rattle.core_window.specs.Shifts.{Always_true, later_is_until, earlier_is_since}
+use Rattle.core_window.proofs.SameLemmas.{same_trans, turn, both_same, not_same, inside_same, multiplicity_same}
+use Rattle.core_window.proofs.ShiftLemmas.{Always_true, later_is_until, earlier_is_since}
 use Rattle.core_tuples.specs.Sets.{TupleList, In}
 use Rattle.eval_context.specs.Settings.{SettingValue, world}
 use Rattle.eval_sets.specs.SetOf.{IsSetOf}

@@ -7,7 +7,7 @@ use Rattle.core_tree.specs.Trees.{Term, sig, field, name, univ, iden, empty, int
 use Rattle.core_meaning.specs.World.{World}
 use Rattle.core_meaning.specs.Operators.{Tuples, HasMultiplicity, IsInside, product_tuples}
 use Rattle.core_meaning.specs.Meaning.{Names, Bodies, Fits}
-use Rattle.core_window.specs.Same.{turn, multiplicity_same}
+use Rattle.core_window.proofs.SameLemmas.{turn, multiplicity_same}
 use Rattle.core_tuples.specs.Sets.{TupleList, In}
 use Rattle.eval_context.specs.Settings.{SettingValue, world}
 use Rattle.eval_sets.specs.SetOf.{IsSetOf}

@@ -5,7 +5,7 @@ use Rattle.core_tree.specs.Trees.{Term, sig, field, name, univ, iden, empty, int
 use Rattle.core_meaning.specs.World.{World}
 use Rattle.core_meaning.specs.Operators.{Tuples}
 use Rattle.core_meaning.specs.Meaning.{Names, Bodies, Fits}
-use Rattle.core_window.specs.Same.{multiplicity_same}
+use Rattle.core_window.proofs.SameLemmas.{multiplicity_same}
 use Rattle.core_window.specs.Repeats.{SameTuples}
 
 pub fits_to : (w : World) (B : Bodies) (e : Term) (names : Names) (i : ℕ) (E D : Tuples) → SameTuples E D → Fits w B e names i E → Fits w B e names i D

@@ -9,7 +9,7 @@ use Rattle.core_tree.specs.declared.operators.IntOp.{IntOp}
 use Rattle.core_meaning.specs.Integers.{wrap, result_of}
 use Rattle.core_meaning.specs.World.{World, atom_of}
 use Rattle.core_meaning.specs.Operators.{Tuples, combined_tuples, product_tuples, unary_tuples, IsCount, IsNumber, IsInside, IsEqual, HasQuantity, Compares}
-use Rattle.core_window.specs.Same.{same_trans, combined_same, product_same, unary_same, inside_same, equal_same, quantity_same, count_same, number_same, compare_same}
+use Rattle.core_window.proofs.SameLemmas.{same_trans, combined_same, product_same, unary_same, inside_same, equal_same, quantity_same, count_same, number_same, compare_same}
 use Rattle.core_tuples.specs.Sets.{TupleList, In}
 use Rattle.eval_sets.specs.SetOf.{IsSetOf}
 use Rattle.eval_steps.specs.Judged.{IsFound, set_in, Says}

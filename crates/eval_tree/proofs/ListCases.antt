@@ -14,7 +14,7 @@ use Rattle.core_tree.specs.Trees.{Term, Variables, sig, field, name, univ, iden,
 use Rattle.core_meaning.specs.Operators.{Tuples, IsInside, HasMultiplicity, Quantified, IsNumber}
 use Rattle.core_meaning.specs.Called.{InForm, FormHolds, InBody, BodyHolds}
 use Rattle.core_meaning.specs.Meaning.{Names, Fits, ForEach, Picked, HoldEach, with_name}
-use Rattle.core_window.specs.Same.{same_trans, inside_same, number_same}
+use Rattle.core_window.proofs.SameLemmas.{same_trans, inside_same, number_same}
 use Rattle.core_tuples.specs.Sets.{TupleList, In, IsTupleSet}
 use Rattle.eval_context.specs.Settings.{SettingValue, world}
 use Rattle.eval_sets.specs.SetOf.{IsSetOf}

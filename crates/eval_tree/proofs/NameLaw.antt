@@ -5,7 +5,7 @@ use Rattle.core_tree.specs.declared.model.Body.{Body}
 use Rattle.core_meaning.specs.declared.scope.Environment.{Environment}
 use Rattle.core_meaning.specs.World.{World}
 use Rattle.core_meaning.specs.Called.{called, names_of}
-use Rattle.core_window.specs.Same.{turn}
+use Rattle.core_window.proofs.SameLemmas.{turn}
 use Rattle.eval_context.specs.Settings.{SettingValue, world, Stands}
 use Rattle.eval_context.specs.declared.names.Meant.{Meant}
 use Rattle.eval_context.specs.declared.names.Meant.TheVariants.{Atom, Written, Unknown}

@@ -2,7 +2,7 @@
 use Rattle.std.proofs.Common.{◌≡◌, ◌⊎◌, ◌↔◌, ℕ, zero, suc, ◌+◌, ◌-◌, ◌<◌, ◌≤◌, sym, subst, inl, inr, arith, Bool, true, false, IsTrue}
 use Rattle.std.proofs.lemmas.Bool.{cases_lt}
 use Rattle.core_meaning.specs.Operators.{Times, UntilAt, SinceAt}
-use Rattle.core_window.specs.Same.{not_same}
+use Rattle.core_window.proofs.SameLemmas.{not_same}
 use Rattle.eval_steps.specs.Judged.{Says, IsLimit}
 use Rattle.eval_tree.proofs.FoundLemmas.{true_holds, false_fails}
 

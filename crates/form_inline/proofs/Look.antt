@@ -9,7 +9,7 @@ use Rattle.core_meaning.specs.World.{World}
 use Rattle.core_meaning.specs.Operators.{Tuples}
 use Rattle.core_meaning.specs.Meaning.{Names, Bodies, one_of, InTerm, passed}
 use Rattle.core_meaning.specs.Called.{called}
-use Rattle.core_window.specs.Same.{same_trans}
+use Rattle.core_window.proofs.SameLemmas.{same_trans}
 use Rattle.form_inline.specs.declared.given.Given.{Given}
 use Rattle.form_inline.specs.declared.given.Given.TheVariants.{Level, Written}
 use Rattle.form_inline.specs.declared.given.Meant.{Meant}

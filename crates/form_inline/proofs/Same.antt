@@ -18,7 +18,7 @@ use Rattle.core_meaning.specs.World.{World}
 use Rattle.core_meaning.specs.Operators.{HasMultiplicity, Tuples, Times, SomeLater, SomeEarlier, UntilAt, SinceAt, Happens, HappenBoth, IsNumber}
 use Rattle.core_meaning.specs.Meaning.{Names, Bodies, one_of, with_name, atom, InTerm, Picked, ForEach, Fits, Holds, passed}
 use Rattle.core_meaning.specs.Called.{no_bodies, called}
-use Rattle.core_window.specs.Same.{both_same, either_same, not_same, combined_same, product_same, unary_same, inside_same, equal_same, quantity_same, multiplicity_same, quantified_same, count_same, number_same, sum_same, compare_same, connects_same, chooses_same}
+use Rattle.core_window.proofs.SameLemmas.{both_same, either_same, not_same, combined_same, product_same, unary_same, inside_same, equal_same, quantity_same, multiplicity_same, quantified_same, count_same, number_same, sum_same, compare_same, connects_same, chooses_same}
 use Rattle.form_inline.specs.declared.given.Given.{Given}
 use Rattle.form_inline.specs.declared.given.Given.TheVariants.{Empty, Level', Written', Passed'}
 use Rattle.form_inline.specs.Written.{atom_or_none, atoms, given_names, IsBelow, IsPlain, IsNoArrow, SameTerm, SameClaim, SameBound, bound_arrow, bound_leaf, Binds, under_none, under_more}

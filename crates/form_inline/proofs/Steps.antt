@@ -11,7 +11,7 @@ use Rattle.core_tree.proofs.RowLemmas.{every_is, for_all_is, counted_is, compreh
 use Rattle.core_meaning.specs.World.{World}
 use Rattle.core_meaning.specs.Meaning.{Names, InTerm, Holds, HoldEach}
 use Rattle.core_meaning.specs.Called.{no_bodies, called}
-use Rattle.core_window.specs.Same.{both_same, same_trans}
+use Rattle.core_window.proofs.SameLemmas.{both_same, same_trans}
 use Rattle.form_inline.specs.declared.given.Given.{Given}
 use Rattle.form_inline.specs.declared.given.Given.TheVariants.{Level, Written}
 use Rattle.form_inline.specs.Written.{atoms, given_names, IsBelow, SameTerm, SameClaim, SameClaims, BindsTo, under_none, under_more}

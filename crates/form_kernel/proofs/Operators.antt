@@ -16,8 +16,8 @@ use Rattle.core_tree.specs.Trees.{Term, Claim, unary, test, compare, connect, te
 use Rattle.core_meaning.specs.World.{World}
 use Rattle.core_meaning.specs.Meaning.{Names, InTerm, Holds}
 use Rattle.core_meaning.specs.Called.{no_bodies}
-use Rattle.core_window.specs.Same.{not_same, turn}
-use Rattle.core_window.specs.Shifts.{later_is_until, earlier_is_since}
+use Rattle.core_window.proofs.SameLemmas.{not_same, turn}
+use Rattle.core_window.proofs.ShiftLemmas.{later_is_until, earlier_is_since}
 use Rattle.form_kernel.specs.Operators.{both, tested, compared, connected, happening, happening_both, related}
 use Rattle.core_window.specs.Repeats.{SameTuples}
 

@@ -10,7 +10,7 @@ use Rattle.core_meaning.specs.World.{World}
 use Rattle.core_meaning.specs.Operators.{Tuples, Times, IsNumber, UntilAt, SinceAt, Happens, HappenBoth}
 use Rattle.core_meaning.specs.Meaning.{Names, with_name, atom, InTerm, Picked, ForEach, Fits, Holds, HoldEach}
 use Rattle.core_meaning.specs.Called.{no_bodies}
-use Rattle.core_window.specs.Same.{both_same, either_same, not_same, same_trans, combined_same, product_same, unary_same, inside_same, equal_same, quantity_same, multiplicity_same, quantified_same, count_same, number_same, sum_same, compare_same, connects_same, chooses_same}
+use Rattle.core_window.proofs.SameLemmas.{both_same, either_same, not_same, same_trans, combined_same, product_same, unary_same, inside_same, equal_same, quantity_same, multiplicity_same, quantified_same, count_same, number_same, sum_same, compare_same, connects_same, chooses_same}
 use Rattle.form_inline.specs.CallFree.{IsCallFreeTerm, AreCallFreeVariables, IsCallFree, AreCallFree}
 use Rattle.form_kernel.specs.Written.{kernel_term, kernel_variables, kernel_claim, kernel_claims}
 use Rattle.form_kernel.proofs.Operators.{still, tested_is, compared_is, connected_is, happening_is, happening_both_is, related_is}

@@ -11,7 +11,7 @@ use Rattle.core_meaning.specs.World.{World}
 use Rattle.core_meaning.specs.Operators.{Tuples, HasSome, IsLone}
 use Rattle.core_meaning.specs.Meaning.{Names, one_of, with_name, atom, IsApart, InTerm, Picked, ForEach, Holds}
 use Rattle.core_meaning.specs.Called.{no_bodies}
-use Rattle.core_window.specs.Same.{both_same, not_same, lone_same, same_trans}
+use Rattle.core_window.proofs.SameLemmas.{both_same, not_same, lone_same, same_trans}
 use Rattle.form_kernel.specs.Operators.{both}
 use Rattle.form_kernel.specs.Single.{without, alone, is_rising, one_by_one, under, lone_values, are_many, lone_by_one, are_many_rising, counting}
 use Rattle.form_kernel.proofs.Operators.{still, both_is}

@@ -17,7 +17,7 @@ use Rattle.core_meaning.specs.Meaning.{no_names, Holds}
 use Rattle.core_meaning.specs.Called.{no_bodies, bodies_of}
 use Rattle.core_meaning.specs.Kept.{world_of}
 use Rattle.core_meaning.specs.Satisfied.{SatisfiesTarget}
-use Rattle.core_window.specs.Same.{same_trans, not_same}
+use Rattle.core_window.proofs.SameLemmas.{same_trans, not_same}
 use Rattle.form_inline.specs.CallFree.{IsCallFree}
 use Rattle.form_inline.specs.Written.{atoms}
 use Rattle.form_kernel.specs.Left.{IsLeft}

@@ -1,9 +1,9 @@
 use Rattle.core_meaning.specs.Called.{bodies_of}
 use Rattle.core_tree.specs.Past.{body_depths}
-use Rattle.core_window.specs.Window.{term_again, holds_again, bodies_again}
-use Rattle.core_window.specs.Fold.{holds_folded}
+use Rattle.core_window.proofs.WindowLemmas.{term_again, holds_again, bodies_again}
+use Rattle.core_window.proofs.FoldLemmas.{holds_folded}
 use Rattle.core_window.specs.Windows.{atom_names, atom_depths}
-use Rattle.core_window.specs.Window.{atoms_again}
+use Rattle.core_window.proofs.WindowLemmas.{atoms_again}
 use Rattle.core_window.proofs.window_law.Goals as goal
 
 pub returns-clause-formulas : goal.returns-clause-formulas

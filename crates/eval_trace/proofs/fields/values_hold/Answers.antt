@@ -1,5 +1,5 @@
 use Rattle.std.proofs.Common.{◌∙◌, arith}
-use Rattle.core_window.specs.Same.{same_trans}
+use Rattle.core_window.proofs.SameLemmas.{same_trans}
 use Rattle.eval_tree.proofs.FoundLemmas.{said_true, said_false}
 use Rattle.eval_tree.proofs.FrontLemmas.{front_none, front_more}
 use Rattle.eval_trace.specs.Asked.{IsBounded}

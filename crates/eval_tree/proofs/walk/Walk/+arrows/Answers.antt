@@ -1,7 +1,7 @@
 use Rattle.std.proofs.Common.{◌↔◌, ◌++◌, ◌∙◌, Some, IsTrue, sym, ap, inl, inr, arith}
 use Rattle.core_tree.specs.Trees.{term_of}
 use Rattle.core_tuples.specs.Sets.{In}
-use Rattle.core_window.specs.Same.{same_trans}
+use Rattle.core_window.proofs.SameLemmas.{same_trans}
 use Rattle.eval_steps.specs.Judged.{scope_names, FitsAfter, FitsBefore, GoesAfter, GoesBefore}
 use Rattle.eval_tree.proofs.FoundLemmas.{if_ok_to, said_true, said_false}
 use Rattle.eval_tree.proofs.ListCases.{arrow_fails, arrow_fits, fits_yes, read_set}

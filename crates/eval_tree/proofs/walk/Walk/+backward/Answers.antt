@@ -4,7 +4,7 @@ use Rattle.core_tree.specs.Trees.{claim_of}
 use Rattle.eval_steps.specs.Judged.{scope_names, HoldsIn, Says, SaysFirst}
 use Rattle.eval_tree.proofs.FoundLemmas.{if_ok_to, says_said, said_true, said_false}
 use Rattle.eval_tree.proofs.TimeLaw.{since_here, since_stops, since_back}
-use Rattle.core_window.specs.Same.{same_trans}
+use Rattle.core_window.proofs.SameLemmas.{same_trans}
 use Rattle.eval_tree.proofs.walk.Walk.+backward.Goals as goal
 
 pub returns-then-here : goal.returns-then-here

@@ -10,7 +10,7 @@ use Rattle.core_tree.specs.declared.operators.TemporalBinary.{TemporalBinary}
 use Rattle.core_tree.specs.declared.operators.TemporalBinary.TheVariants.{Until, Releases, Since, Triggered, Then}
 use Rattle.core_tree.specs.Past.{one_more, under_unary, under_binary}
 use Rattle.core_meaning.specs.Operators.{Times, SomeLater, SomeEarlier, UntilAt, SinceAt, Happens, HappenBoth}
-use Rattle.core_window.specs.Same.{both_same, not_same, turn, same_trans}
+use Rattle.core_window.proofs.SameLemmas.{both_same, not_same, turn, same_trans}
 use Rattle.core_window.specs.Repeats.{uncounted}
 
 pub until_again : (F G : Times) (p i : ℕ) → ((j : ℕ) → i ≤ j → F j ↔ F (j + p)) → ((j : ℕ) → i ≤ j → G j ↔ G (j + p)) → UntilAt F G i ↔ UntilAt F G (i + p)

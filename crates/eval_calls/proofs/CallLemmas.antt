@@ -13,10 +13,10 @@ use Rattle.core_meaning.specs.World.{World}
 use Rattle.core_meaning.specs.Operators.{Tuples}
 use Rattle.core_meaning.specs.Meaning.{Names, Bodies, one_of, no_names, with_name, InTerm, passed}
 use Rattle.core_meaning.specs.Called.{InForm, FormHolds, InBody, BodyHolds, called, bodies_of}
-use Rattle.core_window.specs.Same.{same_trans, turn}
+use Rattle.core_window.proofs.SameLemmas.{same_trans, turn}
 use Rattle.eval_calls.specs.Weight.{most, weight_of_form, weight_of_called, calls_below, AreWeighed}
 use Rattle.eval_calls.specs.Entered.{entered}
-use Rattle.eval_calls.specs.Congruent.{self, SameNames, Agree, term_same, claim_same}
+use Rattle.eval_calls.proofs.CongruentLemmas.{self, SameNames, Agree, term_same, claim_same}
 use Rattle.core_window.specs.Repeats.{SameTuples}
 
 -- the greatest weight that says something

@@ -9,7 +9,7 @@ use Rattle.core_tree.specs.Past.{Depths, BodyDepths, past_in, past_of}
 use Rattle.core_meaning.specs.Sequence.{LassoValue, period}
 use Rattle.core_meaning.specs.World.{World}
 use Rattle.core_meaning.specs.Meaning.{Names, Bodies, InTerm, Holds}
-use Rattle.core_window.specs.Window.{term_again, holds_again}
+use Rattle.core_window.proofs.WindowLemmas.{term_again, holds_again}
 use Rattle.core_window.specs.Repeats.{SameTuples, uncounted, IsFar, HasLoop, RepeatNames, RepeatBodies, repeats_from, window_end, fold_of}
 
 -- what repeats after each round from m on

@@ -11,8 +11,8 @@ use Rattle.core_tree.specs.Trees.{Term, Terms, Variables, Claim, Claims, sig, fi
 use Rattle.core_meaning.specs.World.{World}
 use Rattle.core_meaning.specs.Operators.{Tuples, Times, IsNumber, UntilAt, SinceAt, Happens, HappenBoth}
 use Rattle.core_meaning.specs.Meaning.{Names, Bodies, one_of, with_name, atom, InTerm, passed, Picked, ForEach, Fits, Holds, HoldEach}
-use Rattle.core_window.specs.Same.{both_same, either_same, not_same, combined_same, product_same, unary_same, inside_same, equal_same, quantity_same, multiplicity_same, quantified_same, count_same, number_same, sum_same, compare_same, connects_same, chooses_same}
-use Rattle.core_window.specs.Shifts.{max-le_left, max-le_right}
+use Rattle.core_window.proofs.SameLemmas.{both_same, either_same, not_same, combined_same, product_same, unary_same, inside_same, equal_same, quantity_same, multiplicity_same, quantified_same, count_same, number_same, sum_same, compare_same, connects_same, chooses_same}
+use Rattle.core_window.proofs.ShiftLemmas.{max-le_left, max-le_right}
 use Rattle.eval_calls.specs.Weight.{most, both, on_one, on_two, weight_in, weight_of_terms, weight_of_bounds, weight_of, weight_of_each}
 use Rattle.core_window.specs.Repeats.{SameTuples}
 
