@@ -1,6 +1,6 @@
 -- Lemmas and their proofs; nothing to read here.
 -- Each operator on sets of tuples keeps that they are the same.
-use Rattle.std.specs.Prelude.{◌⊎◌, ◌↔◌, ◌≢◌, ℕ, List, [], ◌∷◌, ◌++◌, Contains, ℤ}
+use Rattle.std.specs.Prelude.{◌⊎◌, ◌↔◌, ℕ, List, [], ◌∷◌, ◌++◌, ℤ}
 use Rattle.std.proofs.Common.{inl, inr}
 use Rattle.core_tree.specs.declared.operators.Multiplicity.{Multiplicity}
 use Rattle.core_tree.specs.declared.operators.Multiplicity.TheVariants.{Set, One, Lone, Some}

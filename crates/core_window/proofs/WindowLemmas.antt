@@ -1,7 +1,7 @@
 -- Lemmas and their proofs; nothing to read here.
 -- The window law: far enough into the loop every expression has the same tuples, and every formula
 -- the same truth, one period later. So many rounds are enough as past operators are nested.
-use Rattle.std.specs.Prelude.{◌≡◌, ◌⊎◌, ◌↔◌, ℕ, zero, suc, ◌+◌, ◌-◌, ◌*◌, ◌%◌, ◌<◌, ◌≤◌, List, [], ◌∷◌, ◌++◌, length, max, Bool, true, false, eqb, if◌then◌else◌, slice_get, Option, Some, None, ℤ}
+use Rattle.std.specs.Prelude.{◌≡◌, ◌↔◌, ℕ, zero, suc, ◌+◌, ◌-◌, ◌%◌, ◌<◌, ◌≤◌, List, [], ◌∷◌, ◌++◌, length, max, Bool, true, false, eqb, if◌then◌else◌, slice_get, Option, Some, None, ℤ}
 use Rattle.std.proofs.Common.{inl, inr, refl, sym, ap, subst, ◌∙◌, arith}
 use Rattle.std.proofs.lemmas.Bool.{cases_lt, cond_below, cond_above}
 use Rattle.std.proofs.Math.Nat.{mod-eq_of_lt, add-mod_left}
@@ -15,8 +15,8 @@ use Rattle.core_meaning.specs.World.{World, InRelation, InUniverse}
 use Rattle.core_meaning.specs.Operators.{Tuples, IsNumber}
 use Rattle.core_meaning.specs.Meaning.{Names, Bodies, one_of, with_name, atom, no_names, InTerm, passed, Picked, ForEach, Fits, Holds, HoldEach}
 use Rattle.core_meaning.specs.Called.{no_bodies, InForm, FormHolds, InBody, BodyHolds, called, bodies_of}
-use Rattle.core_window.proofs.SameLemmas.{turn, both_same, either_same, not_same, combined_same, product_same, identity_same, unary_same, inside_same, equal_same, quantity_same, multiplicity_same, quantified_same, count_same, number_same, sum_same, compare_same, connects_same, chooses_same}
-use Rattle.core_window.proofs.ShiftLemmas.{le_trans, max-le_left, max-le_right, unary_again, binary_again}
+use Rattle.core_window.proofs.SameLemmas.{both_same, either_same, not_same, combined_same, product_same, identity_same, unary_same, inside_same, equal_same, quantity_same, multiplicity_same, quantified_same, count_same, number_same, sum_same, compare_same, connects_same, chooses_same}
+use Rattle.core_window.proofs.ShiftLemmas.{max-le_left, max-le_right, unary_again, binary_again}
 use Rattle.core_window.specs.Repeats.{SameTuples, uncounted, IsFar, HasLoop, next, RepeatsSet, RepeatNames, RepeatBodies}
 use Rattle.core_window.specs.Windows.{Binding, atom_names, atom_depths}
 
