@@ -274,10 +274,14 @@ fn names_then_colon(rest: &[Token]) -> bool {
     false
 }
 
+fn is_colon(of: &TokenKind) -> bool {
+    matches!(of, TokenKind::Symbol(Symbol::Colon))
+}
+
 /// How many tokens stand before the first colon.
 fn before_colon(rest: &[Token]) -> usize {
-    for (place, token) in rest.iter().enumerate() {
-        if matches!(&token.kind, TokenKind::Symbol(Symbol::Colon)) {
+    for place in 0..rest.len() {
+        if is_colon(&rest[place].kind) {
             return place;
         }
     }
