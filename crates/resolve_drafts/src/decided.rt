@@ -51,8 +51,7 @@ fn meaning_under(
     part: &Part,
     choice: &[usize],
 ) -> Result<Option<Meaning>, AllocError> {
-    let mut at = 0;
-    let fixed = fixed(alloc, part, choice, &mut at)?;
+    let fixed = fixed(alloc, part, choice)?;
     let all = found(alloc, typing, &fixed)?;
     first(alloc, all.as_slice())
 }
@@ -68,9 +67,7 @@ fn read(
     ensures { IfOk result (λ s. outcome_of s ≡ outcome.Read choice) }
 {
     let meaning = meaning_under(alloc, typing, part, choice.as_slice())?;
-    let mut at = 0;
-    let mut calls = Vec::new(alloc);
-    let built = built(alloc, draft, choice.as_slice(), &mut at, &mut calls)?;
+    let (built, calls) = built(alloc, draft, choice.as_slice())?;
     Ok(Settled::Read(Reading {
         choice,
         built,

@@ -55,23 +55,30 @@ fn candidate_tree(
     }
 }
 
-/// The tree of a name under a choice.
+/// The trees that are made so far under a choice, how many names are behind, and the calls.
+#[derive(Drop)]
+struct Building<'a> {
+    choice: &'a [usize],
+    at: usize,
+    calls: Vec<CallSite>,
+    trees: Vec<Built>,
+}
+
+/// The tree of a name under the choice.
 fn name_tree(
     alloc: Global,
     place: Position,
     candidates: &[Candidate],
-    choice: &[usize],
-    at: &mut usize,
-    calls: &mut Vec<CallSite>,
+    building: &mut Building<'_>,
 ) -> Result<Built, AllocError> {
-    let number = match choice.get(*at) {
+    let number = match building.choice.get(building.at) {
         None => return Ok(Built::Nothing),
         Some(number) => *number,
     };
-    *at = at.saturating_add(1);
+    building.at = building.at.saturating_add(1);
     match candidates.get(number) {
         None => Ok(Built::Nothing),
-        Some(candidate) => candidate_tree(alloc, place, candidate, calls),
+        Some(candidate) => candidate_tree(alloc, place, candidate, &mut building.calls),
     }
 }
 
@@ -262,51 +269,92 @@ fn let_tree(alloc: Global, name: u32, value: &Expr, body: Built) -> Result<Built
     }
 }
 
-/// The resolved tree of a draft, in which the choice names a candidate for each name in turn.
+/// What was made last, which is taken; it is no reading where there is nothing.
+fn last(trees: &mut Vec<Built>) -> Built {
+    match trees.pop() {
+        Some(tree) => tree,
+        None => Built::Nothing,
+    }
+}
+
+/// What was made last of two operands.
+fn last_two(trees: &mut Vec<Built>) -> Two {
+    let right = last(trees);
+    let left = last(trees);
+    both(left, right)
+}
+
+/// What a draft becomes, of whose operands the trees were made last.
+fn made(alloc: Global, draft: &Draft, building: &mut Building<'_>) -> Result<Built, AllocError> {
+    match draft {
+        Draft::Name(place, candidates) => {
+            name_tree(alloc, *place, candidates.as_slice(), building)
+        }
+        Draft::Known(_, tree) => Ok(Built::Term(tree.copy(alloc)?)),
+        Draft::Single(operator, _) => { single_built(alloc, *operator, last(&mut building.trees)) }
+        Draft::Pair(operator, _, _) => {
+            let right = last(&mut building.trees);
+            let left = last(&mut building.trees);
+            pair_built(alloc, *operator, left, right)
+        }
+        Draft::Arrow(_, first, second, _, _) => {
+            arrow(alloc, *first, *second, last_two(&mut building.trees))
+        }
+        Draft::Arithmetic(op, _, _) => arithmetic(alloc, *op, last_two(&mut building.trees)),
+        Draft::Compare(op, _, _) => compared(alloc, *op, last_two(&mut building.trees)),
+        Draft::Choose(condition, _, _) => {
+            choice_of(alloc, condition, last_two(&mut building.trees))
+        }
+        Draft::Let(name, value, _) => { let_tree(alloc, *name, value, last(&mut building.trees)) }
+    }
+}
+
+/// Puts what a draft becomes behind the others, in place of what its operands became. It isn't part
+/// of the walk's own frame, which has to be small: a row of operators is as deep as it is long.
+#[inline(never)]
+fn close(alloc: Global, draft: &Draft, building: &mut Building<'_>) -> Result<(), AllocError> {
+    let tree = made(alloc, draft, building)?;
+    building.trees.push(tree)?;
+    Ok(())
+}
+
+/// Puts what a draft becomes behind the others.
+fn add_built(alloc: Global, draft: &Draft, building: &mut Building<'_>) -> Result<(), AllocError> {
+    match draft {
+        Draft::Name(_, _) | Draft::Known(_, _) => {}
+        Draft::Single(_, inner) | Draft::Let(_, _, inner) => add_built(alloc, inner, building)?,
+        Draft::Pair(_, left, right)
+        | Draft::Arrow(_, _, _, left, right)
+        | Draft::Arithmetic(_, left, right)
+        | Draft::Compare(_, left, right)
+        | Draft::Choose(_, left, right) => {
+            add_built(alloc, left, building)?;
+            add_built(alloc, right, building)?;
+        }
+    }
+    close(alloc, draft, building)
+}
+
+/// The resolved tree of a draft, in which the choice names a candidate for each name in turn, and
+/// the calls in it.
 pub fn built(
     alloc: Global,
     draft: &Draft,
     choice: &[usize],
-    at: &mut usize,
-    calls: &mut Vec<CallSite>,
-) -> Result<Built, AllocError> {
-    match draft {
-        Draft::Name(place, candidates) => {
-            name_tree(alloc, *place, candidates.as_slice(), choice, at, calls)
-        }
-        Draft::Known(_, tree) => Ok(Built::Term(tree.copy(alloc)?)),
-        Draft::Single(operator, inner) => {
-            let inner = built(alloc, inner, choice, at, calls)?;
-            single_built(alloc, *operator, inner)
-        }
-        Draft::Pair(operator, left, right) => {
-            let left = built(alloc, left, choice, at, calls)?;
-            let right = built(alloc, right, choice, at, calls)?;
-            pair_built(alloc, *operator, left, right)
-        }
-        Draft::Arrow(_, first, second, left, right) => {
-            let left = built(alloc, left, choice, at, calls)?;
-            let right = built(alloc, right, choice, at, calls)?;
-            arrow(alloc, *first, *second, both(left, right))
-        }
-        Draft::Arithmetic(op, left, right) => {
-            let left = built(alloc, left, choice, at, calls)?;
-            let right = built(alloc, right, choice, at, calls)?;
-            arithmetic(alloc, *op, both(left, right))
-        }
-        Draft::Compare(comparison, left, right) => {
-            let left = built(alloc, left, choice, at, calls)?;
-            let right = built(alloc, right, choice, at, calls)?;
-            compared(alloc, *comparison, both(left, right))
-        }
-        Draft::Choose(condition, left, right) => {
-            let left = built(alloc, left, choice, at, calls)?;
-            let right = built(alloc, right, choice, at, calls)?;
-            choice_of(alloc, condition, both(left, right))
-        }
-        Draft::Let(name, value, inner) => {
-            let inner = built(alloc, inner, choice, at, calls)?;
-            let_tree(alloc, *name, value, inner)
-        }
-    }
+) -> Result<(Built, Vec<CallSite>), AllocError> {
+    let mut building = Building {
+        choice,
+        at: 0,
+        calls: Vec::new(alloc),
+        trees: Vec::new(alloc),
+    };
+    add_built(alloc, draft, &mut building)?;
+    let tree = last(&mut building.trees);
+    let Building {
+        choice: _,
+        at: _,
+        calls,
+        trees: _,
+    } = building;
+    Ok((tree, calls))
 }

@@ -1,5 +1,5 @@
 -- What is in a list that is made of other lists, and that such a list has no repeats.
-use Rattle.std.proofs.Common.{◌≡◌, ◌⊎◌, List, [], ◌∷◌, ◌++◌, Option, Some, None, refl, sym, ◌∙◌, ap, subst, inl, inr, cond, Bool, true, false}
+use Rattle.std.proofs.Common.{arith, ◌≤◌, ◌<◌, length, ◌≡◌, ◌⊎◌, List, [], ◌∷◌, ◌++◌, Option, Some, None, refl, sym, ◌∙◌, ap, subst, inl, inr, cond, Bool, true, false}
 use Rattle.std.specs.List.{filter, filter_map, cons_option}
 use Rattle.resolve_types.specs.Types.{pairs}
 
@@ -12,6 +12,12 @@ In (y ∷ ys) x = (y ≡ x) ⊎ In ys x
 abbrev pub Apart : {X : Type 0} → (X → X → Type 0) → List X → Type 0
 Apart {X} R [] = Unit {0}
 Apart {X} R (x ∷ xs) = ((y : X) → In xs y → R x y) × Apart R xs
+
+-- a list of one item
+pub one_of : {X : Type 0} (xs : List X) → 1 ≤ length xs → length xs < 2 → (x : X) × (xs ≡ x ∷ [])
+one_of [] some few = absurd (omega (arith, some))
+one_of (x ∷ []) some few = (x, refl)
+one_of (x ∷ y ∷ ys) some few = absurd (omega (arith, few))
 
 pub in_option : {X : Type 0} (o : Option X) (xs : List X) (z : X) → In (cons_option o xs) z → (o ≡ Some z) ⊎ In xs z
 in_option None xs z h = inr h

@@ -7,6 +7,6 @@ use Rattle.resolve_readings.proofs.choices.add_pairs.Goals as goal
 pub loop-other-preserved : goal.loop-other-preserved
 loop-other-preserved c =
     c.in_ok-push_some.ensures
-    ∙ ap (λ o. c.loop-other.all ++ cons_option o []) c.in_ok-pair_found.ensures
+    ∙ ap (λ o. c.loop-other.all.items ++ cons_option o []) c.in_ok-found.ensures
     ∙ ap (λ all. all ++ cons_option (paired c.args.typing.now c.args.operator c.args.left.now c.other-item.result) []) c.loop-other.invariant
-    ∙ filter_map_more (paired c.args.typing.now c.args.operator c.args.left.now) c.args.all.now c.args.others.now c.loop-other.other-index c.other-item.result c.loop-other-test.true c.other-item.is
+    ∙ filter_map_more (paired c.args.typing.now c.args.operator c.args.left.now) c.args.all.now.items c.args.others.now c.loop-other.other-index c.other-item.result c.loop-other-test.true c.other-item.is
