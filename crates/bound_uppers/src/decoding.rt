@@ -90,8 +90,11 @@ fn true_tuples(
     first: u64,
     assignment: &Assignment,
 ) -> Result<TupleSet, AllocError>
-    ensures { IfOk result (λ s. s ≡ record { arity = upper.now.arity; tuples = chosen
-        (λ place. truth assignment.now (first + place)) 0 upper.now.tuples }) }
+    ensures { IfOk result (λ s. s ≡ record {
+      arity = upper.now.arity;
+      tuples = chosen
+          (λ place. truth assignment.now (first + place)) 0 upper.now.tuples;
+    }) }
 {
     let mut set = empty_like(alloc, upper);
     for place in 0..upper.len() {

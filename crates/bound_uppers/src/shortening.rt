@@ -153,8 +153,10 @@ pub fn shortest(alloc: Global, lasso: &Lasso) -> Result<Lasso, AllocError>
 fn cut(alloc: Global, lasso: &Lasso, begin: usize, period: usize) -> Result<Lasso, AllocError>
     requires some { 0 < period }
     requires fits { begin + period ≤ length lasso.now.states }
-    ensures { IfOk result (λ l. l ≡ record { states = take (begin + period) lasso.now.states;
-        loop_start = begin }) }
+    ensures { IfOk result (λ l. l ≡ record {
+      states = take (begin + period) lasso.now.states;
+      loop_start = begin;
+    }) }
 {
     // for the proof: this call's clause says that the loop begins at one of the states
     let _count = lasso.states();
