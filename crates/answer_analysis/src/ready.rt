@@ -3,7 +3,7 @@
 ghost use Rattle.std.specs.Prelude.{◌≡◌, ◌<◌, ◌≤◌, map, IfOk, IfErr, length};
 ghost use Rattle.bound_uppers.specs.declared.table.Bound.{Bound};
 ghost use Rattle.bound_uppers.specs.Table.{IsTable, are_fixed};
-ghost use Rattle.bound_uppers.specs.Own.{HasOrigins};
+ghost use Rattle.bound_owners.specs.Own.{HasOrigins};
 ghost use Rattle.bound_uppers.specs.Uppers.{AreUppers};
 ghost use Rattle.core_meaning.specs.Kept.{universe_size};
 ghost use Rattle.answer_analysis.specs.Found.{IsLoadedFault, IsReady};

@@ -17,7 +17,7 @@ use Rattle.core_laws.proofs.Climbs.{Climb, Extending, get_within}
 use Rattle.core_laws.proofs.Standing.{IsPlainKind, tops}
 use Rattle.core_laws.proofs.Held.{IsGiven, top_there}
 use Rattle.core_laws.proofs.Fields.{given_of}
-use Rattle.bound_uppers.specs.Own.{HasOrigins, top_of, owner_at, does_own}
+use Rattle.bound_owners.specs.Own.{HasOrigins, top_of, owner_at, does_own}
 use Rattle.bound_laws.proofs.Moving.{Move, moving, kept, stays}
 use Rattle.bound_laws.proofs.Owning.{owner_is, owner_place, owner_one, owner_column, only_itself}
 use Rattle.bound_laws.proofs.Places.{owner_low, origin_up}

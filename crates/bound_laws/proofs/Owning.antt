@@ -18,9 +18,9 @@ use Rattle.core_meaning.specs.World.{InRelation}
 use Rattle.core_meaning.specs.Operators.{HasMultiplicity}
 use Rattle.core_meaning.specs.Kept.{world_of, first_atom}
 use Rattle.core_laws.specs.Typed.{IsTypedLasso, HasColumn, HasRow, ColumnsHaveAtoms, SigsOfOneAtom}
-use Rattle.bound_uppers.specs.Own.{is_one, is_single, does_extend, is_extended, is_constant, constants, fits, top_of, owner_at, owner_of, does_own, is_given}
+use Rattle.bound_owners.specs.Own.{is_one, is_single, does_extend, is_extended, is_constant, constants, fits, top_of, owner_at, owner_of, does_own, is_given}
 use Rattle.bound_uppers.specs.Given.{InColumnTable, InRowTable}
-use Rattle.bound_uppers.proofs.Owning.{own_listed, fitting, listed_constant}
+use Rattle.bound_owners.proofs.Owning.{own_listed, fitting, listed_constant}
 use Rattle.bound_laws.specs.Owning.{OwnersHave}
 use Rattle.bound_laws.proofs.Columns.{one_number}
 

@@ -8,8 +8,8 @@ use Rattle.core_tree.specs.declared.model.Sig.{Sig}
 use Rattle.core_meaning.specs.declared.scopes.Scopes.{Scopes}
 use Rattle.core_meaning.specs.Kept.{or_zero_number}
 use Rattle.core_laws.proofs.Climbs.{Climb, Extending}
-use Rattle.bound_uppers.specs.Own.{HasOrigins, is_constant, is_constant_of, constants, fits, top_of, owner_at, does_own}
-use Rattle.bound_uppers.proofs.Owning.{listed_constant}
+use Rattle.bound_owners.specs.Own.{HasOrigins, is_constant, is_constant_of, constants, fits, top_of, owner_at, does_own}
+use Rattle.bound_owners.proofs.Owning.{listed_constant}
 use Rattle.bound_laws.proofs.Owning.{owner_is, listed_owner}
 
 -- ---- the numbers of a range that pass

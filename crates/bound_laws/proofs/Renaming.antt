@@ -12,7 +12,7 @@ use Rattle.core_meaning.specs.Kept.{world_of, first_atom}
 use Rattle.core_meaning.specs.Satisfied.{SatisfiesWith}
 use Rattle.core_renaming.specs.Renamings.{ShowsRenamed}
 use Rattle.core_laws.specs.Typed.{IsTypedLasso, ColumnsHaveAtoms, SigsOfOneAtom}
-use Rattle.bound_uppers.specs.Own.{owner_at, does_own}
+use Rattle.bound_owners.specs.Own.{owner_at, does_own}
 use Rattle.bound_laws.specs.Satisfying.{IsRight, IsLassoOver}
 use Rattle.bound_laws.specs.Owning.{OwnersHave, OwnersCanHave}
 use Rattle.bound_laws.proofs.Moving.{Move, AreApart, moving, each_moves}

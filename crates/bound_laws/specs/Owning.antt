@@ -11,7 +11,7 @@ use Rattle.core_meaning.specs.Satisfied.{SatisfiesWith}
 use Rattle.core_renaming.specs.Renamings.{Renaming, ShowsRenamed}
 use Rattle.core_renaming.specs.Sigs.{KeepsSigs}
 use Rattle.bound_uppers.specs.declared.table.Bounds.{Bounds}
-use Rattle.bound_uppers.specs.Own.{HasOrigins, owner_at}
+use Rattle.bound_owners.specs.Own.{HasOrigins, owner_at}
 use Rattle.bound_uppers.specs.Candidates.{IsCandidate}
 use Rattle.bound_laws.specs.Satisfying.{IsRight, AreBoundsOf, IsLassoOver}
 

@@ -11,7 +11,7 @@ use Rattle.core_meaning.specs.Kept.{FitsModel, universe_size}
 use Rattle.core_meaning.specs.Satisfied.{SatisfiesWith}
 use Rattle.bound_uppers.specs.declared.table.Bound.{Bound}
 use Rattle.bound_uppers.specs.declared.table.Bounds.{Bounds}
-use Rattle.bound_uppers.specs.Own.{HasOrigins}
+use Rattle.bound_owners.specs.Own.{HasOrigins}
 use Rattle.bound_uppers.specs.Table.{are_fixed}
 use Rattle.bound_uppers.specs.Uppers.{AreUppers}
 use Rattle.bound_uppers.specs.Candidates.{IsCandidate}

@@ -23,7 +23,7 @@ use Rattle.bound_uppers.specs.declared.numbers.AtomRanges.{AtomRanges}
 use Rattle.bound_uppers.specs.declared.uppers.Sketch.{Sketch}
 use Rattle.bound_uppers.specs.Kinds.{kind_at, sig_kind, row_kinds_of, rows_kinds_of, HasRows, no_span, span_in, InSpan, HasSpans}
 use Rattle.bound_uppers.specs.declared.given.AtomSets.{AtomSets}
-use Rattle.bound_uppers.specs.Owned.{HasStanding}
+use Rattle.bound_owners.specs.Owned.{HasStanding}
 use Rattle.bound_uppers.specs.Given.{IsGiven, InColumnTable, InRowTable, InSigTable}
 use Rattle.bound_uppers.specs.AtomSets.{set_at, InKinds, InRows, AreGiven}
 use Rattle.bound_uppers.specs.Sketches.{first_in, literal_in, IsRightSketch, InSketch, IsSigSketch, IsFieldSketch, AreSketches, HasUppers}

@@ -16,13 +16,14 @@ use Rattle.core_meaning.specs.Kept.{first_atom, universe_size, or_zero_number}
 use Rattle.bound_uppers.specs.declared.numbers.AtomRange.{AtomRange}
 use Rattle.bound_uppers.specs.declared.numbers.AtomRanges.{AtomRanges}
 use Rattle.bound_uppers.specs.declared.given.AtomSets.{AtomSets}
-use Rattle.bound_uppers.specs.Kinds.{no_span, integers_kind, sig_kind, top_at, HasTops, HasSpans, InSpan}
-use Rattle.bound_uppers.specs.Own.{is_single, is_extended, is_constant, top_of, owners, owner_of, does_own, is_given, is_given_by, stands_as}
-use Rattle.bound_uppers.specs.Owned.{AreConstants, HasStanding}
+use Rattle.bound_owners.specs.Tops.{top_at, HasTops}
+use Rattle.bound_uppers.specs.Kinds.{no_span, integers_kind, sig_kind, HasSpans, InSpan}
+use Rattle.bound_owners.specs.Own.{is_single, is_extended, is_constant, top_of, owners, owner_of, does_own, is_given, is_given_by, stands_as}
+use Rattle.bound_owners.specs.Owned.{AreConstants, HasStanding}
 use Rattle.bound_uppers.specs.Given.{IsGiven, InColumnTable}
 use Rattle.bound_uppers.specs.AtomSets.{set_at, IsColumn, AreGiven, InSigSet, AreSigSets}
 use Rattle.bound_uppers.proofs.Exact.{those, of_integers, option_cases, nobody, sig_span, lacks_span}
-use Rattle.bound_uppers.proofs.Owning.{owns_is, none_owns, top_outside, same_either}
+use Rattle.bound_owners.proofs.Owning.{owns_is, none_owns, top_outside, same_either}
 use Rattle.bound_uppers.proofs.Sketching.{get_early, get_new}
 
 -- ---- one atom more, or none

@@ -12,18 +12,6 @@ use Rattle.bound_uppers.specs.Order.{with_owner, standings, order_in, one_at}
 use Rattle.bound_uppers.proofs.Weighing.{sum_more, before_place_cons}
 
 -- lists that grow
-pub range_at : (a n : ℕ) → range_with_len a (suc n) ≡ range_with_len a n ++ (a + n) ∷ []
-range_at a zero = let same : a ≡ a + 0 = omega arith in ap (λ (m : ℕ). m ∷ []) same
-range_at a (suc n) =
-    let same : a + 1 + n ≡ a + suc n = omega arith in
-    ap (λ (xs : List ℕ). a ∷ xs) (range_at (a + 1) n ∙ ap (λ (m : ℕ). range_with_len (a + 1) n ++ m ∷ []) same)
-
-pub range_up : (n : ℕ) → range_with_len 0 (n + 1) ≡ range_with_len 0 n ++ n ∷ []
-range_up n =
-    let one : n + 1 ≡ suc n = omega arith in
-    let same : 0 + n ≡ n = omega arith in
-    ap (range_with_len 0) one ∙ (range_at 0 n ∙ ap (λ (m : ℕ). range_with_len 0 n ++ m ∷ []) same)
-
 pub joined_end : (xs ys : List ℕ) (y : ℕ) → xs ++ (ys ++ y ∷ []) ≡ (xs ++ ys) ++ y ∷ []
 joined_end xs ys y = sym (append_assoc xs ys (y ∷ []))
 

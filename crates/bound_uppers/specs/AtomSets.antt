@@ -6,8 +6,9 @@ use Rattle.core_tree.specs.declared.model.Column.TheVariants.{Int as IntColumn}
 use Rattle.core_meaning.specs.declared.scopes.Scopes.{Scopes}
 use Rattle.core_meaning.specs.Kept.{universe_size}
 use Rattle.bound_uppers.specs.declared.given.AtomSets.{AtomSets}
-use Rattle.bound_uppers.specs.Kinds.{integers_kind, sig_kind, top_at}
-use Rattle.bound_uppers.specs.Own.{stands_as}
+use Rattle.bound_owners.specs.Tops.{top_at}
+use Rattle.bound_uppers.specs.Kinds.{integers_kind, sig_kind}
+use Rattle.bound_owners.specs.Own.{stands_as}
 use Rattle.bound_uppers.specs.Given.{IsGiven, InColumnTable}
 
 -- what a kind is given

@@ -9,7 +9,7 @@ use Rattle.core_tree.specs.declared.model.Field.{Field}
 use Rattle.core_tree.specs.Types.{TypeRow, sig_rows}
 use Rattle.core_meaning.specs.declared.scopes.Scopes.{Scopes}
 use Rattle.core_meaning.specs.Kept.{first_atom, IsAtomOf, InColumnBound, IsLiteral}
-use Rattle.bound_uppers.specs.Own.{top_of, owner_of, is_given}
+use Rattle.bound_owners.specs.Own.{top_of, owner_of, is_given}
 
 module _ (model : Model) (scopes : Scopes) where
   -- a is an atom of the top-level sig above a sig, and is given to the sig

@@ -1,22 +1,16 @@
 -- Kinds: what a column of a relation may have, and the tuples of rows of kinds.
-use Rattle.std.specs.Prelude.{◌≡◌, ◌<◌, ◌≤◌, ◌^◌, ◌↔◌, ℕ, ◌+◌, ◌-◌, if◌then◌else◌, eqb, nat_lt, List, [], ◌∷◌, map, length, Contains, Option, Some, None, slice_get, get_or}
+use Rattle.std.specs.Prelude.{◌≡◌, ◌<◌, ◌≤◌, ◌^◌, ◌↔◌, ℕ, ◌+◌, ◌-◌, if◌then◌else◌, eqb, nat_lt, List, [], ◌∷◌, map, length, Contains, get_or}
 use Rattle.core_tree.specs.declared.model.Sig.{Sig}
 use Rattle.core_tree.specs.declared.model.Column.{Column}
 use Rattle.core_tree.specs.declared.model.Column.TheVariants.{Sig as SigColumn, Int as IntColumn}
-use Rattle.core_tree.specs.Types.{TypeRow, TypeRows, by_parent, by_sig, sig_rows}
+use Rattle.core_tree.specs.Types.{TypeRow, TypeRows, sig_rows}
 use Rattle.core_meaning.specs.declared.scopes.SigScope.{SigScope}
 use Rattle.core_meaning.specs.declared.scopes.Scopes.{Scopes}
 use Rattle.core_tree.specs.Columns.{or_zero}
-use Rattle.core_meaning.specs.Kept.{top_above, atoms_of_sig, atom_count, universe_size}
+use Rattle.core_meaning.specs.Kept.{atoms_of_sig, atom_count, universe_size}
+use Rattle.bound_owners.specs.Tops.{top_at}
 use Rattle.bound_uppers.specs.declared.numbers.AtomRange.{AtomRange}
 use Rattle.bound_uppers.specs.declared.numbers.AtomRanges.{AtomRanges}
-
--- the sig that a sig extends, and the one that a `var` sig extends
-abbrev pub parent_at : List Sig → ℕ → Option ℕ
-parent_at sigs s = by_sig None (λ d. by_parent None (λ p. Some p) d.kind) (slice_get sigs s)
-
-abbrev pub moving_parent_at : List Sig → ℕ → Option ℕ
-moving_parent_at sigs s = by_sig None (λ d. if d.is_var then by_parent None (λ p. Some p) d.kind else None) (slice_get sigs s)
 
 -- the kind of the integers
 abbrev pub integers_kind : ℕ
@@ -26,18 +20,6 @@ integers_kind = 4294967295
 -- There are fewer sigs than the number before that of the integers
 abbrev pub sig_kind : ℕ → ℕ
 sig_kind top = if eqb top integers_kind then 4294967294 else top
-
--- as which sig a sig stands, as it is kept for each sig of the model
-abbrev pub top_at : List ℕ → ℕ → ℕ
-top_at ups s = get_or ups s s
-
-abbrev pub HasTops : List Sig → List ℕ → Type 0
-HasTops sigs ups = (s : ℕ) → top_at ups s ≡ top_above sigs (length sigs) s
-
--- those of the first sigs
-pub record AreTops (sigs : List Sig) (n : ℕ) (ups : List ℕ) : Type 0 where
-  pub count : length ups ≡ n
-  pub each : (s : ℕ) → s < n → top_at ups s ≡ top_above sigs (length sigs) s
 
 abbrev pub kind_at : List ℕ → Column → ℕ
 kind_at ups IntColumn = integers_kind

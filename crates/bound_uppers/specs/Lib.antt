@@ -8,8 +8,6 @@ pub mod Candidates
 pub mod Kinds
 pub mod Levels
 pub mod Sketches
-pub mod Own
-pub mod Owned
 pub mod Given
 pub mod AtomSets
 pub mod Uppers

@@ -3,15 +3,17 @@
 
 ghost use Rattle.std.specs.Prelude.{◌≡◌, ◌⊎◌, ◌<◌, ◌≤◌, ◌+◌, ◌-◌, ◌∷◌, [], ℕ, List, IsTrue, get_or, length, slice_get, IfOk, OnOk};
 ghost use Rattle.core_tuples.specs.Sets.{In, HasJust};
-ghost use Rattle.bound_uppers.specs.Kinds.{no_span, top_at, HasTops, HasSpans, InSpan};
-ghost use Rattle.bound_uppers.specs.Own.{is_given_by};
-ghost use Rattle.bound_uppers.specs.Owned.{AreConstantsOf, HasStanding};
+ghost use Rattle.bound_owners.specs.Tops.{top_at, HasTops};
+ghost use Rattle.bound_uppers.specs.Kinds.{no_span, HasSpans, InSpan};
+ghost use Rattle.bound_owners.specs.Own.{is_given_by};
+ghost use Rattle.bound_owners.specs.Owned.{AreConstantsOf, HasStanding};
 ghost use Rattle.bound_uppers.specs.AtomSets.{IsColumn, AreGiven, InSigSet, AreSigSets};
 
-use crate::kinds::{number_at, top_of};
+use crate::kinds::number_at;
 use crate::numbers::{AtomRange, AtomRanges};
-use crate::own::{Constants, does_own, gives, owners_of};
 use crate::rows::{add_number, span_set};
+use bound_owners::own::{Constants, does_own, gives, owners_of};
+use bound_owners::tops::top_of;
 use core_meaning::Scopes;
 use core_tree::{Model, Sig};
 use core_tuples::TupleSet;

@@ -6,12 +6,13 @@
 ghost use Rattle.std.specs.Prelude.{◌≡◌, ◌↔◌, ◌∷◌, ◌++◌, [], ℕ, suc, List, Contains, IfOk, OnOk, IsTrue, Some, ◌<◌, slice_get, slice_index, length};
 ghost use Rattle.core_tree.specs.declared.model.Sig.{Sig};
 ghost use Rattle.core_tree.specs.declared.model.Column.TheVariants.{Sig as SigColumn};
-ghost use Rattle.bound_uppers.specs.Kinds.{sig_kind, kind_at, top_at, row_kinds_of, rows_kinds_of, sig_kinds_of, HasRows};
+ghost use Rattle.bound_owners.specs.Tops.{top_at};
+ghost use Rattle.bound_uppers.specs.Kinds.{sig_kind, kind_at, row_kinds_of, rows_kinds_of, sig_kinds_of, HasRows};
 ghost use Rattle.core_tree.specs.Types.{parent_rows, sig_rows, standing};
 ghost use Rattle.std.specs.List.{flat_map};
 ghost use Rattle.bound_uppers.specs.Levels.{InLevel, HasMore, IsUp};
 
-use crate::tops::standing_of;
+use bound_owners::tops::{standing_of, top_of};
 use core_tree::{Column, Row, Sig, SigKind};
 use core_tuples::Tuple;
 use std::alloc::{AllocError, Global};
@@ -24,17 +25,6 @@ fn kind_of_top(top: u32) -> u32
     ensures { result ≡ sig_kind top }
 {
     if top == INTEGERS { INTEGERS - 1 } else { top }
-}
-
-/// As which sig a sig stands, where this is known of all sigs, as the top-level sig above it.
-pub fn top_of(ups: &[u32], sig: u32) -> u32
-    ensures { result ≡ top_at ups.now sig }
-{
-    if (sig as usize) < ups.len() {
-        ups[sig as usize]
-    } else {
-        sig
-    }
 }
 
 /// The kind of a column of a type.

@@ -9,13 +9,11 @@ pub mod laws;
 pub mod numbering;
 pub mod numbers;
 pub mod order;
-pub mod own;
 pub mod places;
 pub mod rows;
 pub mod shortening;
 pub mod sums;
 pub mod table;
-pub mod tops;
 pub mod uppers;
 
 pub use decoding::decode;

@@ -25,7 +25,7 @@ fn owner_place(sigs: u64, owner: Option<u32>) -> u64
 }
 
 /// With which sig each relation stands: the sigs, then the fields.
-#[tactic(auto, using(crate::proofs::Sizes::map_more, crate::proofs::Ranks::range_up, crate::proofs::Ranks::joined_end))]
+#[tactic(auto, using(crate::proofs::Sizes::map_more, bound_owners::proofs::Ranges::range_up, crate::proofs::Ranks::joined_end))]
 fn all_standings(alloc: Global, sigs: u64, fields: &[Field]) -> Result<Vec<u64>, AllocError>
     ensures { IfOk result (λ v. v.items ≡ standings sigs fields.now) }
 {

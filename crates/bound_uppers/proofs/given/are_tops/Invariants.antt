@@ -1,5 +1,5 @@
 use Rattle.std.proofs.Common.{◌≡◌, ◌<◌, ℕ}
-use Rattle.bound_uppers.specs.Kinds.{top_at}
+use Rattle.bound_owners.specs.Tops.{top_at}
 use Rattle.bound_uppers.proofs.given.are_tops.Given as goal
 
 abbrev pub invariant-loop-place : goal.invariant-loop-place

@@ -1,5 +1,5 @@
 use Rattle.std.proofs.Common.{ℕ, Option, ap, arith, ◌∙◌, slice_get}
-use Rattle.bound_uppers.specs.Own.{is_given_by}
+use Rattle.bound_owners.specs.Own.{is_given_by}
 use Rattle.bound_uppers.proofs.Giving.{given_more, given_all}
 use Rattle.bound_uppers.proofs.given.given_atoms.Goals as goal
 

@@ -1,6 +1,6 @@
 use Rattle.std.proofs.Common.{slice_get}
 use Rattle.core_tuples.specs.Sets.{HasJust}
-use Rattle.bound_uppers.specs.Own.{is_given_by}
+use Rattle.bound_owners.specs.Own.{is_given_by}
 use Rattle.bound_uppers.proofs.Giving.{InGivenFirst}
 use Rattle.bound_uppers.proofs.given.given_atoms.Given as goal
 

@@ -4,7 +4,7 @@ use Rattle.core_tree.specs.declared.model.Sig.{Sig}
 use Rattle.core_meaning.specs.declared.scopes.SigScope.{SigScope}
 use Rattle.bound_uppers.specs.declared.numbers.AtomRange.{AtomRange}
 use Rattle.bound_uppers.specs.Kinds.{InSpan}
-use Rattle.bound_uppers.specs.Own.{owners, is_given_by}
+use Rattle.bound_owners.specs.Own.{owners, is_given_by}
 use Rattle.bound_uppers.proofs.Exact.{fits_sig}
 use Rattle.bound_uppers.proofs.Giving.{owns_of, sig_given}
 use Rattle.bound_uppers.proofs.given.sig_set.Goals as goal

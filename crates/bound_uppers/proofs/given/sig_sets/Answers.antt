@@ -1,6 +1,6 @@
 use Rattle.std.proofs.Common.{◌+◌, ℕ, length, ap, sym, ◌∙◌, subst, arith}
 use Rattle.core_tuples.specs.Sets.{HasJust}
-use Rattle.bound_uppers.specs.Kinds.{top_at}
+use Rattle.bound_owners.specs.Tops.{top_at}
 use Rattle.bound_uppers.specs.AtomSets.{InSigSet}
 use Rattle.bound_uppers.proofs.Giving.{sets_more, sets_all}
 use Rattle.bound_uppers.proofs.given.sig_sets.Goals as goal

@@ -1,6 +1,6 @@
 use Rattle.std.proofs.Common.{ℕ, List, sym, subst}
 use Rattle.core_tree.specs.declared.model.Sig.{Sig}
-use Rattle.bound_uppers.specs.Kinds.{HasTops}
+use Rattle.bound_owners.specs.Tops.{HasTops}
 use Rattle.bound_uppers.proofs.uppers.bounds.Goals as goal
 
 pub given_table-requires-clause-tops : goal.given_table-requires-clause-tops

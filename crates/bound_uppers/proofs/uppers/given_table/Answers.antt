@@ -2,9 +2,9 @@ use Rattle.std.proofs.Common.{◌≡◌, ℕ, List, All, map, length, ap, sym, �
 use Rattle.core_tree.specs.declared.model.Sig.{Sig}
 use Rattle.core_meaning.specs.declared.scopes.SigScope.{SigScope}
 use Rattle.bound_uppers.specs.declared.uppers.Sketch.{Sketch}
-use Rattle.bound_uppers.specs.Kinds.{HasTops}
-use Rattle.bound_uppers.specs.Own.{HasOrigins}
-use Rattle.bound_uppers.specs.Owned.{AreConstantsOf, HasStanding}
+use Rattle.bound_owners.specs.Tops.{HasTops}
+use Rattle.bound_owners.specs.Own.{HasOrigins}
+use Rattle.bound_owners.specs.Owned.{AreConstantsOf, HasStanding}
 use Rattle.bound_uppers.specs.Sketches.{IsRightSketch, AreSketches, HasUppers}
 use Rattle.bound_uppers.specs.Table.{are_fixed}
 use Rattle.bound_uppers.proofs.Exact.{uppers_are}

@@ -1,0 +1,3 @@
+pub mod Ranges
+pub mod Climbing
+pub mod Owning

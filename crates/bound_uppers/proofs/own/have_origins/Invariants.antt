@@ -1,5 +1,0 @@
-use Rattle.bound_uppers.proofs.Owning.{HasOriginsTo}
-use Rattle.bound_uppers.proofs.own.have_origins.Given as goal
-
-abbrev pub invariant-loop-sig : goal.invariant-loop-sig
-invariant-loop-sig l = HasOriginsTo l.sigs l.sig-index

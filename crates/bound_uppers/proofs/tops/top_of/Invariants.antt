@@ -1,6 +1,0 @@
-use Rattle.std.proofs.Common.{◌≡◌, ◌-◌, length}
-use Rattle.core_meaning.specs.Kept.{top_above}
-use Rattle.bound_uppers.proofs.tops.top_of.Given as goal
-
-abbrev pub invariant-loop-step : goal.invariant-loop-step
-invariant-loop-step l = top_above l.sigs (length l.sigs - l._step) l.top ≡ top_above l.sigs (length l.sigs) l.sig
