@@ -103,9 +103,6 @@ or_second false b h = h
 and_two : (p q : Bool) → p ≡ true → q ≡ true → p && q ≡ true
 and_two p q e f = let g : true && true ≡ true = refl in cc
 
-pub early_none : (u : Universe) (value : Node → Bool) (z : ℤ) (t : List ℕ) → (has value [] t ≡ true) ↔ IsEarly u 0 z t
-early_none u value z t = ((λ h. absurd (false≢true h)), (λ s. absurd (omega (arith, s.1))))
-
 pub early_more : (u : Universe) (value : Node → Bool) (es : List Entry) (e : Entry) (k : ℕ) (z : ℤ) (t : List ℕ) → e.tuple ≡ (u.atoms + k) ∷ [] → ((value e.node ≡ true) ↔ (z ≡ from_bits u.bits (amount_from u k))) → ((has value es t ≡ true) ↔ IsEarly u k z t) → (has value (es ++ e ∷ []) t ≡ true) ↔ IsEarly u (k + 1) z t
 early_more u value es e k z t tuple here before =
     let here_too = is_same e.tuple t && value e.node in

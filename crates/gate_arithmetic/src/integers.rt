@@ -5,7 +5,6 @@ ghost use Rattle.gate_trait.specs.Built.{Keeps, AllIn};
 ghost use Rattle.core_tree.specs.declared.operators.IntOp.TheVariants.{Add, Sub, Mul, Div, Rem};
 ghost use Rattle.core_meaning.specs.Integers.{wrap, result_of};
 ghost use Rattle.gate_integers.specs.Numbers.{signed};
-ghost use Rattle.gate_arithmetic.specs.Integers.{AllBits, bits_at, TwoNumbers};
 
 use core_tree::IntOp;
 use gate_integers::Bits;
@@ -137,22 +136,4 @@ pub fn operate<G: Gates>(
         IntOp::Div => quotient_of(alloc, gates, a, b),
         IntOp::Rem => remainder_of(alloc, gates, a, b),
     }
-}
-
-/// What an operator gives of its two operands, wrapped to their width.
-pub fn integer_op<G: Gates>(
-    alloc: Global,
-    gates: &mut G,
-    op: IntOp,
-    operands: &[Bits],
-) -> Result<Bits, AllocError>
-    requires belong { AllBits (G.belongs gates.old) operands.now }
-    requires fit { TwoNumbers operands.now }
-    ensures keeps { Keeps G.belongs G.node_value gates.old gates.new }
-    ensures belongs { IfOk result (λ s. AllIn (G.belongs gates.new) s) }
-    ensures width { IfOk result (λ s. length s ≡ length (bits_at operands.now 0)) }
-    ensures value { IfOk result (λ s. (x : ℕ → Bool) → signed (G.node_value gates.new x) s
-        ≡ wrap (length (bits_at operands.now 0)) (result_of op (signed (G.node_value gates.old x) (bits_at operands.now 0)) (signed (G.node_value gates.old x) (bits_at operands.now 1)))) }
-{
-    operate(alloc, gates, op, &operands[0], &operands[1])
 }

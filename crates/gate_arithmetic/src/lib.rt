@@ -6,6 +6,6 @@ pub mod integers;
 pub mod members;
 pub mod singles;
 
-pub use integers::{integer_op, operate};
+pub use integers::operate;
 pub use members::integer_of;
 pub use singles::matrix_of;

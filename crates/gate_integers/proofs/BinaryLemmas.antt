@@ -1,9 +1,8 @@
 -- Lemmas and their proofs; nothing to read here.
 -- They are on the numbers that truth values mean.
-use Rattle.std.proofs.Common.{◌≡◌, ℕ, zero, suc, ◌+◌, ◌-◌, ◌*◌, ◌%◌, ◌^◌, ◌<◌, nat_lt, Bool, true, false, not, cond, inl, inr, List, [], ◌∷◌, ◌++◌, length, take, map, get_or, replicate, refl, sym, ◌∙◌, ap, arith, length-take}
+use Rattle.std.proofs.Common.{◌≡◌, ℕ, zero, suc, ◌+◌, ◌-◌, ◌*◌, ◌%◌, ◌^◌, ◌<◌, nat_lt, Bool, true, false, not, cond, inl, inr, List, [], ◌∷◌, ◌++◌, length, map, replicate, refl, sym, ◌∙◌, ap, arith}
 use Rattle.std.proofs.Math.Nat.{pow-succ'}
 use Rattle.std.proofs.lemmas.Nat.{mod-mul-add}
-use Rattle.std.proofs.lemmas.List.{take_more}
 use Rattle.std.proofs.lemmas.Bool.{cases_lt}
 use Rattle.std.proofs.lemmas.Bool.Decides.{nat_tests}
 use Rattle.gate_trait.specs.Built.{xor}
@@ -26,12 +25,6 @@ binary_push (c ∷ bs) b =
     let h = binary_push bs b in
     let p = ap (λ (k : ℕ). k * bit b) (pow_more (length bs)) in
     omega (arith, h, p)
-
-pub binary_take : (bs : List Bool) (i : ℕ) (d : Bool) → i < length bs → binary (take (i + 1) bs) ≡ binary (take i bs) + 2 ^ i * bit (get_or bs i d)
-binary_take bs i d lt =
-    let long : length (take i bs) ≡ i = omega (arith, length-take i bs) in
-    ap binary (take_more bs i d lt) ∙ binary_push (take i bs) (get_or bs i d)
-    ∙ ap (λ (k : ℕ). binary (take i bs) + 2 ^ k * bit (get_or bs i d)) long
 
 pub binary_below : (bs : List Bool) → binary bs < 2 ^ length bs
 binary_below [] = omega arith
@@ -76,10 +69,6 @@ digit_law a b c half sum carry eh es ec =
 -- one more digit of a sum
 pub sum_step : (n p s d a b c na nb k : ℕ) → n + p * c ≡ na + nb + k → s + 2 * d ≡ a + b + c → (n + p * s) + (2 * p) * d ≡ (na + p * a) + (nb + p * b) + k
 sum_step n p s d a b c na nb k h e = omega (arith, h, ap (λ (j : ℕ). p * j) e)
-
--- the bits of a number and its negation
-pub negated_sum : (s p c m n : ℕ) → s < p → m + n + 1 ≡ p → s + p * c ≡ m + 0 + 1 → s ≡ (p - n) % p
-negated_sum s p c m n small e h = wraps s p c (p - n) small (omega (arith, e, h))
 
 -- one more bit decides a comparison
 pub less_step : (p m n : ℕ) (A B : Bool) → m < p → n < p → cond (xor A B) B (nat_lt m n) ≡ nat_lt (m + p * bit A) (n + p * bit B)

@@ -1,18 +1,17 @@
 -- Lemmas and their proofs; nothing to read here.
 -- Entries in order: each tuple has one node at most, and its entry is found.
-use Rattle.std.proofs.Common.{All, ◌≡◌, ℕ, suc, zero, ◌<◌, Bool, true, false, ◌&&◌, ◌||◌, cond, List, [], ◌∷◌, length, get_or, Option, Some, Result, Ok, Err, OnOk, OnErr, subst, sym, ap, ◌∙◌, refl, arith, inl, inr}
+use Rattle.std.proofs.Common.{◌≡◌, ℕ, suc, zero, ◌<◌, Bool, true, false, ◌&&◌, ◌||◌, cond, List, [], ◌∷◌, length, get_or, Option, Some, sym, ap, ◌∙◌, refl, arith, inl, inr}
 use Rattle.std.specs.declared.cmp.Ordering.TheVariants.{Less}
 use Rattle.std.specs.List.{AllByRecursion}
 use Rattle.std.specs.List.Sorted.{IsStrictlySortedBy}
 use Rattle.std.specs.Cmp.Lexicographic.{nat_list_eq_equiv}
 use Rattle.std.proofs.lemmas.Bool.{cases_Bool}
-use Rattle.std.proofs.lemmas.List.Elements.{All-contains}
 use Rattle.gate_trait.specs.declared.node.Node.{Node}
 use Rattle.gate_trait.specs.Built.{Keeps}
 use Rattle.core_tuples.specs.Sets.{tuple_cmp, is_same}
 use Rattle.core_tuples.proofs.OrderedLemmas.{same_exact, same_itself, apart, or_false}
 use Rattle.gate_matrix.specs.declared.entry.Entry.{Entry}
-use Rattle.gate_matrix.specs.Matrices.{MatrixEntries, IsMatrix, IsPut, AllBelong, tuples_of, node_at, truth_of, truth, has}
+use Rattle.gate_matrix.specs.Matrices.{MatrixEntries, IsMatrix, AllBelong, tuples_of, node_at, truth_of, truth, has}
 use Rattle.gate_matrix.proofs.BasicLemmas.{option_kept, found_belongs}
 
 pub rec_at : (P : List ℕ → Type 0) (es : List Entry) (k : ℕ) (d : Entry) → AllByRecursion P (tuples_of es) → k < length es → P (get_or es k d).tuple
@@ -69,30 +68,3 @@ truth_here value m k e i lt is =
 -- matrices whose nodes belong mean the same in a circuit that has grown
 pub truth_kept : {S : Type 0} (belongs : S → Node → Type 0) (value : S → (ℕ → Bool) → Node → Bool) (g h : S) → Keeps belongs value g h → (m : MatrixEntries) → AllBelong (belongs g) m.entries → (x : ℕ → Bool) (t : List ℕ) → truth (value h x) m t ≡ truth (value g x) m t
 truth_kept belongs value g h keeps m b x t = option_kept belongs value g h keeps (node_at m.entries t) x (λ n is. found_belongs (belongs g) m.entries t n b is)
-
--- nodes that belong still do where one that belongs is put
-pub put_belongs : (belongs : Node → Type 0) (old new : MatrixEntries) (tuple : List ℕ) (node : Node) → IsPut old tuple node new → AllBelong belongs old.entries → belongs node → AllBelong belongs new.entries
-put_belongs belongs old new tuple node put all here = λ k d lt. elim (put.from k d lt) [
-  | inl e ↦ subst belongs (sym e.1) here
-  | inr there ↦ let P : Entry → Type 0 = λ e. belongs e.node in All-contains P old.entries (get_or new.entries k d) all there
-]
-
--- what all tuples have, they still have where one that has it is put
-pub put_tuples : (P : List ℕ → Type 0) (old new : MatrixEntries) (tuple : List ℕ) (node : Node) → IsPut old tuple node new → All (λ e. P e.tuple) old.entries → P tuple → All (λ e. P e.tuple) new.entries
-put_tuples P old new tuple node put all here = λ k d lt. elim (put.from k d lt) [
-  | inl e ↦ subst P (sym e.0) here
-  | inr there ↦ let Q : Entry → Type 0 = λ e. P e.tuple in All-contains Q old.entries (get_or new.entries k d) all there
-]
-
--- the same whether memory sufficed or not
-pub put_columns : {T E : Type 0} (r : Result T E) (old new : MatrixEntries) (tuple : List ℕ) (node : Node) → OnOk r (IsPut old tuple node new) → OnErr r (new ≡ old) → new.arity ≡ old.arity
-put_columns (Ok v) old new tuple node put same = put.columns
-put_columns (Err e) old new tuple node put same = ap (λ (m : MatrixEntries). m.arity) same
-
-pub put_all : {T E : Type 0} (r : Result T E) (belongs : Node → Type 0) (old new : MatrixEntries) (tuple : List ℕ) (node : Node) → OnOk r (IsPut old tuple node new) → OnErr r (new ≡ old) → AllBelong belongs old.entries → belongs node → AllBelong belongs new.entries
-put_all (Ok v) belongs old new tuple node put same all here = put_belongs belongs old new tuple node put all here
-put_all (Err e) belongs old new tuple node put same all here = subst (λ (m : MatrixEntries). AllBelong belongs m.entries) (sym same) all
-
-pub put_all_tuples : {T E : Type 0} (r : Result T E) (P : List ℕ → Type 0) (old new : MatrixEntries) (tuple : List ℕ) (node : Node) → OnOk r (IsPut old tuple node new) → OnErr r (new ≡ old) → All (λ e. P e.tuple) old.entries → P tuple → All (λ e. P e.tuple) new.entries
-put_all_tuples (Ok v) P old new tuple node put same all here = put_tuples P old new tuple node put all here
-put_all_tuples (Err e) P old new tuple node put same all here = subst (λ (m : MatrixEntries). All (λ e. P e.tuple) m.entries) (sym same) all

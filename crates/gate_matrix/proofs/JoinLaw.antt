@@ -1,5 +1,5 @@
 -- What the entries that are joined say of the join.
-use Rattle.std.proofs.Common.{◌≡◌, ℕ, zero, suc, ◌+◌, ◌-◌, ◌<◌, ◌≤◌, Bool, true, false, ◌&&◌, ◌||◌, eqb, List, [], ◌∷◌, ◌++◌, length, take, drop, get_or, refl, sym, ◌∙◌, ap, subst, arith, All, length-take, length-append, length-drop, take_all, Option, Some, cond, inl, inr, Result, Ok, Err, IfOk, ◌↔◌}
+use Rattle.std.proofs.Common.{◌≡◌, ℕ, zero, suc, ◌+◌, ◌-◌, ◌<◌, ◌≤◌, Bool, true, false, ◌&&◌, ◌||◌, eqb, List, [], ◌∷◌, ◌++◌, length, take, drop, get_or, refl, sym, ◌∙◌, ap, subst, arith, All, length-append, length-drop, take_all, Option, Some, cond, inl, inr, Result, Ok, Err, IfOk, ◌↔◌}
 use Rattle.std.specs.List.{list_any}
 use Rattle.std.proofs.lemmas.List.Elements.{All-take, All-drop, All-append}
 use Rattle.std.proofs.lemmas.List.Folds.{Any-from_list_any, list_any_at}
@@ -21,14 +21,6 @@ two_values e f = cc
 
 pub part_all : (P : Entry → Type 0) (row right : List Entry) → ((i : ℕ) × (n : ℕ) × (row ≡ take n (drop i right))) → All P right → All P row
 part_all P row right part all = subst (λ (es : List Entry). All P es) (sym part.2) (All-take P part.1 (drop part.0 right) (All-drop P part.0 right all))
-
-pub join_columns : (numbers : List ℕ) (e : Entry) (j k : ℕ) (row right : List Entry) → ((i : ℕ) × (n : ℕ) × (row ≡ take n (drop i right))) → numbers ≡ e.tuple → 1 ≤ length e.tuple → length e.tuple ≡ j → All (λ f. length f.tuple ≡ k) right → All (λ f. 1 ≤ length f.tuple) right → All (λ f. length (front_of numbers) + (length f.tuple - 1) ≡ j + k - 2) row
-join_columns numbers e j k row right part is long wide widths longs = λ i d lt.
-    let w = part_all (λ (f : Entry). length f.tuple ≡ k) row right part widths i d lt in
-    let l = part_all (λ (f : Entry). 1 ≤ length f.tuple) row right part longs i d lt in
-    let n : length numbers ≡ j = ap (λ (s : List ℕ). length s) is ∙ wide in
-    let big : 1 ≤ length numbers = omega arith in
-    omega (arith, length-take (length numbers - 1) numbers)
 
 row_kept : {S : Type 0} (belongs : S → Node → Type 0) (value : S → (ℕ → Bool) → Node → Bool) (g h : S) → Keeps belongs value g h → (head : List ℕ) (node : Node) (skip : ℕ) (es : List Entry) → belongs g node → AllBelong (belongs g) es → (x : ℕ → Bool) (t : List ℕ) → has_row (value h x) head node skip es t ≡ has_row (value g x) head node skip es t
 row_kept belongs value g h keeps head node skip [] there b x t = refl

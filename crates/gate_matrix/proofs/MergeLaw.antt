@@ -154,35 +154,35 @@ module _ (xs ys : List Entry) (i j : ℕ) where
   front = heads (tuples_of (drop i xs)) (tuples_of (drop j ys))
 
   -- where a list is at its end, only the other goes on
-  pub less_within : front ≡ Less → i < length xs
+  pub less_within : Less ≡ front → i < length xs
   less_within e = elim (cases_lt i (length xs)) [
     | inl lt ↦ lt
-    | inr le ↦ absurd (not_less (tuples_of (drop j ys)) (sym (ap (λ (zs : List Entry). heads (tuples_of zs) (tuples_of (drop j ys))) (drop_all i xs le)) ∙ e))
+    | inr le ↦ absurd (not_less (tuples_of (drop j ys)) (sym (ap (λ (zs : List Entry). heads (tuples_of zs) (tuples_of (drop j ys))) (drop_all i xs le)) ∙ sym e))
   ]
     where
       not_less : (zs : List (List ℕ)) → heads [] zs ≡ Less → ⊥
       not_less [] h = cc
       not_less (z ∷ zs) h = cc
 
-  pub greater_within : front ≡ Greater → j < length ys
+  pub greater_within : Greater ≡ front → j < length ys
   greater_within e = elim (cases_lt j (length ys)) [
     | inl lt ↦ lt
-    | inr le ↦ absurd (not_greater (tuples_of (drop i xs)) (sym (ap (λ (zs : List Entry). heads (tuples_of (drop i xs)) (tuples_of zs)) (drop_all j ys le)) ∙ e))
+    | inr le ↦ absurd (not_greater (tuples_of (drop i xs)) (sym (ap (λ (zs : List Entry). heads (tuples_of (drop i xs)) (tuples_of zs)) (drop_all j ys le)) ∙ sym e))
   ]
     where
       not_greater : (zs : List (List ℕ)) → heads zs [] ≡ Greater → ⊥
       not_greater [] h = cc
       not_greater (z ∷ zs) h = cc
 
-  pub equal_within : front ≡ Equal → (i < length xs) ⊎ (j < length ys) → (i < length xs) × (j < length ys)
+  pub equal_within : Equal ≡ front → (i < length xs) ⊎ (j < length ys) → (i < length xs) × (j < length ys)
   equal_within e some = elim (cases_lt i (length xs)) [
     | inl lt ↦ elim (cases_lt j (length ys)) [
       | inl lt' ↦ (lt, lt')
-      | inr le' ↦ absurd (no_end (drop i xs) (omega (arith, length-drop i xs)) (sym (ap (λ (zs : List Entry). heads (tuples_of (drop i xs)) (tuples_of zs)) (drop_all j ys le')) ∙ e))
+      | inr le' ↦ absurd (no_end (drop i xs) (omega (arith, length-drop i xs)) (sym (ap (λ (zs : List Entry). heads (tuples_of (drop i xs)) (tuples_of zs)) (drop_all j ys le')) ∙ sym e))
     ]
     | inr le ↦ elim some [
       | inl lt ↦ absurd (omega arith)
-      | inr lt' ↦ absurd (no_start (drop j ys) (omega (arith, length-drop j ys)) (sym (ap (λ (zs : List Entry). heads (tuples_of zs) (tuples_of (drop j ys))) (drop_all i xs le)) ∙ e))
+      | inr lt' ↦ absurd (no_start (drop j ys) (omega (arith, length-drop j ys)) (sym (ap (λ (zs : List Entry). heads (tuples_of zs) (tuples_of (drop j ys))) (drop_all i xs le)) ∙ sym e))
     ]
   ]
     where
@@ -195,9 +195,6 @@ module _ (xs ys : List Entry) (i j : ℕ) where
       no_start (z ∷ zs) long h = cc
 
 -- which list goes on with the lower tuple, at places of both
-pub front_ends : (xs ys : List Entry) (i j : ℕ) → length xs ≤ i → length ys ≤ j → Equal ≡ heads (tuples_of (drop i xs)) (tuples_of (drop j ys))
-front_ends xs ys i j le le' = sym (ap (λ (zs : List Entry). heads (tuples_of zs) (tuples_of (drop j ys))) (drop_all i xs le) ∙ ap (λ (zs : List Entry). heads [] (tuples_of zs)) (drop_all j ys le'))
-
 pub front_second : (xs ys : List Entry) (i j : ℕ) → length xs ≤ i → j < length ys → Greater ≡ heads (tuples_of (drop i xs)) (tuples_of (drop j ys))
 front_second xs ys i j le lt = greater_start (drop j ys) (omega (arith, length-drop j ys)) ∙ sym (ap (λ (zs : List Entry). heads (tuples_of zs) (tuples_of (drop j ys))) (drop_all i xs le))
   where
@@ -220,7 +217,7 @@ front_both xs ys i j e d lt lt' is is' =
 module _ {S : Type 0} (belongs : S → Node → Type 0) (value : S → (ℕ → Bool) → Node → Bool) (arity : ℕ) (rule : Rule) (f g h : S) (a b all : List Entry) (kept : Keeps belongs value g h) (o : Option Node) (a_belong : AllBelong (belongs f) a) (b_belong : AllBelong (belongs f) b) (i j : ℕ) (m : Merging belongs value arity rule f g a b all (drop i a) (drop j b)) where
   pub first_at : (e : Entry) → Less ≡ heads (tuples_of (drop i a)) (tuples_of (drop j b)) → e ≡ get_or a i e → OptionComputes belongs value h o (λ y. combine rule (value g y e.node) false) → Merging belongs value arity rule f h a b (all ++ entries_of e.tuple o) (drop (i + 1) a) (drop j b)
   first_at e less is made =
-      let lt : i < length a = less_within a b i j (sym less) in
+      let lt : i < length a = less_within a b i j less in
       let opened : drop i a ≡ e ∷ drop (i + 1) a = open_entry a i e lt is in
       let there : belongs f e.node = all_here (λ (d : Entry). belongs f d.node) a i e a_belong lt is in
       first_step belongs value arity rule f g h a b all kept o e there (drop (i + 1) a) (drop j b)
@@ -229,7 +226,7 @@ module _ {S : Type 0} (belongs : S → Node → Type 0) (value : S → (ℕ → 
 
   pub second_at : (e : Entry) → Greater ≡ heads (tuples_of (drop i a)) (tuples_of (drop j b)) → e ≡ get_or b j e → OptionComputes belongs value h o (λ y. combine rule false (value g y e.node)) → Merging belongs value arity rule f h a b (all ++ entries_of e.tuple o) (drop i a) (drop (j + 1) b)
   second_at e less is made =
-      let lt : j < length b = greater_within a b i j (sym less) in
+      let lt : j < length b = greater_within a b i j less in
       let opened : drop j b ≡ e ∷ drop (j + 1) b = open_entry b j e lt is in
       let there : belongs f e.node = all_here (λ (d : Entry). belongs f d.node) b j e b_belong lt is in
       second_step belongs value arity rule f g h a b all kept o e there (drop (j + 1) b) (drop i a)
@@ -238,7 +235,7 @@ module _ {S : Type 0} (belongs : S → Node → Type 0) (value : S → (ℕ → 
 
   pub both_at : (e d : Entry) → Equal ≡ heads (tuples_of (drop i a)) (tuples_of (drop j b)) → (i < length a) ⊎ (j < length b) → e ≡ get_or a i e → d ≡ get_or b j d → OptionComputes belongs value h o (λ y. combine rule (value g y e.node) (value g y d.node)) → Merging belongs value arity rule f h a b (all ++ entries_of e.tuple o) (drop (i + 1) a) (drop (j + 1) b)
   both_at e d equal some is is' made =
-      let within = equal_within a b i j (sym equal) some in
+      let within = equal_within a b i j equal some in
       let opened : drop i a ≡ e ∷ drop (i + 1) a = open_entry a i e within.0 is in
       let opened' : drop j b ≡ d ∷ drop (j + 1) b = open_entry b j d within.1 is' in
       let there : belongs f e.node = all_here (λ (c : Entry). belongs f c.node) a i e a_belong within.0 is in

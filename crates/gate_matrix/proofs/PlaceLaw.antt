@@ -102,9 +102,6 @@ found_here es t i e is at =
 
 -- ---- a node that is put
 
-same_once : (s t u : List ℕ) → is_same s u ≡ true → is_same t u ≡ true → s ≡ t
-same_once s t u e f = same_exact s u e ∙ sym (same_exact t u f)
-
 -- the entry at the tuple's place has another node
 pub node_set : (es : List Entry) (i : ℕ) (e : Entry) (t : List ℕ) → IsStrictlySortedBy tuple_cmp (tuples_of es) → slice_get (tuples_of es) i ≡ Some e.tuple → node_at (set es i e) t ≡ cond (is_same e.tuple t) (Some e.node) (node_at es t)
 unfolding IsStrictlySortedBy

@@ -1,5 +1,5 @@
 -- What the operators on matrices say, in the words of the language's meaning.
-use Rattle.std.proofs.Common.{◌≡◌, ◌↔◌, ◌⊎◌, ℕ, Bool, true, false, not, ◌&&◌, ◌||◌, List, [], ◌∷◌, Result, Ok, Err, IfOk, refl, sym, ◌∙◌, inl, inr}
+use Rattle.std.proofs.Common.{◌≡◌, ◌↔◌, ◌⊎◌, ℕ, Bool, true, false, not, ◌&&◌, ◌||◌, List, [], ◌∷◌, refl, sym, ◌∙◌, inl, inr}
 use Rattle.std.proofs.lemmas.Bool.{false≢true}
 use Rattle.gate_trait.specs.declared.node.Node.{Node}
 use Rattle.core_tree.specs.declared.operators.RelationOp.TheVariants.{Union, Difference, Intersection, Join, Override, LeftRestrict, RightRestrict}
@@ -26,19 +26,6 @@ not_means false = ((λ h e. false≢true e), (λ h. refl))
 
 by_equal : (v w : Bool) (P : Type 0) → v ≡ w → (w ≡ true) ↔ P → (v ≡ true) ↔ P
 by_equal v w P e h = ((λ t. h.0 (sym e ∙ t)), (λ p. e ∙ h.1 p))
-
--- ---- results
-
--- an answer means what its clause says, in other words
-pub means_as : {E : Type 0} (r : Result MatrixEntries E) (after : (ℕ → Bool) → Node → Bool) (P Q : (ℕ → Bool) → Tuples) → IfOk r (λ m. (x : ℕ → Bool) (t : List ℕ) → (truth (after x) m t ≡ true) ↔ P x t) → ((x : ℕ → Bool) (t : List ℕ) → P x t ↔ Q x t) → IfOk r (λ m. (x : ℕ → Bool) → MeansSet (after x) m (Q x))
-means_as (Ok m) after P Q h same = λ x t. ((λ e. (same x t).0 ((h x t).0 e)), (λ q. (h x t).1 ((same x t).1 q)))
-means_as (Err e) after P Q h same = tt
-
-pub truth_means : (after : Node → Bool) (m : MatrixEntries) (by : List ℕ → Bool) (A : Tuples) → ((t : List ℕ) → truth after m t ≡ by t) → ((t : List ℕ) → (by t ≡ true) ↔ A t) → MeansSet after m A
-truth_means after m by A e h = λ t. by_equal (truth after m t) (by t) (A t) (e t) (h t)
-
-pub set_as : (after : Node → Bool) (m : MatrixEntries) (A B : Tuples) → MeansSet after m A → ((t : List ℕ) → A t ↔ B t) → MeansSet after m B
-set_as after m A B h same = λ t. ((λ e. (same t).0 ((h t).0 e)), (λ b. (h t).1 ((same t).1 b)))
 
 -- ---- operators
 

@@ -41,10 +41,6 @@ pub record IsUniverse (u : Universe) : Type 0 where
   pub most : u.bits ≤ 12
   pub numbers : u.atoms + 2 ^ u.bits ≤ 16384
 
--- how many atoms and integers there are
-abbrev pub numbers_of : Universe → ℕ
-numbers_of u = u.atoms + 2 ^ u.bits
-
 -- the pairs of what is in a set with itself
 abbrev pub pairs_with_itself : Tuples → Tuples
 pairs_with_itself A t = (a : ℕ) × A (a ∷ []) × (t ≡ a ∷ a ∷ [])

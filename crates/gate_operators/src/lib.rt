@@ -3,11 +3,7 @@
 #![tactic(auto)]
 
 pub mod combined;
-pub mod questions;
-pub mod relations;
 pub mod unary;
 
 pub use combined::{combine, multiplied};
-pub use questions::{TestOp, test_op};
-pub use relations::{RelOp, relation_op};
-pub use unary::{closed, closed_below, identity, transposed};
+pub use unary::{closed_below, identity, transposed};

@@ -5,9 +5,9 @@ ghost use Rattle.gate_trait.specs.Built.{Keeps};
 ghost use Rattle.core_meaning.specs.Operators.{closure_tuples};
 ghost use Rattle.gate_matrix.specs.Matrices.{AllBelong};
 ghost use Rattle.gate_closure.specs.Walks.{IsBelow};
-ghost use Rattle.gate_operators.specs.Sets.{MeansSet, set_of, turned, pairs_with_itself, IsUniverse, numbers_of};
+ghost use Rattle.gate_operators.specs.Sets.{MeansSet, set_of, turned, pairs_with_itself};
 
-use core_tuples::{Keyed, Tuple, Universe};
+use core_tuples::{Keyed, Tuple};
 use gate_closure::closure;
 use gate_matrix::{Entry, Matrix, gathered, transpose};
 use gate_trait::Gates;
@@ -25,14 +25,6 @@ pub fn transposed<G: Gates>(alloc: Global, gates: &mut G, a: &Matrix) -> Result<
 {
     let made = transpose(alloc, gates, a)?;
     Ok(made)
-}
-
-/// How many atoms and integers there are.
-fn size_of(universe: Universe) -> u64
-    requires { IsUniverse universe }
-    ensures { result ≡ numbers_of universe }
-{
-    u64::from(universe.atoms) + 2_u64.pow(universe.bits)
 }
 
 /// The pairs between which a finite walk of at least one step leads, where the numbers of the pairs
@@ -54,26 +46,6 @@ pub fn closed_below<G: Gates>(
 {
     let made = closure(alloc, gates, a, end)?;
     Ok(made)
-}
-
-/// The pairs between which a finite walk of at least one step leads.
-pub fn closed<G: Gates>(
-    alloc: Global,
-    gates: &mut G,
-    universe: Universe,
-    a: &Matrix,
-) -> Result<Matrix, AllocError>
-    requires belongs { AllBelong (G.belongs gates.old) a.now.entries }
-    requires pairs { a.now.arity ≡ 2 }
-    requires universe { IsUniverse universe }
-    requires below { IsBelow (numbers_of universe) a.now }
-    ensures keeps { Keeps G.belongs G.node_value gates.old gates.new }
-    ensures belongs { IfOk result (λ m. AllBelong (G.belongs gates.new) m.entries) }
-    ensures columns { IfOk result (λ m. m.arity ≡ 2) }
-    ensures means { IfOk result (λ m. (x : ℕ → Bool) → MeansSet (G.node_value gates.new x) m
-        (closure_tuples (set_of (G.node_value gates.old x) a.now))) }
-{
-    closed_below(alloc, gates, size_of(universe), a)
 }
 
 /// The pair of a number with itself.

@@ -4,7 +4,7 @@ use Rattle.std.specs.Prelude.{◌≡◌, ℕ, zero, suc, ◌+◌, Bool, List, []
 use Rattle.std.proofs.Common.{sym, ◌∙◌, ap, subst, arith, length-append}
 use Rattle.std.proofs.lemmas.List.Elements.{All-append}
 use Rattle.gate_trait.specs.declared.node.Node.{Node}
-use Rattle.gate_trait.specs.Built.{Keeps, Computes, AllIn}
+use Rattle.gate_trait.specs.Built.{Keeps, AllIn}
 
 -- ---- lists of nodes
 
@@ -68,20 +68,6 @@ module _ {S : Type 0} (belongs : S → Node → Type 0) (value : S → (ℕ → 
     values = λ n t x. b.values n (a.belong n t) x ∙ a.values n t x;
   }
 
-  -- a node that has a meaning keeps it
-  pub computes_kept : (g h : S) → Keeps belongs value g h → (n : Node) (meaning : (ℕ → Bool) → Bool) → Computes belongs value g n meaning → Computes belongs value h n meaning
-  computes_kept g h keeps n meaning c = record {
-    there = keeps.belong n c.there;
-    gives = λ x. keeps.values n c.there x ∙ c.gives x;
-  }
-
-  -- a meaning may be said in other words
-  pub computes_as : (g : S) (n : Node) (meaning other : (ℕ → Bool) → Bool) → ((x : ℕ → Bool) → meaning x ≡ other x) → Computes belongs value g n meaning → Computes belongs value g n other
-  computes_as g n meaning other same c = record {
-    there = c.there;
-    gives = λ x. c.gives x ∙ same x;
-  }
-
   pub all_kept : (g h : S) → Keeps belongs value g h → (row : List Node) → AllIn (belongs g) row → AllIn (belongs h) row
   all_kept g h keeps row all = all_to (belongs g) (belongs h) keeps.belong row all
 
@@ -99,6 +85,3 @@ module _ {S : Type 0} (belongs : S → Node → Type 0) (value : S → (ℕ → 
 
   pub here_belongs : (g h : S) → Keeps belongs value g h → (row : List Node) → AllIn (belongs g) row → (k : ℕ) (n : Node) → slice_get row k ≡ Some n → belongs h n
   here_belongs g h keeps row all k n at = keeps.belong n (all_get (belongs g) row k n all at)
-
-  pub here_kept : (g h : S) → Keeps belongs value g h → (row : List Node) → AllIn (belongs g) row → (k : ℕ) (n : Node) → slice_get row k ≡ Some n → (x : ℕ → Bool) → value h x n ≡ value g x n
-  here_kept g h keeps row all k n at x = keeps.values n (all_get (belongs g) row k n all at) x

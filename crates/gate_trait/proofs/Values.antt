@@ -87,14 +87,6 @@ computes_tried (Ok n) head rest new gates g view ok node =
     (computes_push gates g n (omega (arith, node.0, ap (λ (s : List Gate). length s) view)) node.1)
 computes_tried (Err e) head rest new gates g view ok node = tt
 
-pub layered_tried : {N E : Type 0} (r : Result N E) (head : Gate) (rest new gates : List Gate) (g : Gate) → head ∷ rest ≡ gates → IsLayered gates → IsAbove (length gates) g → OnOk r (new ≡ rest ++ g ∷ []) → OnErr r (new ≡ rest) → IsLayered (head ∷ new)
-layered_tried (Ok n) head rest new gates g view old above ok err =
-    subst (λ (s : List Gate). IsLayered s)
-    (sym (ap (λ (s : List Gate). head ∷ s) ok ∙ ap (λ (s : List Gate). s ++ g ∷ []) view))
-    (layered_push gates g old above)
-layered_tried (Err e) head rest new gates g view old above ok err =
-    subst (λ (s : List Gate). IsLayered s) (sym (ap (λ (s : List Gate). head ∷ s) err ∙ view)) old
-
 -- what comes later changes no value
 pub values_after-prefix : (vs : List Bool) (x : ℕ → Bool) (gates : List Gate) (k : ℕ) → k < length vs → get_or (values_after vs x gates) k false ≡ get_or vs k false
 values_after-prefix vs x [] k h = refl

@@ -15,7 +15,7 @@ add_kept-requires-clause-first_belongs g c = λ x is.
     let belongs = g.G.Gates.belongs in
     let a = c.args.a.now in
     let e = c.index-a-i.result in
-    let lt : c.loop-i.i < length a = less_within a c.args.b.now c.loop-i.i c.loop-i.j (sym c.in-Less.ensures) in
+    let lt : c.loop-i.i < length a = less_within a c.args.b.now c.loop-i.i c.loop-i.j c.in-Less.ensures in
     some_belongs (belongs c.loop-i.gates) e.node x (c.loop-i.invariant.merging.keeps.belong e.node (all_here (λ (f : Entry). belongs c.args.gates.now f.node) a c.loop-i.i e c.requires.a_belongs lt c.index-a-i.is)) is
 
 pub add_kept-requires-in-Greater-clause-second_belongs : goal.add_kept-requires-in-Greater-clause-second_belongs
@@ -23,7 +23,7 @@ add_kept-requires-in-Greater-clause-second_belongs g c = λ x is.
     let belongs = g.G.Gates.belongs in
     let b = c.args.b.now in
     let e = c.index-b-j.result in
-    let lt : c.loop-i.j < length b = greater_within c.args.a.now b c.loop-i.i c.loop-i.j (sym c.in-Greater.ensures) in
+    let lt : c.loop-i.j < length b = greater_within c.args.a.now b c.loop-i.i c.loop-i.j c.in-Greater.ensures in
     some_belongs (belongs c.loop-i.gates) e.node x (c.loop-i.invariant.merging.keeps.belong e.node (all_here (λ (f : Entry). belongs c.args.gates.now f.node) b c.loop-i.j e c.requires.b_belongs lt c.index-b-j.is)) is
 
 pub bounds-a-i-in-Equal : goal.bounds-a-i-in-Equal
@@ -31,7 +31,7 @@ bounds-a-i-in-Equal g c =
     let a = c.args.a.now in
     let b = c.args.b.now in
     let some : (c.loop-i.i < length a) ⊎ (c.loop-i.j < length b) = elim c.if-i-a.branch [ then-i-a w ↦ inl w.if-i-a.true | else-i-a+then-j-b w ↦ inr w.if-j-b.true ] in
-    (equal_within a b c.loop-i.i c.loop-i.j (sym c.in-Equal.ensures) some).0
+    (equal_within a b c.loop-i.i c.loop-i.j c.in-Equal.ensures some).0
 
 pub loop-i-init : goal.loop-i-init
 loop-i-init g c = record {
@@ -50,7 +50,7 @@ loop-i-preserved-in-Less g c =
     let j = c.loop-i.j in
     let e = c.index-a-i.result in
     let added = c.in_ok-add_kept-in-Less.ensures.added in
-    let lt : i < length a = less_within a b i j (sym c.in-Less.ensures) in
+    let lt : i < length a = less_within a b i j c.in-Less.ensures in
     record {
       first_place = omega arith;
       second_place = c.loop-i.invariant.second_place;
@@ -68,7 +68,7 @@ loop-i-preserved-in-Greater g c =
     let j = c.loop-i.j in
     let e = c.index-b-j.result in
     let added = c.in_ok-add_kept-in-Greater.ensures.added in
-    let lt : j < length b = greater_within a b i j (sym c.in-Greater.ensures) in
+    let lt : j < length b = greater_within a b i j c.in-Greater.ensures in
     record {
       first_place = c.loop-i.invariant.first_place;
       second_place = omega arith;
@@ -88,7 +88,7 @@ loop-i-preserved g c =
     let d = c.index-b-j-in-Equal.result in
     let added = c.in_ok-add_kept-in-Equal.ensures.added in
     let some : (i < length a) ⊎ (j < length b) = elim c.if-i-a.branch [ then-i-a w ↦ inl w.if-i-a.true | else-i-a+then-j-b w ↦ inr w.if-j-b.true ] in
-    let within = equal_within a b i j (sym c.in-Equal.ensures) some in
+    let within = equal_within a b i j c.in-Equal.ensures some in
     record {
       first_place = omega (arith, within.0);
       second_place = omega (arith, within.1);
