@@ -21,28 +21,35 @@ ghost use Rattle.answer_trace.specs.declared.label.TraceFault.TheVariants as fau
 
 /// A law: two lassos that fit the same labels, and whose texts under them are equal, are equal.
 pub fn texts_are_of_one_lasso()
-    ensures { (labels : Labels) (a b : LassoValue) → HasForm labels → FitsLabels labels a → FitsLabels labels b → trace_text labels a ≡ trace_text labels b → a ≡ b }
+    ensures { (labels : Labels) (a b : LassoValue) → HasForm labels → FitsLabels labels a →
+        FitsLabels labels b → trace_text labels a ≡ trace_text labels b → a ≡ b }
 {}
 
 /// A law: the text of each lasso of some labels is read to its end, as that lasso.
 pub fn texts_are_read()
-    ensures { (labels : Labels) (lasso : LassoValue) → HasLines labels → IsLassoOf labels lasso → (lines : ℕ) × (trace_way labels (trace_text labels lasso) ≡ on lasso ([] ∷ []) lines) }
+    ensures { (labels : Labels) (lasso : LassoValue) → HasLines labels → IsLassoOf labels lasso →
+        (lines : ℕ) × (trace_way labels (trace_text labels lasso) ≡ on lasso ([] ∷ []) lines) }
 {}
 
 /// A law: where reading a text stops at a line, no text of a lasso of these labels has the same lines up to it.
 pub fn no_text_agrees()
-    ensures { (labels : Labels) (text : List ℕ) (line : ℕ) (lasso : LassoValue) → HasLines labels → IsLassoOf labels lasso → trace_way labels text ≡ off line → AgreeTo line (trace_text labels lasso) text → ⊥ }
+    ensures { (labels : Labels) (text : List ℕ) (line : ℕ) (lasso : LassoValue) → HasLines labels →
+        IsLassoOf labels lasso → trace_way labels text ≡ off line →
+        AgreeTo line (trace_text labels lasso) text → ⊥ }
 {}
 
 /// A law: where reading a text stops, that line is the first at which no text of a lasso of these labels has all lines up to
 /// it.
 pub fn faults_are_first()
-    ensures { (labels : Labels) (text : List ℕ) (line : ℕ) → HaveLassos labels → trace_way labels text ≡ off line → IsFirstFault labels text line }
+    ensures { (labels : Labels) (text : List ℕ) (line : ℕ) → HaveLassos labels →
+        trace_way labels text ≡ off line → IsFirstFault labels text line }
 {}
 
 /// A law: a text that is read to its end is the text of the lasso that was read, and that is a lasso of the labels.
 pub fn reading_is_of_the_text()
-    ensures { (labels : Labels) (text : List ℕ) (lasso : LassoValue) (rest : List (List ℕ)) (lines : ℕ) → HaveLassos labels → trace_way labels text ≡ on lasso rest lines → (trace_text labels lasso ≡ text) × IsLassoOf labels lasso }
+    ensures { (labels : Labels) (text : List ℕ) (lasso : LassoValue) (rest : List (List ℕ))
+        (lines : ℕ) → HaveLassos labels → trace_way labels text ≡ on lasso rest lines →
+        (trace_text labels lasso ≡ text) × IsLassoOf labels lasso }
 {}
 
 /// A law: a line that is read is the line of what it gave.
@@ -54,17 +61,20 @@ pub fn lines_are_read()
 
 /// A law: the line that `read_trace` names is the first at which no text of a lasso of the labels has all lines up to it.
 pub fn named_lines_are_first()
-    ensures { (labels : Labels) (text : List ℕ) (line : ℕ) → HaveLassos labels → Faults labels text (fault.BadTrace line) → NamesFirst labels text line }
+    ensures { (labels : Labels) (text : List ℕ) (line : ℕ) → HaveLassos labels →
+        Faults labels text (fault.BadTrace line) → NamesFirst labels text line }
 {}
 
 /// A law: `read_trace` names no line of the text of a lasso of the labels.
 pub fn no_line_of_a_lasso_is_named()
-    ensures { (labels : Labels) (lasso : LassoValue) (line : ℕ) → HasLines labels → IsLassoOf labels lasso → Faults labels (trace_text labels lasso) (fault.BadTrace line) → ⊥ }
+    ensures { (labels : Labels) (lasso : LassoValue) (line : ℕ) → HasLines labels →
+        IsLassoOf labels lasso → Faults labels (trace_text labels lasso) (fault.BadTrace line) → ⊥ }
 {}
 
 /// A law: a lasso that `read_trace` gives is one of the labels.
 pub fn read_lassos_are_of_the_labels()
-    ensures { (labels : Labels) (text : List ℕ) (lasso : LassoValue) → HaveLassos labels → IsRead labels text lasso → IsLassoOf labels lasso }
+    ensures { (labels : Labels) (text : List ℕ) (lasso : LassoValue) → HaveLassos labels →
+        IsRead labels text lasso → IsLassoOf labels lasso }
 {}
 
 ghost use Rattle.answer_laws.specs.Labelled.{LabelsHaveLassos};

@@ -46,7 +46,9 @@ fn put<'a>(
     text: &'a [u8],
     number: u32,
 ) -> Result<(), AllocError>
-    ensures { OnOk result ((q : List ℕ) → get_by (λ key. pointwise nat_eq q key.now) numbers.new ≡ (if pointwise nat_eq text.now q then Some number else get_by (λ key. pointwise nat_eq q key.now) numbers.old)) }
+    ensures { OnOk result ((q : List ℕ) → get_by (λ key. pointwise nat_eq q key.now) numbers.new
+        ≡ (if pointwise nat_eq text.now q then Some number else
+        get_by (λ key. pointwise nat_eq q key.now) numbers.old)) }
 {
     numbers.insert(text, number)?;
     Ok(())
@@ -60,7 +62,8 @@ fn numbers_of<'a>(
 ) -> Result<HashMap<&'a [u8], u32>, AllocError>
     requires few { count ≤ 16384 }
     requires within { count ≤ length atoms.now }
-    ensures { IfOk result (λ m. (q : List ℕ) → get_by (λ key. pointwise nat_eq q key.now) m ≡ found_before atoms.now count q) }
+    ensures { IfOk result (λ m. (q : List ℕ) → get_by (λ key. pointwise nat_eq q key.now) m
+        ≡ found_before atoms.now count q) }
 {
     let mut numbers: HashMap<&'a [u8], u32> = HashMap::new(alloc);
     for place in 0..count {

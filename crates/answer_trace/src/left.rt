@@ -46,7 +46,8 @@ impl<'a> Left<'a> {
 
     /// The next line, and what follows its line feed. There is `None` where no line feed ends it.
     pub fn next(&self) -> Option<(&'a [u8], &'a [u8])>
-        ensures line { IfSome result (λ found. parts self.now.bytes ≡ found.0.now ∷ parts found.1.now) }
+        ensures line { IfSome result (λ found. parts self.now.bytes
+            ≡ found.0.now ∷ parts found.1.now) }
         ensures shorter { IfSome result (λ found. length found.1.now < length self.now.bytes) }
         ensures last { IfNone result (parts self.now.bytes ≡ self.now.bytes ∷ []) }
     {

@@ -132,7 +132,8 @@ fn sig_label(
 ) -> Result<RelationLabel, AllocError>
     requires few { length model.now.sigs + length model.now.fields < 2 ^ 32 }
     requires place { place < length model.now.sigs }
-    ensures { IfOk result (λ r. r ∷ [] ≡ sig_label_at model.now first place (slice_get model.now.sigs place)) }
+    ensures { IfOk result (λ r. r ∷ [] ≡ sig_label_at model.now first place
+        (slice_get model.now.sigs place)) }
 {
     let sig = model.sigs.get(place);
     let label = Name::copy(alloc, sig.label.text())?;
@@ -149,7 +150,8 @@ fn sig_label(
 fn field_label(alloc: Global, model: &Model, place: usize) -> Result<RelationLabel, AllocError>
     requires few { length model.now.sigs + length model.now.fields < 2 ^ 32 }
     requires place { place < length model.now.fields }
-    ensures { IfOk result (λ r. r ∷ [] ≡ field_label_at model.now place (slice_get model.now.fields place)) }
+    ensures { IfOk result (λ r. r ∷ [] ≡ field_label_at model.now place
+        (slice_get model.now.fields place)) }
 {
     let field = model.fields.get(place);
     let label = Name::copy(alloc, field.label.text())?;
@@ -173,7 +175,9 @@ fn push_fields(
     requires count { length next.now ≡ length model.now.fields }
     requires inside { (k : ℕ) → slice_index next.now k ≤ length model.now.fields }
     requires first { first ≤ length model.now.fields }
-    ensures { OnOk result (relations.new ≡ relations.old ++ field_labels model.now (walk (length model.now.fields) next.now (length model.now.fields) first)) }
+    ensures { OnOk result (relations.new ≡ relations.old
+        ++ field_labels model.now (walk (length model.now.fields) next.now (length model.now.fields)
+        first)) }
 {
     let fields = next.len();
     let mut link = first as usize;
@@ -196,9 +200,11 @@ fn push_owned(
     relations: &mut RelationLabelList,
 ) -> Result<(), AllocError>
     requires few { length model.now.sigs + length model.now.fields < 2 ^ 32 }
-    requires linked { IsLinked model.now owners.now.heads.items owners.now.next.items (length model.now.fields) }
+    requires linked { IsLinked model.now owners.now.heads.items owners.now.next.items
+        (length model.now.fields) }
     requires owner { owner ≤ length model.now.sigs }
-    ensures { OnOk result (relations.new ≡ relations.old ++ field_labels model.now (owned model.now owner)) }
+    ensures { OnOk result (relations.new ≡ relations.old
+        ++ field_labels model.now (owned model.now owner)) }
 {
     push_fields(
         alloc,
@@ -220,11 +226,14 @@ fn push_sigs(
 ) -> Result<(), AllocError>
     requires sigs { length scopes.now.numbers ≡ length model.now.sigs }
     requires few { length model.now.sigs + length model.now.fields < 2 ^ 32 }
-    requires linked { IsLinked model.now owners.now.heads.items owners.now.next.items (length model.now.fields) }
+    requires linked { IsLinked model.now owners.now.heads.items owners.now.next.items
+        (length model.now.fields) }
     requires no_relations { relations.old ≡ [] }
     requires no_atoms { atoms.old ≡ [] }
-    ensures relations { OnOk result (relations.new ≡ labels_before model.now scopes.now (length model.now.sigs)) }
-    ensures atoms { OnOk result (atoms.new ≡ texts_before model.now.sigs scopes.now.numbers (length model.now.sigs)) }
+    ensures relations { OnOk result (relations.new
+        ≡ labels_before model.now scopes.now (length model.now.sigs)) }
+    ensures atoms { OnOk result (atoms.new ≡ texts_before model.now.sigs scopes.now.numbers
+        (length model.now.sigs)) }
 {
     for place in 0..model.sigs.len() {
         let first = short(atoms.len())?;
@@ -252,7 +261,8 @@ pub fn make_labels(alloc: Global, model: &Model, scopes: &Scopes) -> Result<Labe
     requires few { length model.now.sigs + length model.now.fields < 2 ^ 32 }
     requires least { 1 ≤ scopes.now.bits }
     requires most { scopes.now.bits ≤ 12 }
-    ensures count { IfOk result (λ l. length l.relations ≡ length model.now.sigs + length model.now.fields) }
+    ensures count { IfOk result (λ l. length l.relations
+        ≡ length model.now.sigs + length model.now.fields) }
     ensures relations { IfOk result (λ l. AreRelationsOf model.now l) }
     ensures labels { IfOk result (λ l. l.relations ≡ relation_labels_of model.now scopes.now) }
     ensures atoms { IfOk result (λ l. l.atoms ≡ universe_texts model.now scopes.now) }

@@ -46,7 +46,8 @@ fn link(
     requires owner { owner < vec_len heads.old }
     requires count { count + 1 < 2 ^ 32 }
     ensures heads { OnOk result (heads.new.items ≡ slice_set heads.old.items owner (count + 1)) }
-    ensures next { OnOk result (next.new.items ≡ next.old.items ++ slice_index heads.old.items owner ∷ []) }
+    ensures next { OnOk result (next.new.items ≡ next.old.items
+        ++ slice_index heads.old.items owner ∷ []) }
 {
     next.push(heads[owner])?;
     heads[owner] = count + 1;
@@ -57,7 +58,8 @@ impl Owners {
     /// The fields of each owner of a model.
     pub fn new(alloc: Global, model: &Model) -> Result<Owners, AllocError>
         requires { length model.now.sigs + length model.now.fields < 2 ^ 32 }
-        ensures { IfOk result (λ o. IsLinked model.now o.heads.items o.next.items (length model.now.fields)) }
+        ensures { IfOk result (λ o. IsLinked model.now o.heads.items o.next.items
+            (length model.now.fields)) }
     {
         let fields = model.fields.len();
         let mut heads = vec![in alloc; 0u32; model.sigs.len() + 1]?;

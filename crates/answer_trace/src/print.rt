@@ -91,7 +91,8 @@ fn push_set(
     state: &State,
     place: usize,
 ) -> Result<(), AllocError>
-    ensures { OnOk result (out.new.items ≡ out.old.items ++ set_text atoms.now (slice_get state.now place)) }
+    ensures { OnOk result (out.new.items ≡ out.old.items
+        ++ set_text atoms.now (slice_get state.now place)) }
 {
     if place >= state.len() {
         return Ok(());
@@ -106,7 +107,8 @@ fn push_relation(
     state: &State,
     relation: &RelationLabel,
 ) -> Result<(), AllocError>
-    ensures { OnOk result (out.new.items ≡ out.old.items ++ relation_text atoms.now state.now relation.now) }
+    ensures { OnOk result (out.new.items ≡ out.old.items
+        ++ relation_text atoms.now state.now relation.now) }
 {
     match relation.shown {
         Shown::Line => {
@@ -128,7 +130,8 @@ fn push_relations(
     state: &State,
     relations: &[RelationLabel],
 ) -> Result<(), AllocError>
-    ensures { OnOk result (out.new.items ≡ out.old.items ++ flat_map (λ r. relation_text atoms.now state.now r) relations.now) }
+    ensures { OnOk result (out.new.items ≡ out.old.items
+        ++ flat_map (λ r. relation_text atoms.now state.now r) relations.now) }
 {
     for relation in relations {
         push_relation(out, atoms, state, relation)?;
@@ -151,7 +154,8 @@ fn push_state(
     number: u32,
     state: &State,
 ) -> Result<(), AllocError>
-    ensures { OnOk result (out.new.items ≡ out.old.items ++ state_text labels.now number state.now) }
+    ensures { OnOk result (out.new.items ≡ out.old.items
+        ++ state_text labels.now number state.now) }
 {
     out.extend_from_slice(b"state ")?;
     push_decimal(out, number)?;
@@ -173,7 +177,8 @@ fn push_header(out: &mut Vec<u8>, count: u32, loop_start: u32) -> Result<(), All
 
 /// Writes the states.
 fn push_states(out: &mut Vec<u8>, labels: &Labels, lasso: &Lasso) -> Result<(), AllocError>
-    ensures { OnOk result (out.new.items ≡ out.old.items ++ states_text labels.now lasso.now.states (length lasso.now.states)) }
+    ensures { OnOk result (out.new.items ≡ out.old.items
+        ++ states_text labels.now lasso.now.states (length lasso.now.states)) }
 {
     for number in 0..lasso.states() {
         push_nth(out, labels, lasso, number)?;
@@ -190,7 +195,8 @@ fn push_nth(
     number: u32,
 ) -> Result<(), AllocError>
     requires { number < length lasso.now.states }
-    ensures { OnOk result (out.new.items ≡ out.old.items ++ nth_state_text labels.now number (slice_get lasso.now.states number)) }
+    ensures { OnOk result (out.new.items ≡ out.old.items
+        ++ nth_state_text labels.now number (slice_get lasso.now.states number)) }
 {
     push_state(out, labels, number, lasso.at(u64::from(number)))
 }

@@ -23,7 +23,8 @@ fn read_shown(
     relation: &RelationLabel,
     left: &mut Left,
 ) -> Result<Option<TupleSet>, AllocError>
-    ensures { IfOk result (λ o. way_from left.new o ≡ on_line (line_set index.now relation.now) (parts left.old.bytes) left.old.lines) }
+    ensures { IfOk result (λ o. way_from left.new o
+        ≡ on_line (line_set index.now relation.now) (parts left.old.bytes) left.old.lines) }
 {
     let Some((line, rest)) = left.next() else {
         return Ok(None)
@@ -43,7 +44,8 @@ fn read_relation(
     relation: &RelationLabel,
     left: &mut Left,
 ) -> Result<Option<TupleSet>, AllocError>
-    ensures { IfOk result (λ o. way_from left.new o ≡ relation_way index.now relation.now (parts left.old.bytes) left.old.lines) }
+    ensures { IfOk result (λ o. way_from left.new o
+        ≡ relation_way index.now relation.now (parts left.old.bytes) left.old.lines) }
 {
     match relation.shown {
         Shown::Line => read_shown(alloc, index, relation, left),
@@ -60,7 +62,8 @@ fn read_relations(
     relations: &[RelationLabel],
     left: &mut Left,
 ) -> Result<Option<Vec<TupleSet>>, AllocError>
-    ensures { IfOk result (λ o. way_from left.new (option_map (λ v. v.items) o) ≡ relations_way index.now [] relations.now (parts left.old.bytes) left.old.lines) }
+    ensures { IfOk result (λ o. way_from left.new (option_map (λ v. v.items) o)
+        ≡ relations_way index.now [] relations.now (parts left.old.bytes) left.old.lines) }
 {
     let mut sets: Vec<TupleSet> = Vec::new(alloc);
     for relation in relations {
@@ -134,7 +137,8 @@ fn arranged(alloc: Global, sets: &[TupleSet], orders: &[usize]) -> Result<State,
 
 /// Takes the first line of a state, and answers whether it is the next one.
 fn take_state_line(left: &mut Left, number: u32) -> bool
-    ensures { way_from left.new (where_true result) ≡ state_line_way number (parts left.old.bytes) left.old.lines }
+    ensures { way_from left.new (where_true result)
+        ≡ state_line_way number (parts left.old.bytes) left.old.lines }
 {
     let Some((line, rest)) = left.next() else {
         return false
@@ -157,7 +161,8 @@ fn read_state(
 ) -> Result<Option<State>, AllocError>
     requires atoms { index.now ≡ labels.now.atoms }
     requires orders { orders.now ≡ orders_of labels.now.relations }
-    ensures { IfOk result (λ o. way_from left.new o ≡ state_way labels.now number (parts left.old.bytes) left.old.lines) }
+    ensures { IfOk result (λ o. way_from left.new o
+        ≡ state_way labels.now number (parts left.old.bytes) left.old.lines) }
 {
     if !take_state_line(left, number) {
         return Ok(None);
@@ -176,7 +181,8 @@ fn read_states(
     count: u32,
     left: &mut Left,
 ) -> Result<Option<Vec<State>>, AllocError>
-    ensures states { IfOk result (λ o. way_from left.new (option_map (λ v. v.items) o) ≡ states_way labels.now count [] 0 (parts left.old.bytes) left.old.lines) }
+    ensures states { IfOk result (λ o. way_from left.new (option_map (λ v. v.items) o)
+        ≡ states_way labels.now count [] 0 (parts left.old.bytes) left.old.lines) }
     ensures count { IfOk result (λ o. IfSome o (λ v. length v.items ≡ count)) }
 {
     let index = AtomIndex::new(alloc, &labels.atoms)?;
@@ -193,7 +199,8 @@ fn read_states(
 
 /// Takes the last line, and answers whether it is the next one and nothing stands behind it.
 fn take_end(left: &mut Left) -> bool
-    ensures { way_from left.new (where_true result) ≡ end_way (parts left.old.bytes) left.old.lines }
+    ensures { way_from left.new (where_true result)
+        ≡ end_way (parts left.old.bytes) left.old.lines }
 {
     let Some((line, rest)) = left.next() else {
         return false
@@ -207,7 +214,8 @@ fn take_end(left: &mut Left) -> bool
 
 /// Takes the first line, and answers its number of states and loop index.
 fn take_header(left: &mut Left) -> Option<(u32, u32)>
-    ensures header { way_from left.new (option_map (λ found. (found.0, found.1)) result) ≡ on_line header_of (parts left.old.bytes) left.old.lines }
+    ensures header { way_from left.new (option_map (λ found. (found.0, found.1)) result)
+        ≡ on_line header_of (parts left.old.bytes) left.old.lines }
     ensures less { IfSome result (λ found. found.1 < found.0) }
 {
     let Some((line, rest)) = left.next() else {
@@ -222,7 +230,8 @@ fn take_header(left: &mut Left) -> Option<(u32, u32)>
 
 /// Reads the lasso that a text has line by line. There is `None` where the next line is none of a trace.
 fn read_lasso(alloc: Global, labels: &Labels, left: &mut Left) -> Result<Option<Lasso>, AllocError>
-    ensures { IfOk result (λ o. way_from left.new o ≡ lines_way labels.now (parts left.old.bytes) left.old.lines) }
+    ensures { IfOk result (λ o. way_from left.new o
+        ≡ lines_way labels.now (parts left.old.bytes) left.old.lines) }
 {
     let Some((count, loop_start)) = take_header(left) else {
         return Ok(None)

@@ -13,7 +13,8 @@ use std::cmp::Ordering;
 
 /// The atom with which a text begins, and what follows it.
 fn read_atom<'a>(index: &AtomIndex, text: &'a [u8]) -> Option<(u32, &'a [u8])>
-    ensures atom { option_map (λ found. (found.0, found.1.now)) result ≡ next_atom index.now text.now }
+    ensures atom { option_map (λ found. (found.0, found.1.now)) result
+        ≡ next_atom index.now text.now }
     ensures bound { IfSome result (λ found. found.0 < 16384) }
 {
     let (atom, rest) = text.split_at(atom_length(text));
@@ -25,7 +26,8 @@ fn read_atom<'a>(index: &AtomIndex, text: &'a [u8]) -> Option<(u32, &'a [u8])>
 
 /// The further atom with which a text begins, behind an arrow, and what follows it.
 fn read_further<'a>(index: &AtomIndex, text: &'a [u8]) -> Option<(u32, &'a [u8])>
-    ensures atom { option_map (λ found. (found.0, found.1.now)) result ≡ further_atom index.now text.now }
+    ensures atom { option_map (λ found. (found.0, found.1.now)) result
+        ≡ further_atom index.now text.now }
     ensures bound { IfSome result (λ found. found.0 < 16384) }
 {
     match after(text, b"->".as_slice()) {
@@ -44,7 +46,8 @@ fn read_tuple<'a>(
 ) -> Result<Option<&'a [u8]>, AllocError>
     requires empty { tuple.old ≡ [] }
     requires some { 1 ≤ columns }
-    ensures tuple { IfOk result (λ o. option_map (λ rest. (tuple.new, rest.now)) o ≡ next_tuple index.now columns text.now) }
+    ensures tuple { IfOk result (λ o. option_map (λ rest. (tuple.new, rest.now)) o
+        ≡ next_tuple index.now columns text.now) }
     ensures columns { IfOk result (λ o. IfSome o (λ rest. length tuple.new ≡ columns)) }
     ensures numbers { IfOk result (λ o. IfSome o (λ rest. All IsNumber tuple.new)) }
 {
@@ -88,7 +91,11 @@ fn put_last(set: &mut TupleSet, tuple: Tuple) -> Result<(), AllocError>
     requires columns { length tuple ≡ set.old.arity }
     requires numbers { All IsNumber tuple }
     requires last { comes_after set.old.tuples tuple ≡ true }
-    ensures ok { OnOk result (set.new ≡ record { arity = set.old.arity; tuples = set.old.tuples ++ tuple ∷ [] }) }
+    ensures ok { OnOk result (set.new ≡ record {
+      arity = set.old.arity;
+      tuples = set.old.tuples
+          ++ tuple ∷ [];
+    }) }
     ensures err { OnErr result (set.new ≡ set.old) }
 {
     // for the proof: this call's clause says that it is a set of tuples
@@ -111,7 +118,8 @@ fn read_next<'a>(
     requires arity { set.old.arity ≡ columns }
     requires some { 1 ≤ columns }
     ensures arity { set.new.arity ≡ columns }
-    ensures more { IfOk result (λ o. option_map (λ rest. (set.new.tuples, rest.now)) o ≡ one_more index.now columns set.old.tuples text.now) }
+    ensures more { IfOk result (λ o. option_map (λ rest. (set.new.tuples, rest.now)) o
+        ≡ one_more index.now columns set.old.tuples text.now) }
 {
     let Some(rest) = after(text, separator(set)) else {
         return Ok(None)
@@ -139,7 +147,8 @@ fn read_tuples(
     requires empty { set.old ≡ record { arity = columns; tuples = [] } }
     requires some { 1 ≤ columns }
     ensures arity { set.new.arity ≡ columns }
-    ensures tuples { IfOk result (λ b. (if b then Some set.new.tuples else None) ≡ tuples_of index.now columns (length text.now) [] text.now) }
+    ensures tuples { IfOk result (λ b. (if b then Some set.new.tuples else None)
+        ≡ tuples_of index.now columns (length text.now) [] text.now) }
 {
     let mut rest = text;
     for _count in 0..text.len() {

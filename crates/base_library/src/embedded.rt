@@ -27,7 +27,8 @@ impl Library for EmbeddedLibrary {
 
     fn fetch(&mut self, alloc: Global, name: &str, most: usize) -> Result<Fetch, FetchFault>
         ensures keeps { Some embedded_texts ≡ Some embedded_texts }
-        ensures answer { (texts : Texts) (fetch : _) → Some embedded_texts ≡ Some texts → result ≡ Ok fetch → Answers texts name.now most fetch }
+        ensures answer { (texts : Texts) (fetch : _) → Some embedded_texts ≡ Some texts →
+            result ≡ Ok fetch → Answers texts name.now most fetch }
         ensures cause { FetchCause 0 0 result }
 
         // Want of memory is the only fault.

@@ -47,6 +47,7 @@ pub trait Library: Drop {
     /// The first `most` bytes of the first text with this name, or all of them where there are fewer.
     fn fetch(&mut self, alloc: Global, name: &str, most: usize) -> Result<Fetch, FetchFault>
         ensures keeps { holds self.new ≡ holds self.old }
-        ensures answer { (texts : Texts) (fetch : _) → holds self.old ≡ Some texts → result ≡ Ok fetch → Answers texts name.now most fetch }
+        ensures answer { (texts : Texts) (fetch : _) → holds self.old ≡ Some texts →
+            result ≡ Ok fetch → Answers texts name.now most fetch }
         ensures cause { FetchCause (faults self.old) (faults self.new) result };
 }

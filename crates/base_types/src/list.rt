@@ -21,7 +21,8 @@ pub trait Libraries {
     /// The first `most` bytes of the text of this name. The libraries after the one that answers aren't asked.
     fn fetch_first(&mut self, alloc: Global, name: &str, most: usize) -> Result<Fetch, FetchFault>
         ensures keeps { told self.new ≡ told self.old }
-        ensures answer { (texts : List Texts) (fetch : _) → told self.old ≡ map Some texts → result ≡ Ok fetch → AnswersFirst texts name.now most fetch }
+        ensures answer { (texts : List Texts) (fetch : _) → told self.old ≡ map Some texts →
+            result ≡ Ok fetch → AnswersFirst texts name.now most fetch }
         ensures cause { ListCause (counts self.old) (counts self.new) result };
 }
 
@@ -43,8 +44,11 @@ fn first_of<L: Library>(
     most: usize,
 ) -> Result<Fetch, FetchFault>
     ensures keeps { map L.holds libraries.new.items ≡ map L.holds libraries.old.items }
-    ensures answer { (texts : List Texts) (fetch : _) → map L.holds libraries.old.items ≡ map Some texts → result ≡ Ok fetch → AnswersFirst texts name.now most fetch }
-    ensures cause { ListCause (map L.faults libraries.old.items) (map L.faults libraries.new.items) result }
+    ensures answer { (texts : List Texts) (fetch : _) →
+        map L.holds libraries.old.items ≡ map Some texts → result ≡ Ok fetch →
+        AnswersFirst texts name.now most fetch }
+    ensures cause { ListCause (map L.faults libraries.old.items) (map L.faults libraries.new.items)
+        result }
 {
     for i in 0..libraries.len() {
         match libraries[i].fetch(alloc, name, most) {

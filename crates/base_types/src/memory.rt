@@ -29,7 +29,13 @@ impl MemoryLibrary {
     /// A library that holds these files, of which the first of a name counts. The calls of these numbers fail, counted
     /// from 1; the number of a call stays at the greatest `u64` once it is there.
     pub fn new(files: Vec<(String, Vec<u8>)>, failing: Vec<u64>) -> MemoryLibrary
-        ensures { result ≡ record { texts = texts_of files.items; failing = failing.items; calls = 0; faults = 0 } }
+        ensures { result ≡ record {
+          texts = texts_of files.items;
+          failing = failing.items;
+          calls =
+              0;
+          faults = 0;
+        } }
     {
         MemoryLibrary {
             files,
@@ -47,12 +53,14 @@ impl Library for MemoryLibrary {
 
     fn fetch(&mut self, alloc: Global, name: &str, most: usize) -> Result<Fetch, FetchFault>
         ensures keeps { Some self.new.texts ≡ Some self.old.texts }
-        ensures answer { (texts : Texts) (fetch : _) → Some self.old.texts ≡ Some texts → result ≡ Ok fetch → Answers texts name.now most fetch }
+        ensures answer { (texts : Texts) (fetch : _) → Some self.old.texts ≡ Some texts →
+            result ≡ Ok fetch → Answers texts name.now most fetch }
         ensures cause { FetchCause self.old.faults self.new.faults result }
 
         // It fails at just the calls that were named.
         ensures exact { self.new ≡ after_fetch self.old }
-        ensures failed { (result ≡ Err FetchFault.Failed) ↔ (names_call self.new.failing self.new.calls ≡ true) }
+        ensures failed { (result ≡ Err FetchFault.Failed)
+            ↔ (names_call self.new.failing self.new.calls ≡ true) }
     {
         self.calls = self.calls.saturating_add(1);
         if self.failing.contains(&self.calls) {
@@ -103,7 +111,8 @@ impl MemorySink {
     /// An empty sink, which takes all its room at once. The calls of these numbers, counted from 1, take the first half of
     /// their piece, rounded down, and fail. A piece past the room is cut, which is a failure too.
     pub fn new(alloc: Global, room: usize, failing: Vec<u64>) -> Result<MemorySink, AllocError>
-        ensures { IfOk result (λ sink. sink ≡ record { got = []; room = room; failing = failing.items; calls = 0; faults = 0 }) }
+        ensures { IfOk result (λ sink. sink ≡ record
+            { got = []; room = room; failing = failing.items; calls = 0; faults = 0 }) }
     {
         Ok(MemorySink {
             got: Vec::with_capacity(alloc, room)?,

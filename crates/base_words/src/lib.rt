@@ -92,7 +92,8 @@ fn blank_place(line: &[u8]) -> usize
 #[tactic(auto, using(crate::proofs::Parts::one_part, crate::proofs::Parts::first_part))]
 pub fn split_line(text: &[u8]) -> (&[u8], Option<&[u8]>)
     ensures parts { parts text.now ≡ result.0.now ∷ other_parts (option_copied result.1) }
-    ensures lengths { IfSome result.1 (λ rest. length result.0.now + 1 + length rest.now ≡ length text.now) }
+    ensures lengths { IfSome result.1 (λ rest. length result.0.now + 1 + length rest.now
+        ≡ length text.now) }
     ensures alone { IfNone result.1 (result.0.now ≡ text.now) }
 {
     let place = feed_place(text);
@@ -107,7 +108,8 @@ pub fn split_line(text: &[u8]) -> (&[u8], Option<&[u8]>)
 /// The first word of a line, and what follows it. There is `None` where the line has no word.
 #[tactic(auto, using(crate::proofs::Parts::no_word, crate::proofs::Parts::first_word, crate::proofs::Parts::word_bytes))]
 pub fn next_word(line: &[u8]) -> Option<(&[u8], &[u8])>
-    ensures words { words line.now ≡ with_first (option_map (λ found. (found.0.now, found.1.now)) result) }
+    ensures words { words line.now ≡ with_first (option_map (λ found. (found.0.now, found.1.now))
+        result) }
     ensures shorter { IfSome result (λ found. length found.1.now < length line.now) }
 {
     let start = word_place(line);

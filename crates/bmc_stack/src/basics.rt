@@ -98,7 +98,8 @@ pub fn drop_below<G: Gates>(alloc: Global, gates: &G, store: &mut Store) -> Resu
     requires { AreStored (G.belongs gates.now) store.old }
     ensures stored { OnOk result (AreStored (G.belongs gates.now) store.new) }
     ensures beside { OnOk result (AreBeside store.old store.new) }
-    ensures rows { OnOk result ((rest : List (List CircuitNode)) (f g : List CircuitNode) → store.old.rows.items ≡ rest ++ f ∷ g ∷ [] → store.new.rows.items ≡ rest ++ g ∷ []) }
+    ensures rows { OnOk result ((rest : List (List CircuitNode)) (f g : List CircuitNode) →
+        store.old.rows.items ≡ rest ++ f ∷ g ∷ [] → store.new.rows.items ≡ rest ++ g ∷ []) }
 {
     let top = pop_row(alloc, gates, store);
     let _below = pop_row(alloc, gates, store);
@@ -143,7 +144,8 @@ pub fn cut<G: Gates>(gates: &G, store: &mut Store, mark: Mark)
 pub fn node_or_false<G: Gates>(gates: &G, row: &NodeList, place: usize) -> Node
     requires { AllIn (G.belongs gates.now) row.now }
     ensures belongs { G.belongs gates.now result }
-    ensures value { (x : ℕ → Bool) → G.node_value gates.now x result ≡ row_value (G.node_value gates.now x) row.now place }
+    ensures value { (x : ℕ → Bool) → G.node_value gates.now x result
+        ≡ row_value (G.node_value gates.now x) row.now place }
 {
     if place >= row.len() {
         return gates.constant(false);

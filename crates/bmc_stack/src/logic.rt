@@ -26,7 +26,8 @@ pub fn push_implied<G: Gates>(
     ensures keeps { Keeps G.belongs G.node_value gates.old gates.new }
     ensures stored { OnOk result (AreStored (G.belongs gates.new) store.new) }
     ensures beside { OnOk result (AreBeside store.old store.new) }
-    ensures rows { OnOk result ((f g : List CircuitNode) → slice_get store.old.rows.items row ≡ Some f → slice_get store.old.rows.items other ≡ Some g
+    ensures rows { OnOk result ((f g : List CircuitNode) →
+        slice_get store.old.rows.items row ≡ Some f → slice_get store.old.rows.items other ≡ Some g
         → HasTop store.old.rows.items store.new.rows.items (IsImplied (G.node_value gates.old) (G.node_value gates.new) f g count)) }
 {
     push_copy(alloc, gates, store, row, count)?;
@@ -48,7 +49,8 @@ pub fn same_top<G: Gates>(
     ensures keeps { Keeps G.belongs G.node_value gates.old gates.new }
     ensures stored { OnOk result (AreStored (G.belongs gates.new) store.new) }
     ensures beside { OnOk result (AreBeside store.old store.new) }
-    ensures rows { OnOk result ((rest : List (List CircuitNode)) (f g : List CircuitNode) → store.old.rows.items ≡ rest ++ f ∷ g ∷ []
+    ensures rows { OnOk result ((rest : List (List CircuitNode)) (f g : List CircuitNode) →
+        store.old.rows.items ≡ rest ++ f ∷ g ∷ []
         → HasTop rest store.new.rows.items (AreSame (G.node_value gates.old) (G.node_value gates.new) f g count)) }
 {
     let second = store.top();
@@ -72,7 +74,8 @@ pub fn choose_top<G: Gates>(
     ensures keeps { Keeps G.belongs G.node_value gates.old gates.new }
     ensures stored { OnOk result (AreStored (G.belongs gates.new) store.new) }
     ensures beside { OnOk result (AreBeside store.old store.new) }
-    ensures rows { OnOk result ((rest : List (List CircuitNode)) (f g h : List CircuitNode) → store.old.rows.items ≡ rest ++ f ∷ g ∷ h ∷ []
+    ensures rows { OnOk result ((rest : List (List CircuitNode)) (f g h : List CircuitNode) →
+        store.old.rows.items ≡ rest ++ f ∷ g ∷ h ∷ []
         → HasTop rest store.new.rows.items (IsChoice (G.node_value gates.old) (G.node_value gates.new) f g h count)) }
 {
     let third = store.top();
@@ -105,7 +108,8 @@ pub fn held_where_top<G: Gates>(
     ensures keeps { Keeps G.belongs G.node_value gates.old gates.new }
     ensures stored { OnOk result (AreStored (G.belongs gates.new) store.new) }
     ensures beside { OnOk result (AreBeside store.old store.new) }
-    ensures rows { OnOk result ((rest : List (List CircuitNode)) (f g h : List CircuitNode) → store.old.rows.items ≡ rest ++ f ∷ g ∷ [] → slice_get rest row ≡ Some h
+    ensures rows { OnOk result ((rest : List (List CircuitNode)) (f g h : List CircuitNode) →
+        store.old.rows.items ≡ rest ++ f ∷ g ∷ [] → slice_get rest row ≡ Some h
         → HasTop rest store.new.rows.items (IsHeldWhere (G.node_value gates.old) (G.node_value gates.new) f g h (number * count))) }
 {
     negate_top(alloc, gates, store)?;
@@ -130,7 +134,8 @@ pub fn push_both<G: Gates>(
     ensures keeps { Keeps G.belongs G.node_value gates.old gates.new }
     ensures stored { OnOk result (AreStored (G.belongs gates.new) store.new) }
     ensures beside { OnOk result (AreBeside store.old store.new) }
-    ensures rows { OnOk result ((f g : List CircuitNode) → slice_get store.old.rows.items there ≡ Some f → slice_get store.old.rows.items row ≡ Some g
+    ensures rows { OnOk result ((f g : List CircuitNode) →
+        slice_get store.old.rows.items there ≡ Some f → slice_get store.old.rows.items row ≡ Some g
         → HasTop store.old.rows.items store.new.rows.items (IsBothPart (G.node_value gates.old) (G.node_value gates.new) f g (number * count) count)) }
 {
     push_copy(alloc, gates, store, there, count)?;

@@ -51,7 +51,8 @@ fn tuples_of(alloc: Global, store: &Store, row: &[usize]) -> Result<Vec<Tuple>, 
 fn found_in<G: Gates>(gates: &G, matrix: &Matrix, tuple: &Tuple) -> Node
     requires { AllBelong (G.belongs gates.now) matrix.now.entries }
     ensures belongs { G.belongs gates.now result }
-    ensures value { (x : ℕ → Bool) → G.node_value gates.now x result ≡ truth (G.node_value gates.now x) matrix.now tuple.now }
+    ensures value { (x : ℕ → Bool) → G.node_value gates.now x result
+        ≡ truth (G.node_value gates.now x) matrix.now tuple.now }
 {
     match matrix.node(tuple) {
         Some(node) => node,
@@ -64,7 +65,8 @@ fn found_in<G: Gates>(gates: &G, matrix: &Matrix, tuple: &Tuple) -> Node
 fn member_node<G: Gates>(gates: &G, store: &Store, number: usize, tuple: &Tuple) -> Node
     requires { AreStored (G.belongs gates.now) store.now }
     ensures belongs { G.belongs gates.now result }
-    ensures says { SaysMember (G.node_value gates.now) store.now.matrices.items number tuple.now result }
+    ensures says { SaysMember (G.node_value gates.now) store.now.matrices.items number tuple.now
+        result }
 {
     if number >= store.matrices.len() {
         return gates.constant(false);
@@ -103,7 +105,8 @@ fn member_nodes<G: Gates>(
 ) -> Result<NodeList, AllocError>
     requires { AreStored (G.belongs gates.now) store.now }
     ensures belongs { IfOk result (λ nodes. AllIn (G.belongs gates.now) nodes) }
-    ensures says { IfOk result (λ nodes. SayMembers (G.node_value gates.now) store.now.matrices.items row.now tuples.now nodes) }
+    ensures says { IfOk result (λ nodes. SayMembers (G.node_value gates.now)
+        store.now.matrices.items row.now tuples.now nodes) }
 {
     let mut nodes = NodeList::new(alloc);
     for place in 0..tuples.len() {
@@ -122,8 +125,10 @@ pub fn members_of<G: Gates>(
 ) -> Result<Vec<Tuple>, AllocError>
     requires { AreStored (G.belongs gates.now) store.old }
     ensures stored { OnOk result (AreStored (G.belongs gates.now) store.new) }
-    ensures members { IfOk result (λ tuples. HasMembers store.old.matrices.items row.now tuples.items) }
-    ensures says { IfOk result (λ tuples. (nodes : List CircuitNode) × IsPushed store.old store.new nodes
+    ensures members { IfOk result (λ tuples. HasMembers store.old.matrices.items row.now
+        tuples.items) }
+    ensures says { IfOk result (λ tuples. (nodes : List CircuitNode)
+        × IsPushed store.old store.new nodes
         × SayMembers (G.node_value gates.now) store.old.matrices.items row.now tuples.items nodes) }
 {
     let tuples = tuples_of(alloc, store, row)?;

@@ -56,7 +56,9 @@ fn set_of_sets<G: Gates>(
     requires { AreStored (G.belongs gates.old) store.now }
     ensures keeps { Keeps G.belongs G.node_value gates.old gates.new }
     ensures belongs { IfOk result (λ m. AllBelong (G.belongs gates.new) m.entries) }
-    ensures means { IfOk result (λ m. (p q : MatrixEntries) → slice_get store.now.matrices.items a ≡ Some p → slice_get store.now.matrices.items b ≡ Some q
+    ensures means { IfOk result (λ m. (p q : MatrixEntries) →
+        slice_get store.now.matrices.items a ≡ Some p →
+        slice_get store.now.matrices.items b ≡ Some q
         → (x : ℕ → Bool) → MeansSet (G.node_value gates.new x) m (tuples_made op (set_of (G.node_value gates.old x) p) (set_of (G.node_value gates.old x) q))) }
 {
     if a >= store.matrices.len() || b >= store.matrices.len() {
@@ -150,7 +152,9 @@ fn add_set<G: Gates>(
     ensures keeps { Keeps G.belongs G.node_value gates.old gates.new }
     ensures stored { OnOk result (AreStored (G.belongs gates.new) store.new) }
     ensures grows { OnOk result (Grows store.old store.new) }
-    ensures makes { IfOk result (λ k. (p q : MatrixEntries) → slice_get store.old.matrices.items pair.0 ≡ Some p → slice_get store.old.matrices.items pair.1 ≡ Some q
+    ensures makes { IfOk result (λ k. (p q : MatrixEntries) →
+        slice_get store.old.matrices.items pair.0 ≡ Some p →
+        slice_get store.old.matrices.items pair.1 ≡ Some q
         → (m : MatrixEntries) × (slice_get store.new.matrices.items k ≡ Some m)
         × ((x : ℕ → Bool) → MeansSet (G.node_value gates.new x) m (tuples_made op (set_of (G.node_value gates.old x) p) (set_of (G.node_value gates.old x) q)))) }
 {
@@ -172,7 +176,8 @@ pub fn apply_at<G: Gates>(
     ensures keeps { Keeps G.belongs G.node_value gates.old gates.new }
     ensures stored { OnOk result (AreStored (G.belongs gates.new) store.new) }
     ensures grows { OnOk result (Grows store.old store.new) }
-    ensures sets { IfOk result (λ k. MakesSet op (G.node_value gates.old) (G.node_value gates.new) store.old.matrices.items store.new.matrices.items pair k) }
+    ensures sets { IfOk result (λ k. MakesSet op (G.node_value gates.old) (G.node_value gates.new)
+        store.old.matrices.items store.new.matrices.items pair k) }
 {
     match op {
         Operator::OfSets(op) => {
@@ -210,7 +215,9 @@ fn ask_sets<G: Gates>(
     requires { AreStored (G.belongs gates.old) store.now }
     ensures keeps { Keeps G.belongs G.node_value gates.old gates.new }
     ensures belongs { IfOk result (λ n. G.belongs gates.new n) }
-    ensures means { IfOk result (λ n. (p q : MatrixEntries) → slice_get store.now.matrices.items a ≡ Some p → slice_get store.now.matrices.items b ≡ Some q
+    ensures means { IfOk result (λ n. (p q : MatrixEntries) →
+        slice_get store.now.matrices.items a ≡ Some p →
+        slice_get store.now.matrices.items b ≡ Some q
         → (x : ℕ → Bool) → (G.node_value gates.new x n ≡ true) ↔ IsAnswered question (set_of (G.node_value gates.old x) p) (set_of (G.node_value gates.old x) q)) }
 {
     if a >= store.matrices.len() || b >= store.matrices.len() {
@@ -255,7 +262,8 @@ fn ask_pair<G: Gates>(
     requires { AreStored (G.belongs gates.old) store.now }
     ensures keeps { Keeps G.belongs G.node_value gates.old gates.new }
     ensures belongs { IfOk result (λ n. G.belongs gates.new n) }
-    ensures sets { IfOk result (λ n. AnswersSets question (G.node_value gates.old) (G.node_value gates.new) store.now.matrices.items pair n) }
+    ensures sets { IfOk result (λ n. AnswersSets question (G.node_value gates.old)
+        (G.node_value gates.new) store.now.matrices.items pair n) }
 {
     match question {
         TestOperator::OfSets(question) => {
@@ -277,7 +285,8 @@ pub fn ask_at<G: Gates>(
     ensures keeps { Keeps G.belongs G.node_value gates.old gates.new }
     ensures stored { OnOk result (AreStored (G.belongs gates.new) store.new) }
     ensures beside { OnOk result (AreBeside store.old store.new) }
-    ensures rows { OnOk result ((rest : List (List CircuitNode)) (f : List CircuitNode) → store.old.rows.items ≡ rest ++ f ∷ []
+    ensures rows { OnOk result ((rest : List (List CircuitNode)) (f : List CircuitNode) →
+        store.old.rows.items ≡ rest ++ f ∷ []
         → HasTop rest store.new.rows.items (AddsAnswer question (G.node_value gates.old) (G.node_value gates.new) store.old.matrices.items pair f)) }
 {
     let node = ask_pair(alloc, gates, store, question, pair)?;

@@ -36,7 +36,8 @@ pub fn one_set<G: Gates>(
     requires matrix { AllBelong (G.belongs gates.now) matrix.entries }
     ensures stored { OnOk result (AreStored (G.belongs gates.now) store.new) }
     ensures added { OnOk result (IsAdded store.old store.new matrix) }
-    ensures numbers { IfOk result (λ row. row.items ≡ replicate count (length store.old.matrices.items)) }
+    ensures numbers { IfOk result (λ row. row.items
+        ≡ replicate count (length store.old.matrices.items)) }
 {
     let number = add_matrix(gates, store, matrix)?;
     let row = repeated(alloc, number, count)?;
@@ -73,7 +74,9 @@ fn made_of<G: Gates>(
     ensures keeps { Keeps G.belongs G.node_value gates.old gates.new }
     ensures stored { OnOk result (AreStored (G.belongs gates.new) store.new) }
     ensures grows { OnOk result (Grows store.old store.new) }
-    ensures made { IfOk result (λ numbers. AllMade op (G.node_value gates.old) (G.node_value gates.new) store.old.matrices.items store.new.matrices.items pairs.now numbers.items) }
+    ensures made { IfOk result (λ numbers. AllMade op (G.node_value gates.old)
+        (G.node_value gates.new) store.old.matrices.items store.new.matrices.items pairs.now
+        numbers.items) }
 {
     let mut numbers = Vec::new(alloc);
     for place in 0..pairs.len() {
@@ -119,7 +122,8 @@ fn answers_of<G: Gates>(
     ensures keeps { Keeps G.belongs G.node_value gates.old gates.new }
     ensures stored { OnOk result (AreStored (G.belongs gates.new) store.new) }
     ensures beside { OnOk result (AreBeside store.old store.new) }
-    ensures rows { OnOk result ((rest : List (List CircuitNode)) → store.old.rows.items ≡ rest ++ [] ∷ []
+    ensures rows { OnOk result ((rest : List (List CircuitNode)) →
+        store.old.rows.items ≡ rest ++ [] ∷ []
         → HasTop rest store.new.rows.items (AllAnswered question (G.node_value gates.old) (G.node_value gates.new) store.old.matrices.items pairs.now)) }
 {
     for place in 0..pairs.len() {

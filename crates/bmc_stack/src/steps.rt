@@ -24,7 +24,8 @@ pub fn push_constant<G: Gates>(
 ) -> Result<(), AllocError>
     requires { AreStored (G.belongs gates.now) store.old }
     ensures stored { OnOk result (AreStored (G.belongs gates.now) store.new) }
-    ensures pushed { OnOk result ((row : List CircuitNode) × IsPushed store.old store.new row × IsConstant (G.node_value gates.now) count value row) }
+    ensures pushed { OnOk result ((row : List CircuitNode) × IsPushed store.old store.new row
+        × IsConstant (G.node_value gates.now) count value row) }
 {
     let row = constantly(alloc, gates, count, value)?;
     push_row(gates, store, row)?;
@@ -36,7 +37,8 @@ pub fn negate_top<G: Gates>(alloc: Global, gates: &G, store: &mut Store) -> Resu
     requires { AreStored (G.belongs gates.now) store.old }
     ensures stored { OnOk result (AreStored (G.belongs gates.now) store.new) }
     ensures beside { OnOk result (AreBeside store.old store.new) }
-    ensures rows { OnOk result ((rest : List (List CircuitNode)) (f : List CircuitNode) → store.old.rows.items ≡ rest ++ f ∷ []
+    ensures rows { OnOk result ((rest : List (List CircuitNode)) (f : List CircuitNode) →
+        store.old.rows.items ≡ rest ++ f ∷ []
         → HasTop rest store.new.rows.items (IsNegated (G.node_value gates.now) f)) }
 {
     let row = pop_row(alloc, gates, store);
@@ -51,7 +53,8 @@ pub fn both_top<G: Gates>(alloc: Global, gates: &mut G, store: &mut Store) -> Re
     ensures keeps { Keeps G.belongs G.node_value gates.old gates.new }
     ensures stored { OnOk result (AreStored (G.belongs gates.new) store.new) }
     ensures beside { OnOk result (AreBeside store.old store.new) }
-    ensures rows { OnOk result ((rest : List (List CircuitNode)) (f g : List CircuitNode) → store.old.rows.items ≡ rest ++ f ∷ g ∷ []
+    ensures rows { OnOk result ((rest : List (List CircuitNode)) (f g : List CircuitNode) →
+        store.old.rows.items ≡ rest ++ f ∷ g ∷ []
         → HasTop rest store.new.rows.items (AreBoth (G.node_value gates.old) (G.node_value gates.new) f g)) }
 {
     let second = pop_row(alloc, gates, store);
@@ -71,7 +74,8 @@ pub fn after_top<G: Gates>(
     requires { AreStored (G.belongs gates.now) store.old }
     ensures stored { OnOk result (AreStored (G.belongs gates.now) store.new) }
     ensures beside { OnOk result (AreBeside store.old store.new) }
-    ensures rows { OnOk result ((rest : List (List CircuitNode)) (f : List CircuitNode) → store.old.rows.items ≡ rest ++ f ∷ []
+    ensures rows { OnOk result ((rest : List (List CircuitNode)) (f : List CircuitNode) →
+        store.old.rows.items ≡ rest ++ f ∷ []
         → HasTop rest store.new.rows.items (IsSpread (G.node_value gates.now) f frame.now.next.items)) }
 {
     let row = pop_row(alloc, gates, store);
@@ -114,7 +118,8 @@ fn part_at<G: Gates>(
 ) -> Result<NodeList, AllocError>
     requires { AreStored (G.belongs gates.now) store.now }
     ensures belongs { IfOk result (λ new. AllIn (G.belongs gates.now) new) }
-    ensures part { IfOk result (λ new. (f : List CircuitNode) → slice_get store.now.rows.items row ≡ Some f
+    ensures part { IfOk result (λ new. (f : List CircuitNode) →
+        slice_get store.now.rows.items row ≡ Some f
         → IsPart (G.node_value gates.now) f from (to - from) new) }
 {
     if row >= store.rows.len() {
@@ -186,7 +191,8 @@ pub fn extend_top<G: Gates>(
     requires node { G.belongs gates.now node }
     ensures stored { OnOk result (AreStored (G.belongs gates.now) store.new) }
     ensures beside { OnOk result (AreBeside store.old store.new) }
-    ensures rows { OnOk result ((rest : List (List CircuitNode)) (f : List CircuitNode) → store.old.rows.items ≡ rest ++ f ∷ []
+    ensures rows { OnOk result ((rest : List (List CircuitNode)) (f : List CircuitNode) →
+        store.old.rows.items ≡ rest ++ f ∷ []
         → store.new.rows.items ≡ rest ++ (f ++ node ∷ []) ∷ []) }
 {
     let mut row = pop_row(alloc, gates, store);
@@ -205,7 +211,8 @@ pub fn spread_top<G: Gates>(
     requires { AreStored (G.belongs gates.now) store.old }
     ensures stored { OnOk result (AreStored (G.belongs gates.now) store.new) }
     ensures beside { OnOk result (AreBeside store.old store.new) }
-    ensures rows { OnOk result ((rest : List (List CircuitNode)) (f : List CircuitNode) → store.old.rows.items ≡ rest ++ f ∷ []
+    ensures rows { OnOk result ((rest : List (List CircuitNode)) (f : List CircuitNode) →
+        store.old.rows.items ≡ rest ++ f ∷ []
         → HasTop rest store.new.rows.items (IsSpread (G.node_value gates.now) f places.now)) }
 {
     let row = pop_row(alloc, gates, store);

@@ -70,7 +70,8 @@ pub fn both<G: Gates>(
     requires g_belongs { AllIn (G.belongs gates.old) g.now }
     ensures keeps { Keeps G.belongs G.node_value gates.old gates.new }
     ensures belongs { IfOk result (λ row. AllIn (G.belongs gates.new) row) }
-    ensures both { IfOk result (λ row. AreBoth (G.node_value gates.old) (G.node_value gates.new) f.now g.now row) }
+    ensures both { IfOk result (λ row. AreBoth (G.node_value gates.old) (G.node_value gates.new)
+        f.now g.now row) }
 {
     if f.len() != g.len() {
         return Err(AllocError);
@@ -88,7 +89,8 @@ pub fn part<G: Gates>(
 ) -> Result<NodeList, AllocError>
     requires { AllIn (G.belongs gates.now) row.now }
     ensures belongs { IfOk result (λ new. AllIn (G.belongs gates.now) new) }
-    ensures part { IfOk result (λ new. IsPart (G.node_value gates.now) row.now from (to - from) new) }
+    ensures part { IfOk result (λ new. IsPart (G.node_value gates.now) row.now from (to - from)
+        new) }
 {
     let mut new = NodeList::new(alloc);
     for place in 0..to.saturating_sub(from) {
@@ -145,7 +147,8 @@ fn before_in<G: Gates>(
     requires inside { first < length f.now }
     ensures keeps { Keeps G.belongs G.node_value gates.old gates.new }
     ensures belongs { IfOk result (λ row. AllIn (G.belongs gates.new) row) }
-    ensures moving { IfOk result (λ row. IsMoving Before (G.node_value gates.old) (G.node_value gates.new) first f.now g.now row) }
+    ensures moving { IfOk result (λ row. IsMoving Before (G.node_value gates.old)
+        (G.node_value gates.new) first f.now g.now row) }
 {
     // for the proof: only the clauses name the first place and the first operand
     let _ = first;
@@ -168,7 +171,8 @@ fn since_in<G: Gates>(
     requires inside { first < length f.now }
     ensures keeps { Keeps G.belongs G.node_value gates.old gates.new }
     ensures belongs { IfOk result (λ row. AllIn (G.belongs gates.new) row) }
-    ensures moving { IfOk result (λ row. IsMoving Since (G.node_value gates.old) (G.node_value gates.new) first f.now g.now row) }
+    ensures moving { IfOk result (λ row. IsMoving Since (G.node_value gates.old)
+        (G.node_value gates.new) first f.now g.now row) }
 {
     // for the proof: only the clauses name the first place
     let _ = first;
@@ -190,7 +194,8 @@ fn until_in<G: Gates>(
     requires inside { first < length f.now }
     ensures keeps { Keeps G.belongs G.node_value gates.old gates.new }
     ensures belongs { IfOk result (λ row. AllIn (G.belongs gates.new) row) }
-    ensures moving { IfOk result (λ row. IsMoving Until (G.node_value gates.old) (G.node_value gates.new) first f.now g.now row) }
+    ensures moving { IfOk result (λ row. IsMoving Until (G.node_value gates.old)
+        (G.node_value gates.new) first f.now g.now row) }
 {
     let made = gate_temporal::until(alloc, gates, first, f, g)?;
     Ok(made)
@@ -211,7 +216,8 @@ fn in_window<G: Gates>(
     ensures keeps { Keeps G.belongs G.node_value gates.old gates.new }
     ensures belongs { IfOk result (λ row. AllIn (G.belongs gates.new) row) }
     ensures inside { OnOk result (first < length f.now) }
-    ensures moving { IfOk result (λ row. IsMoving op (G.node_value gates.old) (G.node_value gates.new) first f.now g.now row) }
+    ensures moving { IfOk result (λ row. IsMoving op (G.node_value gates.old)
+        (G.node_value gates.new) first f.now g.now row) }
 {
     if f.len() != g.len() || first >= f.len() {
         return Err(AllocError);
@@ -236,7 +242,8 @@ fn along_window<G: Gates>(
     requires g_belongs { AllIn (G.belongs gates.old) g.now }
     ensures keeps { Keeps G.belongs G.node_value gates.old gates.new }
     ensures belongs { IfOk result (λ row. AllIn (G.belongs gates.new) row) }
-    ensures moved { IfOk result (λ row. IsMoved op (G.node_value gates.old) (G.node_value gates.new) window f.now g.now row) }
+    ensures moved { IfOk result (λ row. IsMoved op (G.node_value gates.old) (G.node_value gates.new)
+        window f.now g.now row) }
 {
     let first = part(alloc, gates, f, window.start, window.end)?;
     let second = part(alloc, gates, g, window.start, window.end)?;

@@ -80,7 +80,8 @@ fn add_shown(
     size: u64,
 ) -> Result<(), AllocError>
     requires { loop_start < states }
-    ensures { OnOk result (AddsPlaces shown.old.items shown.new.items size (λ k. state_shown states loop_start k)) }
+    ensures { OnOk result (AddsPlaces shown.old.items shown.new.items size
+        (λ k. state_shown states loop_start k)) }
 {
     for place in 0..size {
         shown.push(state_at(states, loop_start, place))?;
@@ -115,7 +116,8 @@ fn add_next(
     requires start { loop_start < states }
     requires size { size ≡ window_length states rounds loop_start }
     requires round { states - loop_start ≤ size }
-    ensures { OnOk result (AddsPlaces next.old.items next.new.items size (λ k. length next.old.items + place_next states rounds loop_start k)) }
+    ensures { OnOk result (AddsPlaces next.old.items next.new.items size
+        (λ k. length next.old.items + place_next states rounds loop_start k)) }
 {
     let first = next.len();
     let round = u64::from(states - loop_start);

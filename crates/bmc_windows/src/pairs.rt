@@ -44,7 +44,8 @@ fn add_pair(
     first: usize,
     second: usize,
 ) -> Result<(), AllocError>
-    ensures { OnOk result (AddsPair pairs.old.items pairs.new.items row.old.items row.new.items (first, second)) }
+    ensures { OnOk result (AddsPair pairs.old.items pairs.new.items row.old.items row.new.items
+        (first, second)) }
 {
     match place_of(pairs, first, second) {
         Some(place) => {

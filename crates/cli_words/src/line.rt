@@ -38,7 +38,8 @@ fn option_or<'a>(alloc: Global, id: &'a str, value: &'a str) -> Arg<'a>
 /// The command with one more argument.
 fn with<'a>(command: Command<'a>, arg: Arg<'a>) -> Result<Command<'a>, AllocError>
     requires { arg.global ≡ false }
-    ensures { IfOk result (λ more. app_of more ≡ with_rule (app_of command.entry) (rule_of arg.entry)) }
+    ensures { IfOk result (λ more. app_of more ≡ with_rule (app_of command.entry)
+        (rule_of arg.entry)) }
 {
     command.arg(arg)
 }
@@ -88,7 +89,8 @@ pub fn command_line<'a>(alloc: Global) -> Result<Command<'a>, AllocError>
 
 /// What the words give.
 pub fn matches<'a>(alloc: Global, words: &'a [String]) -> Result<ArgMatches<'a>, Error>
-    ensures rows { IfOk result (λ m. rows_of (found_of m) ≡ matches_of alloyc_app (map string_bytes words.entry.now)) }
+    ensures rows { IfOk result (λ m. rows_of (found_of m)
+        ≡ matches_of alloyc_app (map string_bytes words.entry.now)) }
     ensures fails { FailsBy (fault_of alloyc_app (map string_bytes words.entry.now)) result }
 {
     let command = command_line(alloc)?;

@@ -49,7 +49,8 @@ pub fn settings_of_words(alloc: Global, words: &[String]) -> Result<Option<Setti
 
 /// The settings that the texts give.
 fn settings_in(alloc: Global, given: Given) -> Result<Option<Settings>, AllocError>
-    ensures { (rows : List Row) → IsGiven given.entry rows → IfOk result (λ settings. settings ≡ settings_in rows) }
+    ensures { (rows : List Row) → IsGiven given.entry rows →
+        IfOk result (λ settings. settings ≡ settings_in rows) }
 {
     let Some(choices) = choices_in(given) else {
         return Ok(None);

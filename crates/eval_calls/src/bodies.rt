@@ -34,7 +34,8 @@ fn by_rank(alloc: Global, bodies: &BodyList) -> Result<Vec<Ranked>, AllocError> 
 /// The weight of a body, which may call bodies of lower rank.
 fn weight_at(bodies: &BodyList, weights: &[u32], body: usize) -> u32
     requires { body < length bodies.now }
-    ensures { (b : Body) → slice_get bodies.now body ≡ Some b → result ≡ weight_of_form (calls_below bodies.now weights.now b.rank) b.form }
+    ensures { (b : Body) → slice_get bodies.now body ≡ Some b →
+        result ≡ weight_of_form (calls_below bodies.now weights.now b.rank) b.form }
 {
     let there = bodies.get(body);
     of_form(bodies, weights, there.rank, &there.form)
@@ -54,7 +55,8 @@ fn weights_of(alloc: Global, bodies: &BodyList) -> Result<Vec<u32>, AllocError> 
 /// Whether a body has its weight and a rank below the number of bodies.
 fn is_weighed(bodies: &BodyList, weights: &[u32], body: usize) -> bool
     requires { body < length bodies.now }
-    ensures { IsTrue result → (b : Body) → slice_get bodies.now body ≡ Some b → IsWeighed bodies.now weights.now body b }
+    ensures { IsTrue result → (b : Body) → slice_get bodies.now body ≡ Some b →
+        IsWeighed bodies.now weights.now body b }
 {
     if body >= weights.len() || weights[body] != weight_at(bodies, weights, body) {
         return false;

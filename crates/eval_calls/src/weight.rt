@@ -117,7 +117,8 @@ pub fn of_expr(bodies: &BodyList, weights: &[u32], rank: u32, expr: &Expr) -> u3
 #[cycle(weigh)]
 #[tactic(auto, using(crate::proofs::Weighed::terms_more, crate::proofs::Weighed::terms_all))]
 fn of_terms(bodies: &BodyList, weights: &[u32], rank: u32, list: &[Expr]) -> u32
-    ensures { result ≡ weight_of_terms (calls_below bodies.now weights.now rank) (term_list (map term_of list.now)) }
+    ensures { result ≡ weight_of_terms (calls_below bodies.now weights.now rank)
+        (term_list (map term_of list.now)) }
 {
     let mut weight = 0;
     for expr in list {
@@ -130,7 +131,8 @@ fn of_terms(bodies: &BodyList, weights: &[u32], rank: u32, list: &[Expr]) -> u32
 #[cycle(weigh)]
 #[tactic(auto, using(crate::proofs::Weighed::bounds_more, crate::proofs::Weighed::bounds_all))]
 fn of_bounds(bodies: &BodyList, weights: &[u32], rank: u32, list: &[Variable]) -> u32
-    ensures { result ≡ weight_of_bounds (calls_below bodies.now weights.now rank) (variable_list (map variable_of list.now)) }
+    ensures { result ≡ weight_of_bounds (calls_below bodies.now weights.now rank)
+        (variable_list (map variable_of list.now)) }
 {
     let mut weight = 0;
     for variable in list {
@@ -196,7 +198,8 @@ pub fn of_formula(bodies: &BodyList, weights: &[u32], rank: u32, formula: &Formu
 #[cycle(weigh)]
 #[tactic(auto, using(crate::proofs::Weighed::claims_more, crate::proofs::Weighed::claims_all))]
 fn of_formulas(bodies: &BodyList, weights: &[u32], rank: u32, list: &[Formula]) -> u32
-    ensures { result ≡ weight_of_each (calls_below bodies.now weights.now rank) (claim_list (map claim_of list.now)) }
+    ensures { result ≡ weight_of_each (calls_below bodies.now weights.now rank)
+        (claim_list (map claim_of list.now)) }
 {
     let mut weight = 0;
     for formula in list {

@@ -19,7 +19,8 @@ fn is_declared(
     scopes: &Scopes,
     lasso: &Lasso,
 ) -> Result<bool, AllocError>
-    ensures { IfOk result (λ b. IsTrue b ↔ ((i : ℕ) → DeclaresAt model.now scopes.now lasso.now i)) }
+    ensures { IfOk result (λ b. IsTrue b ↔ ((i : ℕ) →
+        DeclaresAt model.now scopes.now lasso.now i)) }
 {
     match declared(alloc, model, scopes, lasso)? {
         Some(_) => Ok(false),
@@ -35,7 +36,8 @@ fn facts_hold(
     lasso: &Lasso,
     facts: &[Fact],
 ) -> Result<bool, AllocError>
-    ensures { IfOk result (λ b. IsTrue b ↔ All (λ (f : FactOf). HoldsAt model.now scopes.now lasso.now (claim_of f.formula) no_names 0) facts.now) }
+    ensures { IfOk result (λ b. IsTrue b ↔ All (λ (f : FactOf).
+        HoldsAt model.now scopes.now lasso.now (claim_of f.formula) no_names 0) facts.now) }
 {
     for fact in facts {
         let truth = holds(alloc, model, scopes, lasso, &fact.formula, 0)?;
@@ -58,7 +60,8 @@ pub fn satisfies(
     lasso: &Lasso,
     command: &Formula,
 ) -> Result<bool, AllocError>
-    ensures { IfOk result (λ b. IsTrue b ↔ Satisfies model.now scopes.now lasso.now (claim_of command.now)) }
+    ensures { IfOk result (λ b. IsTrue b ↔ Satisfies model.now scopes.now lasso.now
+        (claim_of command.now)) }
 {
     let kept = keeps(alloc, model, scopes, lasso)?;
     if !kept {

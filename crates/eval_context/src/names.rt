@@ -22,7 +22,8 @@ pub enum Meant<'a> {
 
 /// What a name stands for in a scope.
 pub fn look_up<'a>(scope: &'a Environment<'a>, name: u32) -> Meant<'a>
-    ensures { (w : World) (list : List Body) (n i : ℕ) (t : List ℕ) → Stands w (called w list n) result (names_of w (called w list n) scope.now name) i t }
+    ensures { (w : World) (list : List Body) (n i : ℕ) (t : List ℕ) →
+        Stands w (called w list n) result (names_of w (called w list n) scope.now name) i t }
 {
     match scope {
         Environment::Empty => Meant::Unknown,

@@ -18,8 +18,10 @@ impl<'a> Setting<'a> {
     /// The set of a relation at a position, where there is such a relation.
     #[tactic(auto, using(crate::proofs::SetLaw::relation_is, crate::proofs::SetLaw::relation_none))]
     pub fn relation(&self, number: usize, position: u64) -> Option<&'a TupleSet>
-        ensures some { IfSome result (λ s. IsSetOf s.now (InRelation (world self.now) number position)) }
-        ensures none { IfNone result ((t : List ℕ) → ¬ InRelation (world self.now) number position t) }
+        ensures some { IfSome result (λ s. IsSetOf s.now
+            (InRelation (world self.now) number position)) }
+        ensures none { IfNone result ((t : List ℕ) →
+            ¬ InRelation (world self.now) number position t) }
     {
         let state = self.lasso().at(position);
         if number < state.len() {
@@ -57,7 +59,8 @@ impl<'a> Setting<'a> {
 
     /// The set of a field at a position.
     pub fn field(&self, field: u32, position: u64) -> Result<TupleSet, EvaluationFault>
-        ensures { IfOk result (λ s. IsSetOf s (InRelation (world self.now) (length (world self.now).top + field) position)) }
+        ensures { IfOk result (λ s. IsSetOf s (InRelation (world self.now)
+            (length (world self.now).top + field) position)) }
     {
         let sigs = self.sig_count();
         self.relation_copy(sigs + field as usize, position)
@@ -66,7 +69,8 @@ impl<'a> Setting<'a> {
     /// The integers.
     #[tactic(auto, using(crate::proofs::SetLaw::counts_none))]
     pub fn integers(&self) -> Result<TupleSet, EvaluationFault>
-        ensures { IfOk result (λ s. IsSetOf s (λ t. (a : ℕ) × IsInteger (world self.now) a × (t ≡ a ∷ []))) }
+        ensures { IfOk result (λ s. IsSetOf s (λ t. (a : ℕ) × IsInteger (world self.now) a
+            × (t ≡ a ∷ []))) }
     {
         let mut all = TupleSet::empty(self.alloc(), 1);
         let first = self.atoms();
@@ -85,7 +89,8 @@ impl<'a> Setting<'a> {
         all: TupleSet,
     ) -> Result<TupleSet, EvaluationFault>
         requires { sig < length self.now.scopes.numbers }
-        ensures { IfOk result (λ s. IsSetOf s (λ t. In t all ⊎ IsOfTop (world self.now) position sig t)) }
+        ensures { IfOk result (λ s. IsSetOf s (λ t. In t all
+            ⊎ IsOfTop (world self.now) position sig t)) }
     {
         if !self.scopes().numbers.get(sig).top {
             return Ok(all);
@@ -104,7 +109,8 @@ impl<'a> Setting<'a> {
     /// What `univ` is at a position: the members of the top-level sigs, and the integers.
     #[tactic(auto, using(crate::proofs::SetLaw::reaches_none))]
     pub fn universe(&self, position: u64) -> Result<TupleSet, EvaluationFault>
-        ensures { IfOk result (λ s. IsSetOf s (λ t. (a : ℕ) × InUniverse (world self.now) position a × (t ≡ a ∷ []))) }
+        ensures { IfOk result (λ s. IsSetOf s (λ t. (a : ℕ) × InUniverse (world self.now) position a
+            × (t ≡ a ∷ []))) }
     {
         let mut all = self.integers()?;
         for sig in 0..self.scopes().numbers.len() {
@@ -128,7 +134,8 @@ impl<'a> Setting<'a> {
         a: &TupleSet,
         position: u64,
     ) -> Result<TupleSet, EvaluationFault>
-        ensures { IfOk result (λ s. IsSetOf s (unary_tuples (world self.now) position op (λ t. In t a.now))) }
+        ensures { IfOk result (λ s. IsSetOf s (unary_tuples (world self.now) position op
+            (λ t. In t a.now))) }
     {
         match op {
             UnaryRelation::Transpose => turned(self.alloc(), a),

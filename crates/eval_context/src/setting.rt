@@ -52,7 +52,13 @@ pub fn make_setting<'a>(
     lasso: &'a Lasso,
     depth: u32,
 ) -> Result<Setting<'a>, EvaluationFault>
-    ensures { IfOk result (λ s. s ≡ record { model = model.now; scopes = scopes.now; lasso = lasso.now; depth = depth }) }
+    ensures { IfOk result (λ s. s ≡ record {
+      model = model.now;
+      scopes = scopes.now;
+      lasso =
+          lasso.now;
+      depth = depth;
+    }) }
 {
     if depth > 8 || scopes.bits < 1 || scopes.bits > 14 {
         return Err(EvaluationFault::Unfit);

@@ -17,7 +17,9 @@ use eval_sets::{EvaluationFault, size_of};
 
 /// How many tuples a set has, wrapped, as a set of one integer.
 pub fn count_of(setting: &Setting, set: &TupleSet) -> Result<TupleSet, EvaluationFault>
-    ensures { IfOk result (λ s. IsSetOf s (λ t. (n : ℤ) × IsCount (world setting.now) (λ u. In u set.now) n × (t ≡ atom_of (world setting.now) n ∷ []))) }
+    ensures { IfOk result (λ s. IsSetOf s (λ t. (n : ℤ)
+        × IsCount (world setting.now) (λ u. In u set.now) n
+        × (t ≡ atom_of (world setting.now) n ∷ []))) }
 {
     let size = size_of(set);
     if size >= 1_099_511_627_776 {
@@ -36,7 +38,11 @@ pub fn arithmetic(
     a: &TupleSet,
     b: &TupleSet,
 ) -> Result<TupleSet, EvaluationFault>
-    ensures { IfOk result (λ s. IsSetOf s (λ t. (x y : ℤ) × IsNumber (world setting.now) (λ u. In u a.now) x × IsNumber (world setting.now) (λ u. In u b.now) y × (t ≡ atom_of (world setting.now) (wrap (world setting.now).bits (result_of op x y)) ∷ []))) }
+    ensures { IfOk result (λ s. IsSetOf s (λ t. (x y : ℤ)
+        × IsNumber (world setting.now) (λ u. In u a.now) x
+        × IsNumber (world setting.now) (λ u. In u b.now) y
+        × (t ≡ atom_of (world setting.now) (wrap (world setting.now).bits (result_of op x y)) ∷
+        []))) }
 {
     let x = number_of(setting, a)?;
     let y = number_of(setting, b)?;
@@ -54,7 +60,8 @@ pub fn compare(
     a: &TupleSet,
     b: &TupleSet,
 ) -> Result<bool, EvaluationFault>
-    ensures { IfOk result (λ r. IsTrue r ↔ Compares (world setting.now) op (λ t. In t a.now) (λ t. In t b.now)) }
+    ensures { IfOk result (λ r. IsTrue r ↔ Compares (world setting.now) op (λ t. In t a.now)
+        (λ t. In t b.now)) }
 {
     let x = number_of(setting, a)?;
     let y = number_of(setting, b)?;

@@ -48,7 +48,8 @@ pub fn literal(setting: &Setting, number: i64) -> Result<TupleSet, EvaluationFau
 
 /// The set of an integer, wrapped.
 pub fn wrapped(setting: &Setting, number: i64) -> Result<TupleSet, EvaluationFault>
-    ensures { IfOk result (λ s. IsSetOf s (λ t. t ≡ atom_of (world setting.now) (wrap (world setting.now).bits number) ∷ [])) }
+    ensures { IfOk result (λ s. IsSetOf s (λ t. t ≡ atom_of (world setting.now)
+        (wrap (world setting.now).bits number) ∷ [])) }
 {
     let bits = setting.bits();
     let value = wrap(bits, number);
@@ -67,7 +68,8 @@ pub fn add(setting: &Setting, x: i64, y: i64) -> i64
 
 /// The integer for which a number of the universe stands, where it stands for one.
 fn integer_for(setting: &Setting, number: u32) -> Option<i64>
-    ensures some { IfSome result (λ z. IsInteger (world setting.now) number × (z ≡ integer_of (world setting.now) number)) }
+    ensures some { IfSome result (λ z. IsInteger (world setting.now) number
+        × (z ≡ integer_of (world setting.now) number)) }
     ensures none { IfNone result (¬ IsInteger (world setting.now) number) }
 {
     let first = setting.atoms();
@@ -83,7 +85,8 @@ fn integer_for(setting: &Setting, number: u32) -> Option<i64>
 /// A sum with what a number of the universe adds to it, wrapped: the integer for which the number
 /// stands, or nothing.
 fn with_number(setting: &Setting, sum: i64, number: u32) -> i64
-    ensures number { result ≡ wrap (world setting.now).bits (sum +ℤ amount (world setting.now) number) }
+    ensures number { result ≡ wrap (world setting.now).bits
+        (sum +ℤ amount (world setting.now) number) }
     ensures low { negsuc 8191 ≤ℤ result }
     ensures high { result <ℤ pos 8192 }
 {
@@ -95,7 +98,8 @@ fn with_number(setting: &Setting, sum: i64, number: u32) -> i64
 
 /// What some numbers of the universe add up to, wrapped.
 fn sum_of(setting: &Setting, numbers: &[u32]) -> i64
-    ensures number { result ≡ wrap (world setting.now).bits (sum_of (map (amount (world setting.now)) numbers.now)) }
+    ensures number { result ≡ wrap (world setting.now).bits
+        (sum_of (map (amount (world setting.now)) numbers.now)) }
     ensures low { negsuc 8191 ≤ℤ result }
     ensures high { result <ℤ pos 8192 }
 {

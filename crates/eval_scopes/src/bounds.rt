@@ -139,7 +139,9 @@ fn is_integer(setting: &Setting, atom: u32) -> bool
 
 /// Whether a number of the universe is bounded by a sig itself, as it stands in a type.
 fn is_of_sig(setting: &Setting, sig: usize, atom: u32) -> Result<bool, EvaluationFault>
-    ensures { IfOk result (λ b. IsTrue b ↔ HasRow setting.now ((SigColumn (standing setting.now.model.sigs (length setting.now.model.sigs) sig) ∷ []) ∷ []) atom) }
+    ensures { IfOk result (λ b. IsTrue b ↔ HasRow setting.now
+        ((SigColumn (standing setting.now.model.sigs (length setting.now.model.sigs) sig) ∷ []) ∷
+        []) atom) }
 {
     let model = setting.model();
     let column = standing(&model.sigs, model.sigs.len(), sig);
@@ -149,7 +151,8 @@ fn is_of_sig(setting: &Setting, sig: usize, atom: u32) -> Result<bool, Evaluatio
 /// Whether a row of a sig's type bounds a number of the universe.
 #[cycle(rows)]
 fn has_row(setting: &Setting, more: usize, sig: usize, atom: u32) -> Result<bool, EvaluationFault>
-    ensures { IfOk result (λ b. IsTrue b ↔ HasRow setting.now (sig_rows setting.now.model.sigs more sig) atom) }
+    ensures { IfOk result (λ b. IsTrue b ↔ HasRow setting.now
+        (sig_rows setting.now.model.sigs more sig) atom) }
 {
     let model = setting.model();
     if more == 0 {
@@ -174,7 +177,8 @@ fn has_column(
     column: Column,
     atom: u32,
 ) -> Result<bool, EvaluationFault>
-    ensures { IfOk result (λ b. IsTrue b ↔ HasRow setting.now (parent_rows (λ p. sig_rows setting.now.model.sigs more p) column) atom) }
+    ensures { IfOk result (λ b. IsTrue b ↔ HasRow setting.now
+        (parent_rows (λ p. sig_rows setting.now.model.sigs more p) column) atom) }
 {
     match column {
         Column::Sig(sig) => has_row(setting, more, sig as usize, atom),
@@ -256,7 +260,8 @@ pub fn is_bounded(
     sig: &Sig,
     atom: u32,
 ) -> Result<bool, EvaluationFault>
-    ensures { IfOk result (λ b. IsTrue b ↔ InSigBound setting.now.model setting.now.scopes place sig.now atom) }
+    ensures { IfOk result (λ b. IsTrue b ↔ InSigBound setting.now.model setting.now.scopes place
+        sig.now atom) }
 {
     let model = setting.model();
     let own = is_own(setting, place, sig, atom)?;

@@ -53,7 +53,8 @@ fn are_bounded(
     sig: &Sig,
     members: &[u32],
 ) -> Result<bool, EvaluationFault>
-    ensures { IfOk result (λ b. IsTrue b ↔ ((a : ℕ) → Contains members.now a → InSigBound setting.now.model setting.now.scopes place sig.now a)) }
+    ensures { IfOk result (λ b. IsTrue b ↔ ((a : ℕ) → Contains members.now a →
+        InSigBound setting.now.model setting.now.scopes place sig.now a)) }
 {
     for member in members {
         let bounded = is_bounded(setting, place, sig, *member)?;
@@ -123,7 +124,8 @@ fn field_keeps(setting: &Setting, place: usize, field: &Field) -> Result<bool, E
 
 /// Whether each field is.
 fn fields_keep(setting: &Setting) -> Result<bool, EvaluationFault>
-    ensures { IfOk result (λ b. IsTrue b ↔ FieldsKept setting.now (length setting.now.model.fields)) }
+    ensures { IfOk result (λ b. IsTrue b ↔ FieldsKept setting.now
+        (length setting.now.model.fields)) }
 {
     let model = setting.model();
     let count = model.fields.len();

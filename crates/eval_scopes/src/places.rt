@@ -21,7 +21,8 @@ fn with_place(
     position: u64,
     all: TupleSet,
 ) -> Result<TupleSet, EvaluationFault>
-    ensures { IfOk result (λ s. IsSetOf s (λ t. In t all ⊎ InRelation (world setting.now) number position t)) }
+    ensures { IfOk result (λ s. IsSetOf s (λ t. In t all
+        ⊎ InRelation (world setting.now) number position t)) }
 {
     match setting.relation(number, position) {
         Some(set) => {
@@ -58,7 +59,8 @@ fn is_empty(set: &TupleSet) -> bool
 
 /// Whether a relation has each tuple of a set at a position.
 fn has_all(setting: &Setting, number: usize, position: u64, all: &TupleSet) -> bool
-    ensures { IsTrue result ↔ IsInside (λ t. In t all.now) (InRelation (world setting.now) number position) }
+    ensures { IsTrue result ↔ IsInside (λ t. In t all.now)
+        (InRelation (world setting.now) number position) }
 {
     match setting.relation(number, position) {
         Some(set) => inside(all, set),

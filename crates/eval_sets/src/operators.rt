@@ -20,7 +20,8 @@ pub fn combine(
     a: &TupleSet,
     b: &TupleSet,
 ) -> Result<TupleSet, EvaluationFault>
-    ensures { IfOk result (λ s. IsSetOf s (combined_tuples op (λ t. In t a.now) (λ t. In t b.now))) }
+    ensures { IfOk result (λ s. IsSetOf s (combined_tuples op (λ t. In t a.now)
+        (λ t. In t b.now))) }
 {
     match op {
         RelationOp::Union => united(alloc, a, b),
@@ -36,7 +37,8 @@ pub fn combine(
 /// The union.
 #[tactic(auto, using(crate::proofs::OperatorLaw::just_set, crate::proofs::OperatorLaw::united_left, crate::proofs::OperatorLaw::united_right))]
 fn united(alloc: Global, a: &TupleSet, b: &TupleSet) -> Result<TupleSet, EvaluationFault>
-    ensures { IfOk result (λ s. IsSetOf s (combined_tuples Union (λ t. In t a.now) (λ t. In t b.now))) }
+    ensures { IfOk result (λ s. IsSetOf s (combined_tuples Union (λ t. In t a.now)
+        (λ t. In t b.now))) }
 {
     if a.arity() == b.arity() {
         return Ok(union(alloc, a, b)?);
@@ -53,7 +55,8 @@ fn united(alloc: Global, a: &TupleSet, b: &TupleSet) -> Result<TupleSet, Evaluat
 /// The difference.
 #[tactic(auto, using(crate::proofs::OperatorLaw::just_set, crate::proofs::OperatorLaw::lessened_apart))]
 fn lessened(alloc: Global, a: &TupleSet, b: &TupleSet) -> Result<TupleSet, EvaluationFault>
-    ensures { IfOk result (λ s. IsSetOf s (combined_tuples Difference (λ t. In t a.now) (λ t. In t b.now))) }
+    ensures { IfOk result (λ s. IsSetOf s (combined_tuples Difference (λ t. In t a.now)
+        (λ t. In t b.now))) }
 {
     if a.arity() == b.arity() {
         return Ok(difference(alloc, a, b)?);
@@ -64,7 +67,8 @@ fn lessened(alloc: Global, a: &TupleSet, b: &TupleSet) -> Result<TupleSet, Evalu
 /// The intersection.
 #[tactic(auto, using(crate::proofs::OperatorLaw::just_set))]
 fn common(alloc: Global, a: &TupleSet, b: &TupleSet) -> Result<TupleSet, EvaluationFault>
-    ensures { IfOk result (λ s. IsSetOf s (combined_tuples Intersection (λ t. In t a.now) (λ t. In t b.now))) }
+    ensures { IfOk result (λ s. IsSetOf s (combined_tuples Intersection (λ t. In t a.now)
+        (λ t. In t b.now))) }
 {
     if a.arity() == b.arity() {
         return Ok(intersection(alloc, a, b)?);
@@ -75,7 +79,8 @@ fn common(alloc: Global, a: &TupleSet, b: &TupleSet) -> Result<TupleSet, Evaluat
 /// The join.
 #[tactic(auto, using(crate::proofs::OperatorLaw::just_set))]
 fn joined(alloc: Global, a: &TupleSet, b: &TupleSet) -> Result<TupleSet, EvaluationFault>
-    ensures { IfOk result (λ s. IsSetOf s (combined_tuples Join (λ t. In t a.now) (λ t. In t b.now))) }
+    ensures { IfOk result (λ s. IsSetOf s (combined_tuples Join (λ t. In t a.now)
+        (λ t. In t b.now))) }
 {
     let columns = a.arity() as usize + b.arity() as usize;
     if columns >= 3 && columns <= 11 {
@@ -92,7 +97,8 @@ fn joined(alloc: Global, a: &TupleSet, b: &TupleSet) -> Result<TupleSet, Evaluat
 
 /// The tuples of the second set, and those of the first that begin otherwise than all of these.
 fn overridden(alloc: Global, a: &TupleSet, b: &TupleSet) -> Result<TupleSet, EvaluationFault>
-    ensures { IfOk result (λ s. IsSetOf s (combined_tuples Override (λ t. In t a.now) (λ t. In t b.now))) }
+    ensures { IfOk result (λ s. IsSetOf s (combined_tuples Override (λ t. In t a.now)
+        (λ t. In t b.now))) }
 {
     let begins = firsts(alloc, b)?;
     let kept = passing(alloc, Rule::BeginsApart, a, &begins)?;
@@ -101,14 +107,16 @@ fn overridden(alloc: Global, a: &TupleSet, b: &TupleSet) -> Result<TupleSet, Eva
 
 /// The tuples of the second set whose first number is in the first set.
 fn left_restricted(alloc: Global, a: &TupleSet, b: &TupleSet) -> Result<TupleSet, EvaluationFault>
-    ensures { IfOk result (λ s. IsSetOf s (combined_tuples LeftRestrict (λ t. In t a.now) (λ t. In t b.now))) }
+    ensures { IfOk result (λ s. IsSetOf s (combined_tuples LeftRestrict (λ t. In t a.now)
+        (λ t. In t b.now))) }
 {
     passing(alloc, Rule::BeginsIn, b, a)
 }
 
 /// The tuples of the first set whose last number is in the second set.
 fn right_restricted(alloc: Global, a: &TupleSet, b: &TupleSet) -> Result<TupleSet, EvaluationFault>
-    ensures { IfOk result (λ s. IsSetOf s (combined_tuples RightRestrict (λ t. In t a.now) (λ t. In t b.now))) }
+    ensures { IfOk result (λ s. IsSetOf s (combined_tuples RightRestrict (λ t. In t a.now)
+        (λ t. In t b.now))) }
 {
     passing(alloc, Rule::EndsIn, a, b)
 }
@@ -134,7 +142,8 @@ pub fn paired(alloc: Global, a: &TupleSet, b: &TupleSet) -> Result<TupleSet, Eva
 
 /// The pairs of a set turned round.
 pub fn turned(alloc: Global, a: &TupleSet) -> Result<TupleSet, EvaluationFault>
-    ensures { IfOk result (λ s. IsSetOf s (λ t. (x y : ℕ) × In (y ∷ x ∷ []) a.now × (t ≡ x ∷ y ∷ []))) }
+    ensures { IfOk result (λ s. IsSetOf s (λ t. (x y : ℕ) × In (y ∷ x ∷ []) a.now
+        × (t ≡ x ∷ y ∷ []))) }
 {
     if a.arity() == 2 {
         return Ok(transpose(alloc, a)?);

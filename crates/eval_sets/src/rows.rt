@@ -84,7 +84,8 @@ fn begins_in(alloc: Global, tuple: &Keyed, atoms: &TupleSet) -> Result<bool, All
 
 /// The last number of a tuple.
 fn last_of(tuple: &Keyed) -> Option<u32>
-    ensures { MatchOption result (length tuple.now ≡ 0) (λ x. (r : List ℕ) × (tuple.now ≡ r ++ x ∷ [])) }
+    ensures { MatchOption result (length tuple.now ≡ 0)
+        (λ x. (r : List ℕ) × (tuple.now ≡ r ++ x ∷ [])) }
 {
     let numbers = tuple.numbers();
     let count = numbers.len();
@@ -165,7 +166,8 @@ fn add_first(alloc: Global, tuple: &Keyed, all: &mut TupleSet) -> Result<(), Eva
 
 /// The first numbers of a set's tuples.
 pub fn firsts(alloc: Global, set: &TupleSet) -> Result<TupleSet, EvaluationFault>
-    ensures { IfOk result (λ s. IsSetOf s (λ t. (x : ℕ) × (r : List ℕ) × In (x ∷ r) set.now × (t ≡ x ∷ []))) }
+    ensures { IfOk result (λ s. IsSetOf s (λ t. (x : ℕ) × (r : List ℕ) × In (x ∷ r) set.now
+        × (t ≡ x ∷ []))) }
 {
     let mut all = TupleSet::empty(alloc, 1);
     let tuples = set.keyed();

@@ -52,7 +52,13 @@ pub fn judge_of<'a>(
     scopes: &'a Scopes,
     lasso: &'a Lasso,
 ) -> Result<Judge<'a>, EvaluationFault>
-    ensures { IfOk result (λ j. j ≡ record { model = model.now; scopes = scopes.now; lasso = lasso.now; depth = 0 }) }
+    ensures { IfOk result (λ j. j ≡ record {
+      model = model.now;
+      scopes = scopes.now;
+      lasso =
+          lasso.now;
+      depth = 0;
+    }) }
 {
     let setting = make_setting(alloc, model, scopes, lasso, 0)?;
     let found = weigh(alloc, &model.bodies)?;
@@ -118,7 +124,9 @@ impl<'a> Judge<'a> {
 
     /// The rounds that an expression needs where the names of its scope need so many.
     fn expr_rounds(&self, expr: &Expr, names: u32) -> u32
-        ensures repeats { (scope : Environment) → result < 2 ^ 32 - 1 → NamesRepeat self.now scope names → TermRepeats self.now (term_of expr.now) scope result }
+        ensures repeats { (scope : Environment) → result < 2 ^ 32 - 1 →
+            NamesRepeat self.now scope names → TermRepeats self.now (term_of expr.now) scope
+            result }
         ensures more { names ≤ result }
     {
         let bodies = self.bodies();
@@ -131,7 +139,9 @@ impl<'a> Judge<'a> {
 
     /// The rounds that a formula needs where the names of its scope need so many.
     fn claim_rounds(&self, formula: &Formula, names: u32) -> u32
-        ensures repeats { (scope : Environment) → result < 2 ^ 32 - 1 → NamesRepeat self.now scope names → ClaimRepeats self.now (claim_of formula.now) scope result }
+        ensures repeats { (scope : Environment) → result < 2 ^ 32 - 1 →
+            NamesRepeat self.now scope names → ClaimRepeats self.now (claim_of formula.now) scope
+            result }
         ensures more { names ≤ result }
     {
         // for the proof: this call's clauses say that the lasso has a loop
@@ -147,7 +157,8 @@ impl<'a> Judge<'a> {
     /// From how many rounds of the loop on a formula has the same truth in each round, where its names
     /// are atoms.
     pub fn fact_rounds(&self, fact: &Formula) -> u32
-        ensures { (atoms : List Binding) → result < 2 ^ 32 - 1 → Again self.now (claim_of fact.now) (atom_names atoms) result }
+        ensures { (atoms : List Binding) → result < 2 ^ 32 - 1 →
+            Again self.now (claim_of fact.now) (atom_names atoms) result }
     {
         // for the proof: this call's clauses say that the lasso has a loop
         let _ = self.period();
@@ -157,7 +168,8 @@ impl<'a> Judge<'a> {
 
     /// The same of a bound in which what `this` has in a relation lies, with a multiplicity.
     pub fn bound_rounds(&self, bound: &Expr) -> u32
-        ensures { (atoms : List Binding) (n : ℕ) (m : Multiplicity) → result < 2 ^ 32 - 1 → Again self.now (within (value_term n) m (term_of bound.now)) (atom_names atoms) result }
+        ensures { (atoms : List Binding) (n : ℕ) (m : Multiplicity) → result < 2 ^ 32 - 1 →
+            Again self.now (within (value_term n) m (term_of bound.now)) (atom_names atoms) result }
     {
         // for the proof: this call's clauses say that the lasso has a loop
         let _ = self.period();
@@ -206,7 +218,8 @@ pub fn limit(
     scope: &Environment,
     position: u64,
 ) -> Result<u64, EvaluationFault>
-    ensures { IfOk result (λ end. IsLimit (λ j. HoldsIn judge.now (claim_of formula.now) (scope_names judge.now scope.now) j) position end) }
+    ensures { IfOk result (λ end. IsLimit (λ j. HoldsIn judge.now (claim_of formula.now)
+        (scope_names judge.now scope.now) j) position end) }
 {
     let rounds = claim_repeats(judge, formula, scope);
     if rounds >= MANY {
@@ -234,7 +247,8 @@ fn folded(judge: &Judge, rounds: u32, position: u64) -> u64
 
 /// An early position at which a closed formula has the same truth.
 pub fn claim_place(judge: &Judge, formula: &Formula, position: u64) -> Result<u64, EvaluationFault>
-    ensures { IfOk result (λ place. HoldsIn judge.now (claim_of formula.now) no_names place ↔ HoldsIn judge.now (claim_of formula.now) no_names position) }
+    ensures { IfOk result (λ place. HoldsIn judge.now (claim_of formula.now) no_names place
+        ↔ HoldsIn judge.now (claim_of formula.now) no_names position) }
 {
     let rounds = claim_repeats(judge, formula, &Environment::Empty);
     if rounds >= MANY {
@@ -245,7 +259,9 @@ pub fn claim_place(judge: &Judge, formula: &Formula, position: u64) -> Result<u6
 
 /// An early position at which a closed expression has the same tuples.
 pub fn term_place(judge: &Judge, expr: &Expr, position: u64) -> Result<u64, EvaluationFault>
-    ensures { IfOk result (λ place. (t : List ℕ) → Means judge.now (term_of expr.now) no_names place t ↔ Means judge.now (term_of expr.now) no_names position t) }
+    ensures { IfOk result (λ place. (t : List ℕ) →
+        Means judge.now (term_of expr.now) no_names place t
+        ↔ Means judge.now (term_of expr.now) no_names position t) }
 {
     // for the proof: this call's clauses say that the lasso has a loop
     let _ = judge.period();

@@ -36,7 +36,8 @@ pub fn relation_at<'a>(judge: &Judge<'a>, number: usize, position: u64) -> Held<
 /// The set of a field at a position: fields' relations come after those of sigs.
 pub fn field_of<'a>(judge: &Judge<'a>, field: usize, position: u64) -> Held<'a>
     requires { field < 2 ^ 32 }
-    ensures { IsFound result (InRelation (world judge.now) (length (world judge.now).top + field) position) }
+    ensures { IsFound result (InRelation (world judge.now) (length (world judge.now).top + field)
+        position) }
 {
     let setting = judge.setting();
     let sigs = setting.scopes().numbers.as_slice().len();
@@ -45,7 +46,8 @@ pub fn field_of<'a>(judge: &Judge<'a>, field: usize, position: u64) -> Held<'a>
 
 /// What `univ` is at a position.
 pub fn universe_at<'a>(judge: &Judge<'a>, position: u64) -> Result<Held<'a>, EvaluationFault>
-    ensures { IfOk result (λ held. IsFound held (λ t. (a : ℕ) × InUniverse (world judge.now) position a × (t ≡ a ∷ []))) }
+    ensures { IfOk result (λ held. IsFound held (λ t. (a : ℕ)
+        × InUniverse (world judge.now) position a × (t ≡ a ∷ []))) }
 {
     let setting = judge.setting();
     let set = setting.universe(position)?;
@@ -63,7 +65,8 @@ pub fn identity_at<'a>(judge: &Judge<'a>, position: u64) -> Result<Held<'a>, Eva
 
 /// The integers.
 pub fn integers_at<'a>(judge: &Judge<'a>) -> Result<Held<'a>, EvaluationFault>
-    ensures { IfOk result (λ held. IsFound held (λ t. (a : ℕ) × IsInteger (world judge.now) a × (t ≡ a ∷ []))) }
+    ensures { IfOk result (λ held. IsFound held (λ t. (a : ℕ) × IsInteger (world judge.now) a
+        × (t ≡ a ∷ []))) }
 {
     let setting = judge.setting();
     let set = setting.integers()?;
@@ -93,7 +96,8 @@ pub fn combined<'a>(
     a: &Held,
     b: &Held,
 ) -> Result<Held<'a>, EvaluationFault>
-    ensures { IfOk result (λ held. IsFound held (combined_tuples op (λ t. In t (set_in a.now)) (λ t. In t (set_in b.now)))) }
+    ensures { IfOk result (λ held. IsFound held (combined_tuples op (λ t. In t (set_in a.now))
+        (λ t. In t (set_in b.now)))) }
 {
     let x = set_of(a);
     let y = set_of(b);
@@ -103,7 +107,8 @@ pub fn combined<'a>(
 
 /// The product.
 pub fn multiplied<'a>(judge: &Judge<'a>, a: &Held, b: &Held) -> Result<Held<'a>, EvaluationFault>
-    ensures { IfOk result (λ held. IsFound held (product_tuples (λ t. In t (set_in a.now)) (λ t. In t (set_in b.now)))) }
+    ensures { IfOk result (λ held. IsFound held (product_tuples (λ t. In t (set_in a.now))
+        (λ t. In t (set_in b.now)))) }
 {
     let x = set_of(a);
     let y = set_of(b);
@@ -118,7 +123,8 @@ pub fn transformed<'a>(
     a: &Held,
     position: u64,
 ) -> Result<Held<'a>, EvaluationFault>
-    ensures { IfOk result (λ held. IsFound held (unary_tuples (world judge.now) position op (λ t. In t (set_in a.now)))) }
+    ensures { IfOk result (λ held. IsFound held (unary_tuples (world judge.now) position op
+        (λ t. In t (set_in a.now)))) }
 {
     let setting = judge.setting();
     let x = set_of(a);
@@ -128,7 +134,9 @@ pub fn transformed<'a>(
 
 /// The wrapped number of tuples.
 pub fn counted<'a>(judge: &Judge<'a>, a: &Held) -> Result<Held<'a>, EvaluationFault>
-    ensures { IfOk result (λ held. IsFound held (λ t. (n : ℤ) × IsCount (world judge.now) (λ u. In u (set_in a.now)) n × (t ≡ atom_of (world judge.now) n ∷ []))) }
+    ensures { IfOk result (λ held. IsFound held (λ t. (n : ℤ)
+        × IsCount (world judge.now) (λ u. In u (set_in a.now)) n
+        × (t ≡ atom_of (world judge.now) n ∷ []))) }
 {
     let setting = judge.setting();
     let x = set_of(a);
@@ -143,7 +151,10 @@ pub fn calculated<'a>(
     a: &Held,
     b: &Held,
 ) -> Result<Held<'a>, EvaluationFault>
-    ensures { IfOk result (λ held. IsFound held (λ t. (x y : ℤ) × IsNumber (world judge.now) (λ u. In u (set_in a.now)) x × IsNumber (world judge.now) (λ u. In u (set_in b.now)) y × (t ≡ atom_of (world judge.now) (wrap (world judge.now).bits (result_of op x y)) ∷ []))) }
+    ensures { IfOk result (λ held. IsFound held (λ t. (x y : ℤ)
+        × IsNumber (world judge.now) (λ u. In u (set_in a.now)) x
+        × IsNumber (world judge.now) (λ u. In u (set_in b.now)) y
+        × (t ≡ atom_of (world judge.now) (wrap (world judge.now).bits (result_of op x y)) ∷ []))) }
 {
     let setting = judge.setting();
     let x = set_of(a);
@@ -180,7 +191,8 @@ pub fn has(quantity: Quantity, a: &Held) -> bool
 
 /// Whether what two sets stand for compares as an operator asks.
 pub fn compared(judge: &Judge, op: Comparison, a: &Held, b: &Held) -> Result<bool, EvaluationFault>
-    ensures { IfOk result (λ r. IsTrue r ↔ Compares (world judge.now) op (λ t. In t (set_in a.now)) (λ t. In t (set_in b.now))) }
+    ensures { IfOk result (λ r. IsTrue r ↔ Compares (world judge.now) op (λ t. In t (set_in a.now))
+        (λ t. In t (set_in b.now))) }
 {
     let setting = judge.setting();
     let x = set_of(a);

@@ -67,7 +67,10 @@ fn prefixed(alloc: Global, atom: u32, tuple: &Tuple) -> Result<Tuple, AllocError
 
 /// A row with an atom before its choice.
 fn longer(alloc: Global, atom: u32, row: &Row) -> Result<Row, AllocError>
-    ensures { IfOk result (λ r. r ≡ record { chosen = atom ∷ row.now.chosen; value = row.now.value }) }
+    ensures { IfOk result (λ r. r ≡ record {
+      chosen = atom ∷ row.now.chosen;
+      value = row.now.value;
+    }) }
 {
     let chosen = prefixed(alloc, atom, &row.chosen)?;
     Ok(Row {
@@ -83,7 +86,8 @@ pub fn add_rows(
     more: &[Row],
     rows: &mut Vec<Row>,
 ) -> Result<(), AllocError>
-    ensures { OnOk result (rows.new.items ≡ rows.old.items ++ map (λ (r : Row). record { chosen = atom ∷ r.chosen; value = r.value }) more.now) }
+    ensures { OnOk result (rows.new.items ≡ rows.old.items
+        ++ map (λ (r : Row). record { chosen = atom ∷ r.chosen; value = r.value }) more.now) }
 {
     for row in more {
         let added = longer(alloc, atom, row)?;
@@ -127,7 +131,9 @@ fn added(a: i64, b: i64) -> Result<i64, EvaluationFault>
 
 /// The set of the sum of the values.
 pub fn sum_of_rows<'a>(judge: &Judge<'a>, rows: &[Row]) -> Result<Held<'a>, EvaluationFault>
-    ensures { IfOk result (λ held. IsFound held (λ t. t ≡ atom_of (world judge.now) (wrap (world judge.now).bits (sum_of (map (λ (r : Row). r.value) rows.now))) ∷ [])) }
+    ensures { IfOk result (λ held. IsFound held (λ t.
+        t ≡ atom_of (world judge.now) (wrap (world judge.now).bits
+        (sum_of (map (λ (r : Row). r.value) rows.now))) ∷ [])) }
 {
     let mut sum: i64 = 0;
     for row in rows {

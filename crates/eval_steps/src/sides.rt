@@ -97,7 +97,8 @@ fn add_head(
 
 /// The first so many columns of the tuples that have as many.
 pub fn heads(alloc: Global, set: &TupleSet, columns: usize) -> Result<TupleSet, EvaluationFault>
-    ensures { IfOk result (λ s. IsSetOf s (λ u. (t : List ℕ) × In t set.now × GivesHead columns t u)) }
+    ensures { IfOk result (λ s. IsSetOf s (λ u. (t : List ℕ) × In t set.now
+        × GivesHead columns t u)) }
 {
     let mut all = empty_of(alloc, columns);
     let tuples = set.keyed();
@@ -127,7 +128,8 @@ fn add_tail(
 
 /// What follows the first so many columns of the tuples that have as many.
 pub fn tails(alloc: Global, set: &TupleSet, columns: usize) -> Result<TupleSet, EvaluationFault>
-    ensures { IfOk result (λ s. IsSetOf s (λ u. (t : List ℕ) × In t set.now × GivesTail columns t u)) }
+    ensures { IfOk result (λ s. IsSetOf s (λ u. (t : List ℕ) × In t set.now
+        × GivesTail columns t u)) }
 {
     let mut all = empty_of(alloc, (set.arity() as usize).saturating_sub(columns));
     let tuples = set.keyed();

@@ -23,7 +23,8 @@ fn judged(
     formula: &Formula,
     position: u64,
 ) -> Result<bool, EvaluationFault>
-    ensures { IfOk result (λ b. IsTrue b ↔ HoldsAt model.now scopes.now lasso.now (claim_of formula.now) no_names position) }
+    ensures { IfOk result (λ b. IsTrue b ↔ HoldsAt model.now scopes.now lasso.now
+        (claim_of formula.now) no_names position) }
 {
     let judge = judge_of(alloc, model, scopes, lasso)?;
     let place = claim_place(&judge, formula, position)?;
@@ -44,7 +45,8 @@ pub fn holds(
     formula: &Formula,
     position: u64,
 ) -> Result<bool, AllocError>
-    ensures { IfOk result (λ b. IsTrue b ↔ HoldsAt model.now scopes.now lasso.now (claim_of formula.now) no_names position) }
+    ensures { IfOk result (λ b. IsTrue b ↔ HoldsAt model.now scopes.now lasso.now
+        (claim_of formula.now) no_names position) }
 {
     match judged(alloc, model, scopes, lasso, formula, position) {
         Ok(truth) => Ok(truth),
@@ -61,7 +63,8 @@ fn found(
     expr: &Expr,
     position: u64,
 ) -> Result<TupleSet, EvaluationFault>
-    ensures { IfOk result (λ set. IsSetOf set (InTermAt model.now scopes.now lasso.now (term_of expr.now) no_names position)) }
+    ensures { IfOk result (λ set. IsSetOf set (InTermAt model.now scopes.now lasso.now
+        (term_of expr.now) no_names position)) }
 {
     let judge = judge_of(alloc, model, scopes, lasso)?;
     let place = term_place(&judge, expr, position)?;
@@ -79,7 +82,8 @@ pub fn tuples(
     expr: &Expr,
     position: u64,
 ) -> Result<TupleSet, AllocError>
-    ensures { IfOk result (λ set. IsSetOf set (InTermAt model.now scopes.now lasso.now (term_of expr.now) no_names position)) }
+    ensures { IfOk result (λ set. IsSetOf set (InTermAt model.now scopes.now lasso.now
+        (term_of expr.now) no_names position)) }
 {
     match found(alloc, model, scopes, lasso, expr, position) {
         Ok(set) => Ok(set),

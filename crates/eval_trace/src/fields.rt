@@ -132,7 +132,8 @@ fn values_apart(
     owner: usize,
     position: u64,
 ) -> Result<bool, EvaluationFault>
-    ensures { IfOk result (λ b. IsTrue b ↔ (IsTrue asked → AreDifferent judge.now position place owner)) }
+    ensures { IfOk result (λ b. IsTrue b ↔ (IsTrue asked →
+        AreDifferent judge.now position place owner)) }
 {
     if !asked {
         return Ok(true);
@@ -182,7 +183,8 @@ fn entries_share(
     other: usize,
     position: u64,
 ) -> Result<bool, EvaluationFault>
-    ensures { IfOk result (λ b. IsTrue b ↔ ((t : List ℕ) × Entries judge.now position place t × Entries judge.now position other t)) }
+    ensures { IfOk result (λ b. IsTrue b ↔ ((t : List ℕ) × Entries judge.now position place t
+        × Entries judge.now position other t)) }
 {
     let set = entries_at(judge, place, position)?;
     let others = entries_at(judge, other, position)?;
@@ -197,7 +199,8 @@ fn is_alone(
     field: &Field,
     position: u64,
 ) -> Result<bool, EvaluationFault>
-    ensures { IfOk result (λ b. (owner : ℕ) → IsOwned judge.now position place owner → IsTrue b ↔ IsAlone judge.now position place field.now) }
+    ensures { IfOk result (λ b. (owner : ℕ) → IsOwned judge.now position place owner → IsTrue b
+        ↔ IsAlone judge.now position place field.now) }
 {
     let fields = field_list(judge);
     for number in 0..fields.len() {
@@ -226,7 +229,9 @@ fn declared_holds(
     declared: &FieldBound,
     position: u64,
 ) -> Result<bool, EvaluationFault>
-    ensures { IfOk result (λ b. field.now.declared ≡ Some declared.now → IsTrue b ↔ FieldDeclared judge.now.model (world judge.now) (bodies judge.now) position place field.now owner declared.now) }
+    ensures { IfOk result (λ b. field.now.declared ≡ Some declared.now → IsTrue b
+        ↔ FieldDeclared judge.now.model (world judge.now) (bodies judge.now) position place
+        field.now owner declared.now) }
 {
     let owned = is_owned(judge, place, owner, position)?;
     if !owned {

@@ -58,7 +58,8 @@ fn columns_at<'a>(
 
 /// Whether the members of a sig are members of another.
 fn lies_in_sig(judge: &Judge, place: usize, parent: usize, position: u64) -> bool
-    ensures { IsTrue result ↔ IsInside (Members judge.now position place) (Members judge.now position parent) }
+    ensures { IsTrue result ↔ IsInside (Members judge.now position place)
+        (Members judge.now position parent) }
 {
     let set = relation_at(judge, place, position);
     let above = relation_at(judge, parent, position);
@@ -72,7 +73,8 @@ fn lies_in_parents(
     parents: &[Column],
     position: u64,
 ) -> Result<bool, EvaluationFault>
-    ensures { IfOk result (λ b. IsTrue b ↔ IsInside (Members judge.now position place) (InParents judge.now position parents.now)) }
+    ensures { IfOk result (λ b. IsTrue b ↔ IsInside (Members judge.now position place)
+        (InParents judge.now position parents.now)) }
 {
     let set = relation_at(judge, place, position);
     let above = columns_at(judge, parents, position)?;
@@ -87,7 +89,8 @@ fn is_placed(
     kind: &SigKind,
     position: u64,
 ) -> Result<bool, EvaluationFault>
-    ensures { IfOk result (λ b. IsTrue b ↔ IsPlaced judge.now.model (world judge.now) (bodies judge.now) position place kind.now) }
+    ensures { IfOk result (λ b. IsTrue b ↔ IsPlaced judge.now.model (world judge.now)
+        (bodies judge.now) position place kind.now) }
 {
     match kind {
         SigKind::Top => Ok(true),
@@ -111,7 +114,8 @@ fn is_child(sig: &Sig, parent: usize) -> bool
 
 /// Whether two sets share a tuple.
 pub fn shares(judge: &Judge, a: &Held, b: &Held) -> Result<bool, EvaluationFault>
-    ensures { IfOk result (λ r. IsTrue r ↔ ((t : List ℕ) × In t (set_in a.now) × In t (set_in b.now))) }
+    ensures { IfOk result (λ r. IsTrue r ↔ ((t : List ℕ) × In t (set_in a.now)
+        × In t (set_in b.now))) }
 {
     let common = combined(judge, RelationOp::Intersection, a, b)?;
     Ok(has(Quantity::Some, &common))
@@ -123,7 +127,9 @@ fn children_at<'a>(
     parent: usize,
     position: u64,
 ) -> Result<Option<Held<'a>>, EvaluationFault>
-    ensures { IfOk result (λ o. MatchOption o (¬ AreApart judge.now position parent) (λ held. AreApart judge.now position parent × IsFound held (InChildren judge.now position parent))) }
+    ensures { IfOk result (λ o. MatchOption o (¬ AreApart judge.now position parent)
+        (λ held. AreApart judge.now position parent
+        × IsFound held (InChildren judge.now position parent))) }
 {
     let sigs = sig_list(judge);
     let mut all = nothing(judge);
@@ -166,7 +172,8 @@ fn children_hold(
     sig: &Sig,
     position: u64,
 ) -> Result<bool, EvaluationFault>
-    ensures { IfOk result (λ b. IsTrue b ↔ (AreApart judge.now position parent × IsFilled judge.now position parent sig.now)) }
+    ensures { IfOk result (λ b. IsTrue b ↔ (AreApart judge.now position parent
+        × IsFilled judge.now position parent sig.now)) }
 {
     let found = children_at(judge, parent, position)?;
     match found {

@@ -42,8 +42,13 @@ impl<
         scope: &Environment,
         position: u64,
     ) -> Result<bool, EvaluationFault>
-        requires { Evaluates self.now.deep (T.pre self.now.term) (T.post self.now.term) (H.pre self.now.claim) (H.post self.now.claim) }
-        ensures { IfOk result (λ b. IsTrue b ↔ (IsInside (λ t. In t set.now) (Means self.now.judge.now (term_of bound.now) (scope_names self.now.judge.now scope.now) position) × HasMultiplicity word (λ t. In t set.now) × Fits (world self.now.judge.now) (bodies self.now.judge.now) (term_of bound.now) (scope_names self.now.judge.now scope.now) position (λ t. In t set.now))) }
+        requires { Evaluates self.now.deep (T.pre self.now.term) (T.post self.now.term)
+            (H.pre self.now.claim) (H.post self.now.claim) }
+        ensures { IfOk result (λ b. IsTrue b ↔ (IsInside (λ t. In t set.now)
+            (Means self.now.judge.now (term_of bound.now) (scope_names self.now.judge.now scope.now)
+            position) × HasMultiplicity word (λ t. In t set.now)
+            × Fits (world self.now.judge.now) (bodies self.now.judge.now) (term_of bound.now)
+            (scope_names self.now.judge.now scope.now) position (λ t. In t set.now))) }
     {
         let may = has_multiplicity(word, set);
         if !may {
@@ -64,8 +69,11 @@ impl<
         position: u64,
         deep: u32,
     ) -> Result<usize, EvaluationFault>
-        requires { Evaluates self.now.deep (T.pre self.now.term) (T.post self.now.term) (H.pre self.now.claim) (H.post self.now.claim) }
-        ensures { IfOk result (λ n. (t : List ℕ) → Means self.now.judge.now (term_of expr.now) (scope_names self.now.judge.now scope.now) position t → length t ≡ n) }
+        requires { Evaluates self.now.deep (T.pre self.now.term) (T.post self.now.term)
+            (H.pre self.now.claim) (H.post self.now.claim) }
+        ensures { IfOk result (λ n. (t : List ℕ) →
+            Means self.now.judge.now (term_of expr.now) (scope_names self.now.judge.now scope.now)
+            position t → length t ≡ n) }
     {
         let next = deeper(deep)?;
         match arrow_of(expr) {
@@ -94,8 +102,11 @@ impl<
         position: u64,
         deep: u32,
     ) -> Result<bool, EvaluationFault>
-        requires { Evaluates self.now.deep (T.pre self.now.term) (T.post self.now.term) (H.pre self.now.claim) (H.post self.now.claim) }
-        ensures { IfOk result (λ b. IsTrue b ↔ IsInside (λ t. In t set.now) (Means self.now.judge.now (term_of expr.now) (scope_names self.now.judge.now scope.now) position)) }
+        requires { Evaluates self.now.deep (T.pre self.now.term) (T.post self.now.term)
+            (H.pre self.now.claim) (H.post self.now.claim) }
+        ensures { IfOk result (λ b. IsTrue b ↔ IsInside (λ t. In t set.now)
+            (Means self.now.judge.now (term_of expr.now) (scope_names self.now.judge.now scope.now)
+            position)) }
     {
         let next = deeper(deep)?;
         match arrow_of(expr) {
@@ -130,8 +141,11 @@ impl<
         position: u64,
         deep: u32,
     ) -> Result<bool, EvaluationFault>
-        requires { Evaluates self.now.deep (T.pre self.now.term) (T.post self.now.term) (H.pre self.now.claim) (H.post self.now.claim) }
-        ensures { IfOk result (λ b. IsTrue b ↔ Fits (world self.now.judge.now) (bodies self.now.judge.now) (term_of bound.now) (scope_names self.now.judge.now scope.now) position (λ t. In t set.now)) }
+        requires { Evaluates self.now.deep (T.pre self.now.term) (T.post self.now.term)
+            (H.pre self.now.claim) (H.post self.now.claim) }
+        ensures { IfOk result (λ b. IsTrue b ↔ Fits (world self.now.judge.now)
+            (bodies self.now.judge.now) (term_of bound.now)
+            (scope_names self.now.judge.now scope.now) position (λ t. In t set.now)) }
     {
         let next = deeper(deep)?;
         match arrow_of(bound) {
@@ -159,8 +173,11 @@ impl<
         position: u64,
         deep: u32,
     ) -> Result<bool, EvaluationFault>
-        requires { Evaluates self.now.deep (T.pre self.now.term) (T.post self.now.term) (H.pre self.now.claim) (H.post self.now.claim) }
-        ensures { IfOk result (λ b. IsTrue b ↔ FitsAfter self.now.judge.now (term_of side.now) word (term_of other.now) (scope_names self.now.judge.now scope.now) position (λ t. In t set.now)) }
+        requires { Evaluates self.now.deep (T.pre self.now.term) (T.post self.now.term)
+            (H.pre self.now.claim) (H.post self.now.claim) }
+        ensures { IfOk result (λ b. IsTrue b ↔ FitsAfter self.now.judge.now (term_of side.now) word
+            (term_of other.now) (scope_names self.now.judge.now scope.now) position
+            (λ t. In t set.now)) }
     {
         let next = deeper(deep)?;
         let some = asks(word, other);
@@ -184,8 +201,11 @@ impl<
         position: u64,
         deep: u32,
     ) -> Result<bool, EvaluationFault>
-        requires { Evaluates self.now.deep (T.pre self.now.term) (T.post self.now.term) (H.pre self.now.claim) (H.post self.now.claim) }
-        ensures { IfOk result (λ b. IsTrue b ↔ ((t : List ℕ) → In t sides.now → GoesAfter self.now.judge.now word (term_of other.now) (scope_names self.now.judge.now scope.now) position (λ u. In u set.now) t)) }
+        requires { Evaluates self.now.deep (T.pre self.now.term) (T.post self.now.term)
+            (H.pre self.now.claim) (H.post self.now.claim) }
+        ensures { IfOk result (λ b. IsTrue b ↔ ((t : List ℕ) → In t sides.now →
+            GoesAfter self.now.judge.now word (term_of other.now)
+            (scope_names self.now.judge.now scope.now) position (λ u. In u set.now) t)) }
     {
         let next = deeper(deep)?;
         for place in 0..sides.len() {
@@ -217,8 +237,11 @@ impl<
         position: u64,
         deep: u32,
     ) -> Result<bool, EvaluationFault>
-        requires { Evaluates self.now.deep (T.pre self.now.term) (T.post self.now.term) (H.pre self.now.claim) (H.post self.now.claim) }
-        ensures { IfOk result (λ b. IsTrue b ↔ FitsBefore self.now.judge.now (term_of side.now) word (term_of other.now) (scope_names self.now.judge.now scope.now) position (λ t. In t set.now)) }
+        requires { Evaluates self.now.deep (T.pre self.now.term) (T.post self.now.term)
+            (H.pre self.now.claim) (H.post self.now.claim) }
+        ensures { IfOk result (λ b. IsTrue b ↔ FitsBefore self.now.judge.now (term_of side.now) word
+            (term_of other.now) (scope_names self.now.judge.now scope.now) position
+            (λ t. In t set.now)) }
     {
         let next = deeper(deep)?;
         let some = asks(word, other);
@@ -242,8 +265,11 @@ impl<
         position: u64,
         deep: u32,
     ) -> Result<bool, EvaluationFault>
-        requires { Evaluates self.now.deep (T.pre self.now.term) (T.post self.now.term) (H.pre self.now.claim) (H.post self.now.claim) }
-        ensures { IfOk result (λ b. IsTrue b ↔ ((t : List ℕ) → In t sides.now → GoesBefore self.now.judge.now word (term_of other.now) (scope_names self.now.judge.now scope.now) position (λ u. In u set.now) t)) }
+        requires { Evaluates self.now.deep (T.pre self.now.term) (T.post self.now.term)
+            (H.pre self.now.claim) (H.post self.now.claim) }
+        ensures { IfOk result (λ b. IsTrue b ↔ ((t : List ℕ) → In t sides.now →
+            GoesBefore self.now.judge.now word (term_of other.now)
+            (scope_names self.now.judge.now scope.now) position (λ u. In u set.now) t)) }
     {
         let next = deeper(deep)?;
         for place in 0..sides.len() {

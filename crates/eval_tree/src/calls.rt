@@ -42,8 +42,13 @@ impl<
         position: u64,
         deep: u32,
     ) -> Result<Held<'a>, EvaluationFault>
-        requires { Evaluates self.now.deep (T.pre self.now.term) (T.post self.now.term) (H.pre self.now.claim) (H.post self.now.claim) }
-        ensures { IfOk result (λ held. IsFound held (InCalled self.now.judge.now body (entered (world self.now.judge.now) (bodies self.now.judge.now) from (term_list (map term_of arguments.now)) (scope_names self.now.judge.now outer.now) (scope_names self.now.judge.now inner.now)) position)) }
+        requires { Evaluates self.now.deep (T.pre self.now.term) (T.post self.now.term)
+            (H.pre self.now.claim) (H.post self.now.claim) }
+        ensures { IfOk result (λ held. IsFound held
+            (InCalled self.now.judge.now body (entered (world self.now.judge.now)
+            (bodies self.now.judge.now) from (term_list (map term_of arguments.now))
+            (scope_names self.now.judge.now outer.now) (scope_names self.now.judge.now inner.now))
+            position)) }
     {
         let next = deeper(deep)?;
         match arguments.split_first() {
@@ -76,8 +81,12 @@ impl<
         position: u64,
         deep: u32,
     ) -> Result<bool, EvaluationFault>
-        requires { Evaluates self.now.deep (T.pre self.now.term) (T.post self.now.term) (H.pre self.now.claim) (H.post self.now.claim) }
-        ensures { IfOk result (λ b. IsTrue b ↔ CalledHolds self.now.judge.now body (entered (world self.now.judge.now) (bodies self.now.judge.now) from (term_list (map term_of arguments.now)) (scope_names self.now.judge.now outer.now) (scope_names self.now.judge.now inner.now)) position) }
+        requires { Evaluates self.now.deep (T.pre self.now.term) (T.post self.now.term)
+            (H.pre self.now.claim) (H.post self.now.claim) }
+        ensures { IfOk result (λ b. IsTrue b ↔ CalledHolds self.now.judge.now body
+            (entered (world self.now.judge.now) (bodies self.now.judge.now) from
+            (term_list (map term_of arguments.now)) (scope_names self.now.judge.now outer.now)
+            (scope_names self.now.judge.now inner.now)) position) }
     {
         let next = deeper(deep)?;
         match arguments.split_first() {

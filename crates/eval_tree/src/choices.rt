@@ -42,8 +42,12 @@ impl<
         scope: &Environment,
         position: u64,
     ) -> Result<Vec<Row>, EvaluationFault>
-        requires { Evaluates self.now.deep (T.pre self.now.term) (T.post self.now.term) (H.pre self.now.claim) (H.post self.now.claim) }
-        ensures { IfOk result (λ rows. AreRows self.now.judge.now goal.now (variable_list (map variable_of variables.now)) (scope_names self.now.judge.now scope.now) position [] (length rows.items + 1) rows.items) }
+        requires { Evaluates self.now.deep (T.pre self.now.term) (T.post self.now.term)
+            (H.pre self.now.claim) (H.post self.now.claim) }
+        ensures { IfOk result (λ rows. AreRows self.now.judge.now goal.now
+            (variable_list (map variable_of variables.now))
+            (scope_names self.now.judge.now scope.now) position [] (length rows.items + 1)
+            rows.items) }
     {
         let start = Earlier::Start;
         let rows = self.rows_in(
@@ -68,8 +72,11 @@ impl<
         scope: &Environment,
         position: u64,
     ) -> Result<Vec<Row>, EvaluationFault>
-        requires { Evaluates self.now.deep (T.pre self.now.term) (T.post self.now.term) (H.pre self.now.claim) (H.post self.now.claim) }
-        ensures { (earlier : List ℕ) (most : ℕ) → IfOk result (λ rows. AreRows self.now.judge.now goal.now no_variables (scope_names self.now.judge.now scope.now) position earlier most rows.items) }
+        requires { Evaluates self.now.deep (T.pre self.now.term) (T.post self.now.term)
+            (H.pre self.now.claim) (H.post self.now.claim) }
+        ensures { (earlier : List ℕ) (most : ℕ) → IfOk result
+            (λ rows. AreRows self.now.judge.now goal.now no_variables
+            (scope_names self.now.judge.now scope.now) position earlier most rows.items) }
     {
         match goal {
             Goal::Passes(formula) => {
@@ -98,8 +105,12 @@ impl<
         position: u64,
         deep: u32,
     ) -> Result<Vec<Row>, EvaluationFault>
-        requires { Evaluates self.now.deep (T.pre self.now.term) (T.post self.now.term) (H.pre self.now.claim) (H.post self.now.claim) }
-        ensures { IfOk result (λ rows. AreRows self.now.judge.now goal.now (variable_list (map variable_of variables.now)) (scope_names self.now.judge.now scope.now) position (earlier_list earlier.now) most rows.items) }
+        requires { Evaluates self.now.deep (T.pre self.now.term) (T.post self.now.term)
+            (H.pre self.now.claim) (H.post self.now.claim) }
+        ensures { IfOk result (λ rows. AreRows self.now.judge.now goal.now
+            (variable_list (map variable_of variables.now))
+            (scope_names self.now.judge.now scope.now) position (earlier_list earlier.now) most
+            rows.items) }
     {
         let next = deeper(deep)?;
         match variables.split_first() {
@@ -128,8 +139,12 @@ impl<
         position: u64,
         deep: u32,
     ) -> Result<Vec<Row>, EvaluationFault>
-        requires { Evaluates self.now.deep (T.pre self.now.term) (T.post self.now.term) (H.pre self.now.claim) (H.post self.now.claim) }
-        ensures { IfOk result (λ rows. AreRowsOfAtoms self.now.judge.now goal.now variable.now atoms.now (variable_list (map variable_of rest.now)) (scope_names self.now.judge.now scope.now) position (earlier_list earlier.now) most rows.items) }
+        requires { Evaluates self.now.deep (T.pre self.now.term) (T.post self.now.term)
+            (H.pre self.now.claim) (H.post self.now.claim) }
+        ensures { IfOk result (λ rows. AreRowsOfAtoms self.now.judge.now goal.now variable.now
+            atoms.now (variable_list (map variable_of rest.now))
+            (scope_names self.now.judge.now scope.now) position (earlier_list earlier.now) most
+            rows.items) }
     {
         let next = deeper(deep)?;
         let mut rows: Vec<Row> = Vec::new(self.judge.alloc());
@@ -165,8 +180,12 @@ impl<
         position: u64,
         deep: u32,
     ) -> Result<bool, EvaluationFault>
-        requires { Evaluates self.now.deep (T.pre self.now.term) (T.post self.now.term) (H.pre self.now.claim) (H.post self.now.claim) }
-        ensures { IfOk result (λ b. IsTrue b ↔ ForEach (world self.now.judge.now) (bodies self.now.judge.now) (variable_list (map variable_of variables.now)) (λ names. Says sense (HoldsIn self.now.judge.now (claim_of formula.now) names position)) (scope_names self.now.judge.now scope.now) position (earlier_list earlier.now)) }
+        requires { Evaluates self.now.deep (T.pre self.now.term) (T.post self.now.term)
+            (H.pre self.now.claim) (H.post self.now.claim) }
+        ensures { IfOk result (λ b. IsTrue b ↔ ForEach (world self.now.judge.now)
+            (bodies self.now.judge.now) (variable_list (map variable_of variables.now))
+            (λ names. Says sense (HoldsIn self.now.judge.now (claim_of formula.now) names position))
+            (scope_names self.now.judge.now scope.now) position (earlier_list earlier.now)) }
     {
         let next = deeper(deep)?;
         match variables.split_first() {
@@ -198,8 +217,12 @@ impl<
         position: u64,
         deep: u32,
     ) -> Result<bool, EvaluationFault>
-        requires { Evaluates self.now.deep (T.pre self.now.term) (T.post self.now.term) (H.pre self.now.claim) (H.post self.now.claim) }
-        ensures { IfOk result (λ b. IsTrue b ↔ ForEachAtom self.now.judge.now variable.now atoms.now (variable_list (map variable_of rest.now)) (λ names. Says sense (HoldsIn self.now.judge.now (claim_of formula.now) names position)) (scope_names self.now.judge.now scope.now) position (earlier_list earlier.now)) }
+        requires { Evaluates self.now.deep (T.pre self.now.term) (T.post self.now.term)
+            (H.pre self.now.claim) (H.post self.now.claim) }
+        ensures { IfOk result (λ b. IsTrue b ↔ ForEachAtom self.now.judge.now variable.now atoms.now
+            (variable_list (map variable_of rest.now))
+            (λ names. Says sense (HoldsIn self.now.judge.now (claim_of formula.now) names position))
+            (scope_names self.now.judge.now scope.now) position (earlier_list earlier.now)) }
     {
         let next = deeper(deep)?;
         if atoms.arity() != 1 {
@@ -230,8 +253,17 @@ impl<
         scope: &Environment,
         position: u64,
     ) -> Result<bool, EvaluationFault>
-        requires { Evaluates self.now.deep (T.pre self.now.term) (T.post self.now.term) (H.pre self.now.claim) (H.post self.now.claim) }
-        ensures { IfOk result (λ b. IsTrue b ↔ Quantified quantity (ForEach (world self.now.judge.now) (bodies self.now.judge.now) (variable_list (map variable_of variables.now)) (λ names. ¬ HoldsIn self.now.judge.now (claim_of formula.now) names position) (scope_names self.now.judge.now scope.now) position []) (Picked (world self.now.judge.now) (bodies self.now.judge.now) (variable_list (map variable_of variables.now)) (λ names. HoldsIn self.now.judge.now (claim_of formula.now) names position) (scope_names self.now.judge.now scope.now) position [])) }
+        requires { Evaluates self.now.deep (T.pre self.now.term) (T.post self.now.term)
+            (H.pre self.now.claim) (H.post self.now.claim) }
+        ensures { IfOk result (λ b. IsTrue b ↔ Quantified quantity
+            (ForEach (world self.now.judge.now) (bodies self.now.judge.now)
+            (variable_list (map variable_of variables.now))
+            (λ names. ¬ HoldsIn self.now.judge.now (claim_of formula.now) names position)
+            (scope_names self.now.judge.now scope.now) position [])
+            (Picked (world self.now.judge.now) (bodies self.now.judge.now)
+            (variable_list (map variable_of variables.now))
+            (λ names. HoldsIn self.now.judge.now (claim_of formula.now) names position)
+            (scope_names self.now.judge.now scope.now) position [])) }
     {
         let start = Earlier::Start;
         match quantity {

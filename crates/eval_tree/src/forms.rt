@@ -43,8 +43,11 @@ impl<
         scope: &Environment,
         position: u64,
     ) -> Result<Held<'a>, EvaluationFault>
-        requires { Evaluates self.now.deep (T.pre self.now.term) (T.post self.now.term) (H.pre self.now.claim) (H.post self.now.claim) }
-        ensures { IfOk result (λ held. IsFound held (Means self.now.judge.now (term_of expr.now) (scope_names self.now.judge.now scope.now) position)) }
+        requires { Evaluates self.now.deep (T.pre self.now.term) (T.post self.now.term)
+            (H.pre self.now.claim) (H.post self.now.claim) }
+        ensures { IfOk result (λ held. IsFound held
+            (Means self.now.judge.now (term_of expr.now) (scope_names self.now.judge.now scope.now)
+            position)) }
     {
         match expr {
             Expr::Sig(sig) => Ok(relation_at(self.judge, *sig as usize, position)),
@@ -120,8 +123,10 @@ impl<
         scope: &Environment,
         position: u64,
     ) -> Result<bool, EvaluationFault>
-        requires { Evaluates self.now.deep (T.pre self.now.term) (T.post self.now.term) (H.pre self.now.claim) (H.post self.now.claim) }
-        ensures { IfOk result (λ b. IsTrue b ↔ HoldsIn self.now.judge.now (claim_of formula.now) (scope_names self.now.judge.now scope.now) position) }
+        requires { Evaluates self.now.deep (T.pre self.now.term) (T.post self.now.term)
+            (H.pre self.now.claim) (H.post self.now.claim) }
+        ensures { IfOk result (λ b. IsTrue b ↔ HoldsIn self.now.judge.now (claim_of formula.now)
+            (scope_names self.now.judge.now scope.now) position) }
     {
         match formula {
             Formula::Inside(a, b) => {
@@ -196,8 +201,11 @@ impl<
         position: u64,
         deep: u32,
     ) -> Result<bool, EvaluationFault>
-        requires { Evaluates self.now.deep (T.pre self.now.term) (T.post self.now.term) (H.pre self.now.claim) (H.post self.now.claim) }
-        ensures { IfOk result (λ b. IsTrue b ↔ HoldEach (world self.now.judge.now) (bodies self.now.judge.now) (claim_list (map claim_of list.now)) (scope_names self.now.judge.now scope.now) position) }
+        requires { Evaluates self.now.deep (T.pre self.now.term) (T.post self.now.term)
+            (H.pre self.now.claim) (H.post self.now.claim) }
+        ensures { IfOk result (λ b. IsTrue b ↔ HoldEach (world self.now.judge.now)
+            (bodies self.now.judge.now) (claim_list (map claim_of list.now))
+            (scope_names self.now.judge.now scope.now) position) }
     {
         let next = deeper(deep)?;
         match list.split_first() {
@@ -221,8 +229,12 @@ impl<
         scope: &Environment,
         position: u64,
     ) -> Result<bool, EvaluationFault>
-        requires { Evaluates self.now.deep (T.pre self.now.term) (T.post self.now.term) (H.pre self.now.claim) (H.post self.now.claim) }
-        ensures { IfOk result (λ b. IsTrue b ↔ Connects op (HoldsIn self.now.judge.now (claim_of f.now) (scope_names self.now.judge.now scope.now) position) (HoldsIn self.now.judge.now (claim_of g.now) (scope_names self.now.judge.now scope.now) position)) }
+        requires { Evaluates self.now.deep (T.pre self.now.term) (T.post self.now.term)
+            (H.pre self.now.claim) (H.post self.now.claim) }
+        ensures { IfOk result (λ b. IsTrue b ↔ Connects op
+            (HoldsIn self.now.judge.now (claim_of f.now) (scope_names self.now.judge.now scope.now)
+            position) (HoldsIn self.now.judge.now (claim_of g.now)
+            (scope_names self.now.judge.now scope.now) position)) }
     {
         let first = self.holds(f, scope, position)?;
         match op {
@@ -255,7 +267,8 @@ pub fn tuples_in<'a>(
     position: u64,
     deep: u32,
 ) -> Result<Held<'a>, EvaluationFault>
-    ensures { IfOk result (λ held. IsFound held (Means judge.now (term_of expr.now) (scope_names judge.now scope.now) position)) }
+    ensures { IfOk result (λ held. IsFound held (Means judge.now (term_of expr.now)
+        (scope_names judge.now scope.now) position)) }
 {
     if deep == 0 {
         return Err(EvaluationFault::Unfit);
@@ -278,7 +291,8 @@ pub fn holds_in<'a>(
     position: u64,
     deep: u32,
 ) -> Result<bool, EvaluationFault>
-    ensures { IfOk result (λ b. IsTrue b ↔ HoldsIn judge.now (claim_of formula.now) (scope_names judge.now scope.now) position) }
+    ensures { IfOk result (λ b. IsTrue b ↔ HoldsIn judge.now (claim_of formula.now)
+        (scope_names judge.now scope.now) position) }
 {
     if deep == 0 {
         return Err(EvaluationFault::Unfit);

@@ -37,8 +37,11 @@ impl<
         scope: &Environment,
         position: u64,
     ) -> Result<bool, EvaluationFault>
-        requires { Evaluates self.now.deep (T.pre self.now.term) (T.post self.now.term) (H.pre self.now.claim) (H.post self.now.claim) }
-        ensures { IfOk result (λ b. IsTrue b ↔ Happens op (λ j. HoldsIn self.now.judge.now (claim_of f.now) (scope_names self.now.judge.now scope.now) j) position) }
+        requires { Evaluates self.now.deep (T.pre self.now.term) (T.post self.now.term)
+            (H.pre self.now.claim) (H.post self.now.claim) }
+        ensures { IfOk result (λ b. IsTrue b ↔ Happens op
+            (λ j. HoldsIn self.now.judge.now (claim_of f.now)
+            (scope_names self.now.judge.now scope.now) j) position) }
     {
         match op {
             TemporalUnary::After => self.holds(f, scope, after(position)?),
@@ -71,8 +74,13 @@ impl<
         scope: &Environment,
         position: u64,
     ) -> Result<bool, EvaluationFault>
-        requires { Evaluates self.now.deep (T.pre self.now.term) (T.post self.now.term) (H.pre self.now.claim) (H.post self.now.claim) }
-        ensures { IfOk result (λ b. IsTrue b ↔ HappenBoth op (λ j. HoldsIn self.now.judge.now (claim_of f.now) (scope_names self.now.judge.now scope.now) j) (λ j. HoldsIn self.now.judge.now (claim_of g.now) (scope_names self.now.judge.now scope.now) j) position) }
+        requires { Evaluates self.now.deep (T.pre self.now.term) (T.post self.now.term)
+            (H.pre self.now.claim) (H.post self.now.claim) }
+        ensures { IfOk result (λ b. IsTrue b ↔ HappenBoth op
+            (λ j. HoldsIn self.now.judge.now (claim_of f.now)
+            (scope_names self.now.judge.now scope.now) j)
+            (λ j. HoldsIn self.now.judge.now (claim_of g.now)
+            (scope_names self.now.judge.now scope.now) j) position) }
     {
         match op {
             TemporalBinary::Until => self.forward(First::Each(f), g, true, scope, position),
@@ -111,8 +119,12 @@ impl<
         scope: &Environment,
         position: u64,
     ) -> Result<bool, EvaluationFault>
-        requires { Evaluates self.now.deep (T.pre self.now.term) (T.post self.now.term) (H.pre self.now.claim) (H.post self.now.claim) }
-        ensures { IfOk result (λ b. IsTrue b ↔ (HoldsIn self.now.judge.now (claim_of f.now) (scope_names self.now.judge.now scope.now) position × HoldsIn self.now.judge.now (claim_of g.now) (scope_names self.now.judge.now scope.now) (position + 1))) }
+        requires { Evaluates self.now.deep (T.pre self.now.term) (T.post self.now.term)
+            (H.pre self.now.claim) (H.post self.now.claim) }
+        ensures { IfOk result (λ b. IsTrue b ↔ (HoldsIn self.now.judge.now (claim_of f.now)
+            (scope_names self.now.judge.now scope.now) position
+            × HoldsIn self.now.judge.now (claim_of g.now) (scope_names self.now.judge.now scope.now)
+            (position + 1))) }
     {
         let first = self.holds(f, scope, position)?;
         if !first {
@@ -131,8 +143,10 @@ impl<
         scope: &Environment,
         position: u64,
     ) -> Result<bool, EvaluationFault>
-        requires { Evaluates self.now.deep (T.pre self.now.term) (T.post self.now.term) (H.pre self.now.claim) (H.post self.now.claim) }
-        ensures { IfOk result (λ b. IsTrue b ↔ SaysFirst self.now.judge.now first.entry sense (scope_names self.now.judge.now scope.now) position) }
+        requires { Evaluates self.now.deep (T.pre self.now.term) (T.post self.now.term)
+            (H.pre self.now.claim) (H.post self.now.claim) }
+        ensures { IfOk result (λ b. IsTrue b ↔ SaysFirst self.now.judge.now first.entry sense
+            (scope_names self.now.judge.now scope.now) position) }
     {
         match first {
             First::Any => Ok(true),
@@ -153,8 +167,13 @@ impl<
         scope: &Environment,
         position: u64,
     ) -> Result<bool, EvaluationFault>
-        requires { Evaluates self.now.deep (T.pre self.now.term) (T.post self.now.term) (H.pre self.now.claim) (H.post self.now.claim) }
-        ensures { IfOk result (λ b. IsTrue b ↔ UntilAt (SaysFirst self.now.judge.now first.entry sense (scope_names self.now.judge.now scope.now)) (λ j. Says sense (HoldsIn self.now.judge.now (claim_of second.now) (scope_names self.now.judge.now scope.now) j)) position) }
+        requires { Evaluates self.now.deep (T.pre self.now.term) (T.post self.now.term)
+            (H.pre self.now.claim) (H.post self.now.claim) }
+        ensures { IfOk result (λ b. IsTrue b ↔ UntilAt
+            (SaysFirst self.now.judge.now first.entry sense
+            (scope_names self.now.judge.now scope.now))
+            (λ j. Says sense (HoldsIn self.now.judge.now (claim_of second.now)
+            (scope_names self.now.judge.now scope.now) j)) position) }
     {
         let end = limit(self.judge, second, scope, position)?;
         for place in position..end {
@@ -182,8 +201,13 @@ impl<
         position: u64,
         deep: u32,
     ) -> Result<bool, EvaluationFault>
-        requires { Evaluates self.now.deep (T.pre self.now.term) (T.post self.now.term) (H.pre self.now.claim) (H.post self.now.claim) }
-        ensures { IfOk result (λ b. IsTrue b ↔ SinceAt (SaysFirst self.now.judge.now first.entry sense (scope_names self.now.judge.now scope.now)) (λ j. Says sense (HoldsIn self.now.judge.now (claim_of second.now) (scope_names self.now.judge.now scope.now) j)) position) }
+        requires { Evaluates self.now.deep (T.pre self.now.term) (T.post self.now.term)
+            (H.pre self.now.claim) (H.post self.now.claim) }
+        ensures { IfOk result (λ b. IsTrue b ↔ SinceAt
+            (SaysFirst self.now.judge.now first.entry sense
+            (scope_names self.now.judge.now scope.now))
+            (λ j. Says sense (HoldsIn self.now.judge.now (claim_of second.now)
+            (scope_names self.now.judge.now scope.now) j)) position) }
     {
         let next = deeper(deep)?;
         let truth = self.holds(second, scope, position)?;

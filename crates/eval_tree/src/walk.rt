@@ -47,8 +47,11 @@ impl<
         scope: &Environment,
         position: u64,
     ) -> Result<Held<'a>, EvaluationFault>
-        requires { Evaluates self.now.deep (T.pre self.now.term) (T.post self.now.term) (H.pre self.now.claim) (H.post self.now.claim) }
-        ensures { IfOk result (λ held. IsFound held (Means self.now.judge.now (term_of expr.now) (scope_names self.now.judge.now scope.now) position)) }
+        requires { Evaluates self.now.deep (T.pre self.now.term) (T.post self.now.term)
+            (H.pre self.now.claim) (H.post self.now.claim) }
+        ensures { IfOk result (λ held. IsFound held
+            (Means self.now.judge.now (term_of expr.now) (scope_names self.now.judge.now scope.now)
+            position)) }
     {
         (self.term)(self.judge, expr, scope, position, self.deep)
     }
@@ -60,8 +63,10 @@ impl<
         scope: &Environment,
         position: u64,
     ) -> Result<bool, EvaluationFault>
-        requires { Evaluates self.now.deep (T.pre self.now.term) (T.post self.now.term) (H.pre self.now.claim) (H.post self.now.claim) }
-        ensures { IfOk result (λ b. IsTrue b ↔ HoldsIn self.now.judge.now (claim_of formula.now) (scope_names self.now.judge.now scope.now) position) }
+        requires { Evaluates self.now.deep (T.pre self.now.term) (T.post self.now.term)
+            (H.pre self.now.claim) (H.post self.now.claim) }
+        ensures { IfOk result (λ b. IsTrue b ↔ HoldsIn self.now.judge.now (claim_of formula.now)
+            (scope_names self.now.judge.now scope.now) position) }
     {
         (self.claim)(self.judge, formula, scope, position, self.deep)
     }
@@ -73,8 +78,11 @@ impl<
         scope: &Environment,
         position: u64,
     ) -> Result<i64, EvaluationFault>
-        requires { Evaluates self.now.deep (T.pre self.now.term) (T.post self.now.term) (H.pre self.now.claim) (H.post self.now.claim) }
-        ensures { IfOk result (λ n. IsNumber (world self.now.judge.now) (Means self.now.judge.now (term_of expr.now) (scope_names self.now.judge.now scope.now) position) n) }
+        requires { Evaluates self.now.deep (T.pre self.now.term) (T.post self.now.term)
+            (H.pre self.now.claim) (H.post self.now.claim) }
+        ensures { IfOk result (λ n. IsNumber (world self.now.judge.now)
+            (Means self.now.judge.now (term_of expr.now) (scope_names self.now.judge.now scope.now)
+            position) n) }
     {
         let found = self.tuples(expr, scope, position)?;
         let set = set_of(&found);

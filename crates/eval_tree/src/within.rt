@@ -27,7 +27,11 @@ pub fn is_within<'a>(
     position: u64,
     deep: u32,
 ) -> Result<bool, EvaluationFault>
-    ensures { IfOk result (λ b. IsTrue b ↔ (IsInside (λ t. In t set.now) (Means judge.now (term_of bound.now) (scope_names judge.now scope.now) position) × HasMultiplicity word (λ t. In t set.now) × Fits (world judge.now) (bodies judge.now) (term_of bound.now) (scope_names judge.now scope.now) position (λ t. In t set.now))) }
+    ensures { IfOk result (λ b. IsTrue b ↔ (IsInside (λ t. In t set.now)
+        (Means judge.now (term_of bound.now) (scope_names judge.now scope.now) position)
+        × HasMultiplicity word (λ t. In t set.now)
+        × Fits (world judge.now) (bodies judge.now) (term_of bound.now)
+        (scope_names judge.now scope.now) position (λ t. In t set.now))) }
 {
     let walk = Walk {
         judge,

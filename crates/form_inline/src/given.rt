@@ -34,7 +34,8 @@ pub enum Meant<'a> {
 
 /// What a name stands for.
 pub fn look_up<'a>(given: &Given<'a>, name: u32) -> Meant<'a>
-    ensures { (bodies : List Body) (level : ℕ) → IsBelow given.now level → MeansName bodies given.now level name result }
+    ensures { (bodies : List Body) (level : ℕ) → IsBelow given.now level →
+        MeansName bodies given.now level name result }
 {
     match given {
         Given::Empty => Meant::Nothing,

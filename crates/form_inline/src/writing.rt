@@ -18,7 +18,8 @@ use std::alloc::{AllocError, Global};
 /// It holds at the same positions of every lasso as before.
 pub fn inline(alloc: Global, model: &Model, formula: &Formula) -> Result<Formula, AllocError>
     ensures free { IfOk result (λ f. IsCallFree (claim_of f)) }
-    ensures same { IfOk result (λ f. (w : World) (i : ℕ) → Holds w no_bodies (claim_of f) no_names i ↔ Holds w (bodies_of w model.now.bodies) (claim_of formula.now) no_names i) }
+    ensures same { IfOk result (λ f. (w : World) (i : ℕ) → Holds w no_bodies (claim_of f) no_names i
+        ↔ Holds w (bodies_of w model.now.bodies) (claim_of formula.now) no_names i) }
 {
     let bodies = &model.bodies;
     written_formula(alloc, bodies, formula, &Given::Empty, 0, bodies.len())
@@ -55,7 +56,8 @@ fn written_formula(
 ) -> Result<Formula, AllocError>
     requires { IsBelow given.now level }
     ensures free { IfOk result (λ f. IsCallFree (claim_of f)) }
-    ensures same { IfOk result (λ f. SameClaim bodies.now (claim_of f) (claim_of formula.now) given.now calls) }
+    ensures same { IfOk result (λ f. SameClaim bodies.now (claim_of f) (claim_of formula.now)
+        given.now calls) }
 {
     match formula {
         Formula::Inside(a, b) => Ok(Formula::Inside(
@@ -137,7 +139,8 @@ fn written_expr(
     requires { IsBelow given.now level }
     ensures free { IfOk result (λ e. IsCallFreeTerm (term_of e)) }
     ensures plain { IfOk result (λ e. IsPlain (term_of e)) }
-    ensures same { IfOk result (λ e. SameTerm bodies.now (term_of e) (term_of expr.now) given.now calls) }
+    ensures same { IfOk result (λ e. SameTerm bodies.now (term_of e) (term_of expr.now) given.now
+        calls) }
 {
     match expr {
         Expr::Sig(sig) => Ok(Expr::Sig(*sig)),
@@ -211,7 +214,8 @@ fn boxed(
 ) -> Result<Box<Formula>, AllocError>
     requires { IsBelow given.now level }
     ensures free { IfOk result (λ f. IsCallFree (claim_of f.value)) }
-    ensures same { IfOk result (λ f. SameClaim bodies.now (claim_of f.value) (claim_of formula.now) given.now calls) }
+    ensures same { IfOk result (λ f. SameClaim bodies.now (claim_of f.value) (claim_of formula.now)
+        given.now calls) }
 {
     let inner = written_formula(alloc, bodies, formula, given, deeper(level)?, calls)?;
     Ok(Box::new(alloc, inner)?)
@@ -230,7 +234,8 @@ fn boxed_expr(
     requires { IsBelow given.now level }
     ensures free { IfOk result (λ e. IsCallFreeTerm (term_of e.value)) }
     ensures plain { IfOk result (λ e. IsPlain (term_of e.value)) }
-    ensures same { IfOk result (λ e. SameTerm bodies.now (term_of e.value) (term_of expr.now) given.now calls) }
+    ensures same { IfOk result (λ e. SameTerm bodies.now (term_of e.value) (term_of expr.now)
+        given.now calls) }
 {
     let inner = written_expr(alloc, bodies, expr, given, deeper(level)?, calls)?;
     Ok(Box::new(alloc, inner)?)
@@ -248,7 +253,8 @@ fn written_bound(
 ) -> Result<Expr, AllocError>
     requires { IsBelow given.now level }
     ensures free { IfOk result (λ e. IsCallFreeTerm (term_of e)) }
-    ensures same { IfOk result (λ e. SameBound bodies.now given.now calls (term_of e) (term_of expr.now)) }
+    ensures same { IfOk result (λ e. SameBound bodies.now given.now calls (term_of e)
+        (term_of expr.now)) }
 {
     match expr {
         Expr::Product(a, left, right, b) => Ok(Expr::Product(
@@ -273,7 +279,8 @@ fn boxed_bound(
 ) -> Result<Box<Expr>, AllocError>
     requires { IsBelow given.now level }
     ensures free { IfOk result (λ e. IsCallFreeTerm (term_of e.value)) }
-    ensures same { IfOk result (λ e. SameBound bodies.now given.now calls (term_of e.value) (term_of expr.now)) }
+    ensures same { IfOk result (λ e. SameBound bodies.now given.now calls (term_of e.value)
+        (term_of expr.now)) }
 {
     let inner = written_bound(alloc, bodies, expr, given, deeper(level)?, calls)?;
     Ok(Box::new(alloc, inner)?)
@@ -292,7 +299,8 @@ fn formulas(
 ) -> Result<Vec<Formula>, AllocError>
     requires { IsBelow given.now level }
     ensures free { IfOk result (λ all. All IsCallFree (map claim_of all.items)) }
-    ensures same { IfOk result (λ all. SameClaims bodies.now (map claim_of all.items) (map claim_of list.now) given.now calls) }
+    ensures same { IfOk result (λ all. SameClaims bodies.now (map claim_of all.items)
+        (map claim_of list.now) given.now calls) }
 {
     let inner = deeper(level)?;
     let mut all = Vec::new(alloc);
@@ -320,7 +328,10 @@ fn under(
     requires below { IsBelow given.now level }
     ensures bounds { All HasCallFreeBound (map variable_of variables.new.items) }
     ensures free { IfOk result (λ f. IsCallFree (claim_of f.value)) }
-    ensures same { IfOk result (λ f. BindsTo bodies.now calls (SameClaim bodies.now (claim_of f.value) (claim_of formula.now)) (map variable_of variables.old.items) (map variable_of variables.new.items) (map variable_of list.now) given.now level) }
+    ensures same { IfOk result (λ f. BindsTo bodies.now calls
+        (SameClaim bodies.now (claim_of f.value) (claim_of formula.now))
+        (map variable_of variables.old.items) (map variable_of variables.new.items)
+        (map variable_of list.now) given.now level) }
 {
     match list.split_first() {
         None => boxed(alloc, bodies, formula, given, level, calls),
@@ -355,7 +366,10 @@ fn under_sum(
     requires below { IsBelow given.now level }
     ensures bounds { All HasCallFreeBound (map variable_of variables.new.items) }
     ensures free { IfOk result (λ e. IsCallFreeTerm (term_of e.value)) }
-    ensures same { IfOk result (λ e. BindsTo bodies.now calls (SameTerm bodies.now (term_of e.value) (term_of expr.now)) (map variable_of variables.old.items) (map variable_of variables.new.items) (map variable_of list.now) given.now level) }
+    ensures same { IfOk result (λ e. BindsTo bodies.now calls
+        (SameTerm bodies.now (term_of e.value) (term_of expr.now))
+        (map variable_of variables.old.items) (map variable_of variables.new.items)
+        (map variable_of list.now) given.now level) }
 {
     match list.split_first() {
         None => boxed_expr(alloc, bodies, expr, given, level, calls),
@@ -386,7 +400,8 @@ fn called_formula(
 ) -> Result<Formula, AllocError>
     requires { IsBelow given.now level }
     ensures free { IfOk result (λ f. IsCallFree (claim_of f)) }
-    ensures same { IfOk result (λ f. SameClaim bodies.now (claim_of f) (call_claim body (term_list (map term_of arguments.now))) given.now calls) }
+    ensures same { IfOk result (λ f. SameClaim bodies.now (claim_of f)
+        (call_claim body (term_list (map term_of arguments.now))) given.now calls) }
 {
     if calls == 0 {
         return never(alloc);
@@ -417,7 +432,8 @@ fn called_expr(
     requires { IsBelow given.now level }
     ensures free { IfOk result (λ e. IsCallFreeTerm (term_of e)) }
     ensures plain { IfOk result (λ e. IsPlain (term_of e)) }
-    ensures same { IfOk result (λ e. SameTerm bodies.now (term_of e) (call_term body (term_list (map term_of arguments.now))) given.now calls) }
+    ensures same { IfOk result (λ e. SameTerm bodies.now (term_of e)
+        (call_term body (term_list (map term_of arguments.now))) given.now calls) }
 {
     if calls == 0 {
         return Ok(Expr::Empty);

@@ -153,7 +153,8 @@ pub fn not_earlier_not(alloc: Global, f: Formula) -> Result<Formula, AllocError>
 
 /// `f releases g`: not `(not f) until (not g)`.
 pub fn releases(alloc: Global, f: Formula, g: Formula) -> Result<Formula, AllocError>
-    ensures { IfOk result (λ h. claim_of h ≡ negation (temporal_pair UntilThen (negation (claim_of f)) (negation (claim_of g)))) }
+    ensures { IfOk result (λ h. claim_of h ≡ negation
+        (temporal_pair UntilThen (negation (claim_of f)) (negation (claim_of g)))) }
 {
     let first = not(alloc, f)?;
     let second = not(alloc, g)?;
@@ -163,7 +164,8 @@ pub fn releases(alloc: Global, f: Formula, g: Formula) -> Result<Formula, AllocE
 
 /// `f triggered g`: not `(not f) since (not g)`.
 pub fn triggered(alloc: Global, f: Formula, g: Formula) -> Result<Formula, AllocError>
-    ensures { IfOk result (λ h. claim_of h ≡ negation (temporal_pair SinceThen (negation (claim_of f)) (negation (claim_of g)))) }
+    ensures { IfOk result (λ h. claim_of h ≡ negation
+        (temporal_pair SinceThen (negation (claim_of f)) (negation (claim_of g)))) }
 {
     let first = not(alloc, f)?;
     let second = not(alloc, g)?;

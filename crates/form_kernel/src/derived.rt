@@ -68,7 +68,8 @@ pub fn counted(
     list: Vec<Variable>,
     f: Formula,
 ) -> Result<Formula, AllocError>
-    ensures { IfOk result (λ g. claim_of g ≡ counting quantity (map variable_of list.items) (claim_of f)) }
+    ensures { IfOk result (λ g. claim_of g ≡ counting quantity (map variable_of list.items)
+        (claim_of f)) }
 {
     match quantity {
         Quantity::Some => {
@@ -83,7 +84,8 @@ pub fn counted(
 
 /// The formula holds for no values of the variables.
 fn none_under(alloc: Global, list: Vec<Variable>, f: Formula) -> Result<Formula, AllocError>
-    ensures { IfOk result (λ g. claim_of g ≡ under_claim (map variable_of list.items) (negation (claim_of f))) }
+    ensures { IfOk result (λ g. claim_of g ≡ under_claim (map variable_of list.items)
+        (negation (claim_of f))) }
 {
     let fails = not(alloc, f)?;
     under(alloc, list, fails)
@@ -95,7 +97,8 @@ fn none_under(alloc: Global, list: Vec<Variable>, f: Formula) -> Result<Formula,
 /// Two negations stand before the count, since `some` with variables is "not all not".
 #[tactic(auto, using(crate::proofs::Lists::one_many, crate::proofs::Lists::one_others))]
 fn one_under(alloc: Global, list: Vec<Variable>, f: Formula) -> Result<Formula, AllocError>
-    ensures { IfOk result (λ g. claim_of g ≡ one_under_claim (map variable_of list.items) (claim_of f)) }
+    ensures { IfOk result (λ g. claim_of g ≡ one_under_claim (map variable_of list.items)
+        (claim_of f)) }
 {
     if are_many_rising(&list) {
         return one_of_many(alloc, list, f);
@@ -108,7 +111,9 @@ fn one_under(alloc: Global, list: Vec<Variable>, f: Formula) -> Result<Formula, 
 
 /// The formula holds for some choice of values of the variables, and for at most one.
 fn one_of_many(alloc: Global, list: Vec<Variable>, f: Formula) -> Result<Formula, AllocError>
-    ensures { IfOk result (λ g. claim_of g ≡ both_claims (negation (under_claim (map variable_of list.items) (negation (claim_of f)))) (lone_by_one (alone [] (map variable_of list.items)) (claim_of f))) }
+    ensures { IfOk result (λ g. claim_of g ≡ both_claims
+        (negation (under_claim (map variable_of list.items) (negation (claim_of f))))
+        (lone_by_one (alone [] (map variable_of list.items)) (claim_of f))) }
 {
     let others = copies(alloc, &list)?;
     let other = f.copy(alloc)?;

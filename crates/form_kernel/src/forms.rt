@@ -25,9 +25,15 @@ use std::alloc::{AllocError, Global};
 /// held and had no tuples.
 pub fn kernel(alloc: Global, formula: &Formula) -> Result<Formula, AllocError>
     ensures forms { IfOk result (λ f. IsLeft (claim_of f)) }
-    ensures same { IsCallFree (claim_of formula.now) → IfOk result (λ f. (w : World) (m : ℕ → Option ℕ) (i : ℕ) → Holds w no_bodies (claim_of f) (atoms m) i ↔ Holds w no_bodies (claim_of formula.now) (atoms m) i) }
-    ensures past { IfOk result (λ f. (bodies : BodyDepths) (d : Depths) → past_of bodies (claim_of f) d ≤ past_of bodies (claim_of formula.now) d) }
-    ensures parts { IfOk result (λ f. (sigs : ℕ → Bool) (fields : ℕ → Bool) (numbers : ℤ → Bool) (names : Allowed) → IsMade sigs fields numbers (claim_of formula.now) names → IsMade sigs fields numbers (claim_of f) names) }
+    ensures same { IsCallFree (claim_of formula.now) →
+        IfOk result (λ f. (w : World) (m : ℕ → Option ℕ) (i : ℕ) →
+        Holds w no_bodies (claim_of f) (atoms m) i
+        ↔ Holds w no_bodies (claim_of formula.now) (atoms m) i) }
+    ensures past { IfOk result (λ f. (bodies : BodyDepths) (d : Depths) →
+        past_of bodies (claim_of f) d ≤ past_of bodies (claim_of formula.now) d) }
+    ensures parts { IfOk result (λ f. (sigs : ℕ → Bool) (fields : ℕ → Bool) (numbers : ℤ → Bool)
+        (names : Allowed) → IsMade sigs fields numbers (claim_of formula.now) names →
+        IsMade sigs fields numbers (claim_of f) names) }
 {
     kernel_of(alloc, formula)
 }
@@ -177,7 +183,8 @@ fn boxed_expr(alloc: Global, expr: &Expr, in_bound: bool) -> Result<Box<Expr>, A
 #[cycle(kernel)]
 #[tactic(auto, using(crate::proofs::Lists::pushed))]
 fn formulas(alloc: Global, list: &[Formula]) -> Result<Vec<Formula>, AllocError>
-    ensures { IfOk result (λ all. map claim_of all.items ≡ map kernel_claim (map claim_of list.now)) }
+    ensures { IfOk result (λ all. map claim_of all.items
+        ≡ map kernel_claim (map claim_of list.now)) }
 {
     let mut all = Vec::new(alloc);
     for formula in list {
@@ -190,7 +197,8 @@ fn formulas(alloc: Global, list: &[Formula]) -> Result<Vec<Formula>, AllocError>
 #[cycle(kernel)]
 #[tactic(auto, using(crate::proofs::Lists::pushed))]
 fn variables(alloc: Global, list: &[Variable]) -> Result<Vec<Variable>, AllocError>
-    ensures { IfOk result (λ all. map variable_of all.items ≡ map kernel_binder (map variable_of list.now)) }
+    ensures { IfOk result (λ all. map variable_of all.items
+        ≡ map kernel_binder (map variable_of list.now)) }
 {
     let mut all = Vec::new(alloc);
     for variable in list {

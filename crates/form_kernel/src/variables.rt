@@ -38,7 +38,8 @@ fn apart_bound(
     apart: u32,
 ) -> Result<Expr, AllocError>
     requires end { place ≤ length list.now }
-    ensures { IfOk result (λ e. term_of e ≡ without_term (term_of bound) (take apart (names_onto (map variable_of (take place list.now)) []))) }
+    ensures { IfOk result (λ e. term_of e ≡ without_term (term_of bound)
+        (take apart (names_onto (map variable_of (take place list.now)) []))) }
 {
     if place == 0 {
         return Ok(bound);
@@ -69,7 +70,8 @@ fn single(alloc: Global, list: &[Variable], place: usize) -> Result<Variable, Al
 /// Each variable alone.
 #[tactic(auto, using(crate::proofs::Lists::alone_more, crate::proofs::Lists::alone_all))]
 fn alone(alloc: Global, list: &[Variable]) -> Result<Vec<Variable>, AllocError>
-    ensures { IfOk result (λ all. map variable_of all.items ≡ alone_binders [] (map variable_of list.now)) }
+    ensures { IfOk result (λ all. map variable_of all.items
+        ≡ alone_binders [] (map variable_of list.now)) }
 {
     let mut all = Vec::new(alloc);
     for place in 0..list.len() {
@@ -112,7 +114,8 @@ fn rises(list: &[Variable], least: u64) -> bool
 /// `all x: e | f` with one variable.
 #[tactic(auto, using(crate::proofs::Lists::all_one))]
 fn for_all(alloc: Global, variable: Variable, f: Formula) -> Result<Formula, AllocError>
-    ensures { IfOk result (λ g. claim_of g ≡ for_all_claim (variable_list (variable_of variable ∷ [])) (claim_of f)) }
+    ensures { IfOk result (λ g. claim_of g ≡ for_all_claim
+        (variable_list (variable_of variable ∷ [])) (claim_of f)) }
 {
     let mut list = Vec::new(alloc);
     list.push(variable)?;
@@ -122,7 +125,8 @@ fn for_all(alloc: Global, variable: Variable, f: Formula) -> Result<Formula, All
 /// `all` with one of the variables after another.
 #[tactic(auto, using(crate::proofs::Lists::one_by_one_step, crate::proofs::Lists::one_by_one_end))]
 fn one_by_one(alloc: Global, list: Vec<Variable>, f: Formula) -> Result<Formula, AllocError>
-    ensures { IfOk result (λ g. claim_of g ≡ one_by_one_claim (map variable_of list.items) (claim_of f)) }
+    ensures { IfOk result (λ g. claim_of g ≡ one_by_one_claim (map variable_of list.items)
+        (claim_of f)) }
 {
     let mut outer = list;
     match outer.pop() {
@@ -137,7 +141,8 @@ fn one_by_one(alloc: Global, list: Vec<Variable>, f: Formula) -> Result<Formula,
 /// The formula holds for all values of the variables.
 #[tactic(auto, using(crate::proofs::Lists::under_rising, crate::proofs::Lists::under_many))]
 pub fn under(alloc: Global, list: Vec<Variable>, f: Formula) -> Result<Formula, AllocError>
-    ensures { IfOk result (λ g. claim_of g ≡ under_claim (map variable_of list.items) (claim_of f)) }
+    ensures { IfOk result (λ g. claim_of g ≡ under_claim (map variable_of list.items)
+        (claim_of f)) }
 {
     if rises(&list, 0) {
         let singles = alone(alloc, &list)?;
@@ -149,14 +154,16 @@ pub fn under(alloc: Global, list: Vec<Variable>, f: Formula) -> Result<Formula, 
 /// The values of the variables at which the formula holds.
 #[tactic(auto, using(core_tree::proofs::RowLemmas::comprehension_is))]
 pub fn values_of(alloc: Global, list: Vec<Variable>, f: Formula) -> Result<Expr, AllocError>
-    ensures { IfOk result (λ e. term_of e ≡ comprehension (variable_list (map variable_of list.items)) (claim_of f)) }
+    ensures { IfOk result (λ e. term_of e ≡ comprehension
+        (variable_list (map variable_of list.items)) (claim_of f)) }
 {
     Ok(Expr::Comprehension(list, Box::new(alloc, f)?))
 }
 
 /// The formula holds for at most one choice of values of the variables.
 fn lone_values(alloc: Global, list: Vec<Variable>, f: Formula) -> Result<Formula, AllocError>
-    ensures { IfOk result (λ g. claim_of g ≡ lone_values_claim (map variable_of list.items) (claim_of f)) }
+    ensures { IfOk result (λ g. claim_of g ≡ lone_values_claim (map variable_of list.items)
+        (claim_of f)) }
 {
     let values = values_of(alloc, list, f)?;
     lone(alloc, values)
@@ -195,7 +202,8 @@ fn lone_first(
     rest: &[Variable],
     f: Formula,
 ) -> Result<Formula, AllocError>
-    ensures { IfOk result (λ g. claim_of g ≡ lone_values_claim (variable_of first.now ∷ []) (negation (one_by_one_claim (map variable_of rest.now) (negation (claim_of f))))) }
+    ensures { IfOk result (λ g. claim_of g ≡ lone_values_claim (variable_of first.now ∷ [])
+        (negation (one_by_one_claim (map variable_of rest.now) (negation (claim_of f))))) }
 {
     let fails = not(alloc, f)?;
     let others = copies(alloc, rest)?;
@@ -208,7 +216,8 @@ fn lone_first(
 /// At each value of the variable the formula holds.
 #[tactic(auto, using(crate::proofs::Lists::all_only))]
 fn each_value(alloc: Global, variable: &Variable, f: Formula) -> Result<Formula, AllocError>
-    ensures { IfOk result (λ g. claim_of g ≡ for_all_claim (variable_list (variable_of variable.now ∷ [])) (claim_of f)) }
+    ensures { IfOk result (λ g. claim_of g ≡ for_all_claim
+        (variable_list (variable_of variable.now ∷ [])) (claim_of f)) }
 {
     let list = only(alloc, variable)?;
     Ok(Formula::ForAll(list, Box::new(alloc, f)?))
@@ -219,7 +228,8 @@ fn each_value(alloc: Global, variable: &Variable, f: Formula) -> Result<Formula,
 /// each of its values of the others.
 #[tactic(auto, using(crate::proofs::Lists::lone_few, crate::proofs::Lists::lone_step))]
 fn lone_by_one(alloc: Global, list: &[Variable], f: Formula) -> Result<Formula, AllocError>
-    ensures { IfOk result (λ g. claim_of g ≡ lone_by_one_claim (map variable_of list.now) (claim_of f)) }
+    ensures { IfOk result (λ g. claim_of g ≡ lone_by_one_claim (map variable_of list.now)
+        (claim_of f)) }
 {
     if list.len() <= MOST_COLUMNS {
         let few = copies(alloc, list)?;
@@ -239,7 +249,8 @@ fn lone_by_one(alloc: Global, list: &[Variable], f: Formula) -> Result<Formula, 
 
 /// The same for any variables whose names rise.
 pub fn lone_alone(alloc: Global, list: &[Variable], f: Formula) -> Result<Formula, AllocError>
-    ensures { IfOk result (λ g. claim_of g ≡ lone_by_one_claim (alone_binders [] (map variable_of list.now)) (claim_of f)) }
+    ensures { IfOk result (λ g. claim_of g ≡ lone_by_one_claim
+        (alone_binders [] (map variable_of list.now)) (claim_of f)) }
 {
     let singles = alone(alloc, list)?;
     lone_by_one(alloc, &singles, f)
@@ -248,7 +259,8 @@ pub fn lone_alone(alloc: Global, list: &[Variable], f: Formula) -> Result<Formul
 /// The formula holds for at most one choice of values of the variables.
 #[tactic(auto, using(crate::proofs::Lists::lone_many, crate::proofs::Lists::lone_others))]
 pub fn lone_under(alloc: Global, list: Vec<Variable>, f: Formula) -> Result<Formula, AllocError>
-    ensures { IfOk result (λ g. claim_of g ≡ lone_under_claim (map variable_of list.items) (claim_of f)) }
+    ensures { IfOk result (λ g. claim_of g ≡ lone_under_claim (map variable_of list.items)
+        (claim_of f)) }
 {
     if are_many_rising(&list) {
         return lone_alone(alloc, &list, f);

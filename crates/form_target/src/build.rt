@@ -39,7 +39,8 @@ pub fn test(alloc: Global, quantity: Quantity, e: Expr) -> Result<Formula, Alloc
 
 /// `no (a & b)`.
 pub fn disjoint(alloc: Global, a: Expr, b: Expr) -> Result<Formula, AllocError>
-    ensures { IfOk result (λ f. claim_of f ≡ test_claim No (combine_term Intersection (term_of a) (term_of b))) }
+    ensures { IfOk result (λ f. claim_of f ≡ test_claim No
+        (combine_term Intersection (term_of a) (term_of b))) }
 {
     let shared = combine(alloc, RelationOp::Intersection, a, b)?;
     Ok(test(alloc, Quantity::No, shared)?)
@@ -47,7 +48,8 @@ pub fn disjoint(alloc: Global, a: Expr, b: Expr) -> Result<Formula, AllocError>
 
 /// `all x: s | f` for an atom of a sig, whose name is 0.
 pub fn for_each(alloc: Global, sig: u32, f: Formula) -> Result<Formula, AllocError>
-    ensures { IfOk result (λ g. claim_of g ≡ for_all (more_variables 0 0 (sig_term sig) no_variables) (claim_of f)) }
+    ensures { IfOk result (λ g. claim_of g ≡ for_all
+        (more_variables 0 0 (sig_term sig) no_variables) (claim_of f)) }
 {
     let mut list = Vec::new(alloc);
     list.push(Variable {
@@ -61,7 +63,9 @@ pub fn for_each(alloc: Global, sig: u32, f: Formula) -> Result<Formula, AllocErr
 
 /// `all disj x, y: s | f` for two atoms of a sig, whose names are 0 and 1.
 pub fn for_each_two(alloc: Global, sig: u32, f: Formula) -> Result<Formula, AllocError>
-    ensures { IfOk result (λ g. claim_of g ≡ for_all (more_variables 0 0 (sig_term sig) (more_variables 1 1 (sig_term sig) no_variables)) (claim_of f)) }
+    ensures { IfOk result (λ g. claim_of g ≡ for_all
+        (more_variables 0 0 (sig_term sig) (more_variables 1 1 (sig_term sig) no_variables))
+        (claim_of f)) }
 {
     let mut list = Vec::new(alloc);
     list.push(Variable {

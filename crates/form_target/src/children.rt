@@ -27,7 +27,8 @@ fn no_children(alloc: Global, sigs: &[Sig]) -> Result<Vec<ColumnList>, AllocErro
 /// Adds a child to the list of its parent. There is no memory for a parent that isn't there.
 fn add_child(lists: &mut Vec<ColumnList>, parent: u32, child: u32) -> Result<(), AllocError>
     ensures there { OnOk result (parent < length lists.old.items) }
-    ensures added { OnOk result (lists.new.items ≡ set lists.old.items parent (get_or lists.old.items parent [] ++ SigColumn child ∷ [])) }
+    ensures added { OnOk result (lists.new.items ≡ set lists.old.items parent
+        (get_or lists.old.items parent [] ++ SigColumn child ∷ [])) }
 {
     let place = parent as usize;
     if place >= lists.len() {
@@ -39,7 +40,9 @@ fn add_child(lists: &mut Vec<ColumnList>, parent: u32, child: u32) -> Result<(),
 
 /// Adds a sig to the list of the one that it extends, if any.
 fn sort_in(lists: &mut Vec<ColumnList>, number: u32, sig: &Sig) -> Result<(), AllocError>
-    ensures { (sigs : List SigData) → slice_get sigs number ≡ Some sig.now → HasChildrenBelow sigs number lists.old.items → OnOk result (HasChildrenBelow sigs (number + 1) lists.new.items) }
+    ensures { (sigs : List SigData) → slice_get sigs number ≡ Some sig.now →
+        HasChildrenBelow sigs number lists.old.items →
+        OnOk result (HasChildrenBelow sigs (number + 1) lists.new.items) }
 {
     match &sig.kind {
         SigKind::Top => Ok(()),

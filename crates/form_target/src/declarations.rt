@@ -17,7 +17,9 @@ use std::alloc::{AllocError, Global};
 /// Formulas without free names that all hold at a position exactly where the declarations do: those
 /// of the sigs, then those of the fields.
 pub fn implied(alloc: Global, model: &Model) -> Result<Vec<Formula>, AllocError>
-    ensures same { IfOk result (λ all. (w : World) (i : ℕ) → IsWorldOf model.now w → All (HoldsIn model.now w i) all.items ↔ Declares model.now w (bodies_of w model.now.bodies) i) }
+    ensures same { IfOk result (λ all. (w : World) (i : ℕ) → IsWorldOf model.now w →
+        All (HoldsIn model.now w i) all.items ↔ Declares model.now w (bodies_of w model.now.bodies)
+        i) }
     ensures closed { IfOk result (λ all. IsModel model.now → All (IsClosed model.now) all.items) }
 {
     let mut all = Vec::new(alloc);
@@ -34,7 +36,8 @@ fn of_sigs(
     all: &mut Vec<Formula>,
 ) -> Result<(), AllocError>
     requires { sigs.now ≡ model.now.sigs }
-    ensures { OnOk result (Adds model.now all.old.items all.new.items (λ w i. EachOf model.now.sigs (IsSigDeclared model.now w i))) }
+    ensures { OnOk result (Adds model.now all.old.items all.new.items
+        (λ w i. EachOf model.now.sigs (IsSigDeclared model.now w i))) }
 {
     let lists = child_lists(alloc, sigs)?;
     let mut number = 0;
@@ -54,7 +57,8 @@ fn of_fields(
     all: &mut Vec<Formula>,
 ) -> Result<(), AllocError>
     requires { fields.now ≡ model.now.fields }
-    ensures { OnOk result (Adds model.now all.old.items all.new.items (λ w i. EachOf model.now.fields (IsFieldAsked model.now w i))) }
+    ensures { OnOk result (Adds model.now all.old.items all.new.items
+        (λ w i. EachOf model.now.fields (IsFieldAsked model.now w i))) }
 {
     let mut number = 0;
     for field in fields {

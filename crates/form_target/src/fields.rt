@@ -21,7 +21,8 @@ pub fn field_formulas(
 ) -> Result<(), AllocError>
     requires fields { fields.now ≡ model.now.fields }
     requires field { slice_get model.now.fields number ≡ Some field.now }
-    ensures { OnOk result (Adds model.now all.old.items all.new.items (λ w i. IsFieldAsked model.now w i number field.now)) }
+    ensures { OnOk result (Adds model.now all.old.items all.new.items
+        (λ w i. IsFieldAsked model.now w i number field.now)) }
 {
     alone(alloc, model, number, field, all)?;
     apart_formulas(alloc, model, fields, number, field, all)?;
@@ -37,7 +38,8 @@ fn alone(
     all: &mut Vec<Formula>,
 ) -> Result<(), AllocError>
     requires { slice_get model.now.fields number ≡ Some field.now }
-    ensures { OnOk result (Adds model.now all.old.items all.new.items (λ w i. IsAlone model.now w i number field.now)) }
+    ensures { OnOk result (Adds model.now all.old.items all.new.items
+        (λ w i. IsAlone model.now w i number field.now)) }
 {
     match field.owner {
         None => Ok(()),
@@ -61,7 +63,8 @@ fn declared_formulas(
     all: &mut Vec<Formula>,
 ) -> Result<(), AllocError>
     requires { IsDeclaredField model.now number owner declared.now }
-    ensures { OnOk result (Adds model.now all.old.items all.new.items (λ w i. IsFieldDeclared model.now w i number owner declared.now)) }
+    ensures { OnOk result (Adds model.now all.old.items all.new.items
+        (λ w i. IsFieldDeclared model.now w i number owner declared.now)) }
 {
     owned(alloc, model, number, owner, declared, all)?;
     bounded(alloc, model, number, owner, declared, all)?;
@@ -79,7 +82,8 @@ fn owned(
     all: &mut Vec<Formula>,
 ) -> Result<(), AllocError>
     requires { IsDeclaredField model.now number owner declared.now }
-    ensures { OnOk result (Adds model.now all.old.items all.new.items (λ w i. IsOwned model.now w i number owner)) }
+    ensures { OnOk result (Adds model.now all.old.items all.new.items
+        (λ w i. IsOwned model.now w i number owner)) }
 {
     let begins = combine(
         alloc,
@@ -102,7 +106,8 @@ fn bounded(
     all: &mut Vec<Formula>,
 ) -> Result<(), AllocError>
     requires { IsDeclaredField model.now number owner declared.now }
-    ensures { OnOk result (Adds model.now all.old.items all.new.items (λ w i. IsBounded model.now w i number owner declared.now.bound)) }
+    ensures { OnOk result (Adds model.now all.old.items all.new.items
+        (λ w i. IsBounded model.now w i number owner declared.now.bound)) }
 {
     let value = value_of(alloc, 0, number)?;
     let copy = declared.bound.expr.copy(alloc)?;
@@ -121,7 +126,8 @@ fn apart_values(
     all: &mut Vec<Formula>,
 ) -> Result<(), AllocError>
     requires { IsDeclaredField model.now number owner declared.now }
-    ensures { OnOk result (Adds model.now all.old.items all.new.items (λ w i. IsTrue declared.now.disj_values → HasApartValues model.now w i number owner)) }
+    ensures { OnOk result (Adds model.now all.old.items all.new.items
+        (λ w i. IsTrue declared.now.disj_values → HasApartValues model.now w i number owner)) }
 {
     if !declared.disj_values {
         return Ok(());
@@ -168,7 +174,8 @@ fn apart_formulas(
 ) -> Result<(), AllocError>
     requires fields { fields.now ≡ model.now.fields }
     requires field { slice_get model.now.fields number ≡ Some field.now }
-    ensures { OnOk result (Adds model.now all.old.items all.new.items (λ w i. EachOf model.now.fields (IsApartFrom model.now w i number field.now))) }
+    ensures { OnOk result (Adds model.now all.old.items all.new.items
+        (λ w i. EachOf model.now.fields (IsApartFrom model.now w i number field.now))) }
 {
     if list_of(field).is_none() {
         return Ok(());
@@ -194,7 +201,8 @@ fn apart_from(
 ) -> Result<(), AllocError>
     requires field { slice_get model.now.fields number ≡ Some field.now }
     requires other { slice_get model.now.fields other_number ≡ Some other.now }
-    ensures { OnOk result (Adds model.now all.old.items all.new.items (λ w i. IsApartFrom model.now w i number field.now other_number other.now)) }
+    ensures { OnOk result (Adds model.now all.old.items all.new.items
+        (λ w i. IsApartFrom model.now w i number field.now other_number other.now)) }
 {
     if other_number <= number {
         return Ok(());

@@ -24,7 +24,8 @@ pub fn sig_formulas(
 ) -> Result<(), AllocError>
     requires there { slice_get model.now.sigs number ≡ Some sig.now }
     requires children { IsListOf (IsChildColumn model.now.sigs number) children.now }
-    ensures { OnOk result (Adds model.now all.old.items all.new.items (λ w i. IsSigDeclared model.now w i number sig.now)) }
+    ensures { OnOk result (Adds model.now all.old.items all.new.items
+        (λ w i. IsSigDeclared model.now w i number sig.now)) }
 {
     placed(alloc, model, number, sig, all)?;
     covered(alloc, model, number, sig, children, all)?;
@@ -43,7 +44,8 @@ fn placed(
     all: &mut Vec<Formula>,
 ) -> Result<(), AllocError>
     requires { slice_get model.now.sigs number ≡ Some sig.now }
-    ensures { OnOk result (Adds model.now all.old.items all.new.items (λ w i. IsPlaced model.now w (bodies_of w model.now.bodies) i number sig.now.kind)) }
+    ensures { OnOk result (Adds model.now all.old.items all.new.items
+        (λ w i. IsPlaced model.now w (bodies_of w model.now.bodies) i number sig.now.kind)) }
 {
     match &sig.kind {
         SigKind::Top => Ok(()),
@@ -70,7 +72,8 @@ fn covered(
 ) -> Result<(), AllocError>
     requires there { slice_get model.now.sigs number ≡ Some sig.now }
     requires children { IsListOf (IsChildColumn model.now.sigs number) children.now }
-    ensures { OnOk result (Adds model.now all.old.items all.new.items (λ w i. IsCovered model.now w i number sig.now)) }
+    ensures { OnOk result (Adds model.now all.old.items all.new.items
+        (λ w i. IsCovered model.now w i number sig.now)) }
 {
     if !sig.is_abstract {
         return Ok(());
@@ -93,7 +96,8 @@ fn apart(
     all: &mut Vec<Formula>,
 ) -> Result<(), AllocError>
     requires { All (IsParent (length model.now.sigs)) sigs.now }
-    ensures { OnOk result (Adds model.now all.old.items all.new.items (λ w i. Pairwise (AreApart model.now w i) sigs.now)) }
+    ensures { OnOk result (Adds model.now all.old.items all.new.items
+        (λ w i. Pairwise (AreApart model.now w i) sigs.now)) }
 {
     let half = sigs.len() / 2;
     if half == 0 {
@@ -117,7 +121,8 @@ fn counted(
     all: &mut Vec<Formula>,
 ) -> Result<(), AllocError>
     requires { slice_get model.now.sigs number ≡ Some sig.now }
-    ensures { OnOk result (Adds model.now all.old.items all.new.items (λ w i. HasMultiplicity sig.now.multiplicity (IsSigTuple model.now w i number))) }
+    ensures { OnOk result (Adds model.now all.old.items all.new.items
+        (λ w i. HasMultiplicity sig.now.multiplicity (IsSigTuple model.now w i number))) }
 {
     match sig.multiplicity {
         Multiplicity::Set => Ok(()),
@@ -145,7 +150,8 @@ fn appended(
     all: &mut Vec<Formula>,
 ) -> Result<(), AllocError>
     requires { slice_get model.now.sigs number ≡ Some sig.now }
-    ensures { OnOk result (Adds model.now all.old.items all.new.items (λ w i. HasFact model.now w i number sig.now)) }
+    ensures { OnOk result (Adds model.now all.old.items all.new.items
+        (λ w i. HasFact model.now w i number sig.now)) }
 {
     match &sig.appended {
         None => Ok(()),

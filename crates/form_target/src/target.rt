@@ -43,7 +43,8 @@ fn written_out(alloc: Global, model: &Model, formula: &Formula) -> Result<Formul
 /// `always f`, written out: `f` fails at no position.
 #[tactic(auto, using(crate::proofs::Targets::written_always))]
 fn always(alloc: Global, model: &Model, formula: &Formula) -> Result<Formula, AllocError>
-    ensures { IfOk result (λ f. IsWrittenOut model.now.bodies (claim_of f) (temporal AlwaysOf (claim_of formula.now))) }
+    ensures { IfOk result (λ f. IsWrittenOut model.now.bodies (claim_of f)
+        (temporal AlwaysOf (claim_of formula.now))) }
 {
     let flat = inline(alloc, model, formula)?;
     let everywhere = Formula::Temporal(TemporalUnary::Always, Box::new(alloc, flat)?);
@@ -66,7 +67,8 @@ fn all_always(alloc: Global, model: &Model, list: &[Formula]) -> Result<FormulaL
 /// What the declarations ask of all positions, a formula each.
 #[tactic(auto, using(crate::proofs::Targets::asked_of))]
 fn declarations(alloc: Global, model: &Model) -> Result<FormulaList, AllocError>
-    ensures { IfOk result (λ all. (asked : List Formula) × Adds model.now.bodies [] all (always_claims asked) × SayDeclared model.now asked) }
+    ensures { IfOk result (λ all. (asked : List Formula)
+        × Adds model.now.bodies [] all (always_claims asked) × SayDeclared model.now asked) }
 {
     let list = implied(alloc, model)?;
     all_always(alloc, model, &list)
@@ -98,7 +100,8 @@ fn with_parts(
     command: &Command,
     before: FormulaList,
 ) -> Result<FormulaList, AllocError>
-    ensures { IfOk result (λ all. Adds model.now.bodies before all (fact_claims model.now.facts ++ claim_of command.now.formula ∷ [])) }
+    ensures { IfOk result (λ all. Adds model.now.bodies before all
+        (fact_claims model.now.facts ++ claim_of command.now.formula ∷ [])) }
 {
     let mut formulas = with_facts(alloc, model, model.facts.as_slice(), before)?;
     let asked = written_out(alloc, model, &command.formula)?;
@@ -120,7 +123,8 @@ pub fn target_of(
     command: &Command,
 ) -> Result<(Target, u32), AllocError>
     ensures forms { IfOk result (λ r. All (λ f. IsLeft (claim_of f)) r.0.formulas) }
-    ensures target { IfOk result (λ r. IsTargetOf model.now scopes.now (claim_of command.now.formula) r.0 r.1) }
+    ensures target { IfOk result (λ r. IsTargetOf model.now scopes.now
+        (claim_of command.now.formula) r.0 r.1) }
     ensures scopes { IfOk result (λ r. r.0.scopes ≡ scopes.now) }
 {
     let declared = declarations(alloc, model)?;
@@ -158,7 +162,8 @@ fn fact_part(alloc: Global, fact: &Fact) -> Result<Part, AllocError>
 /// The parts that facts are.
 #[tactic(auto, using(crate::proofs::Targets::parts_next))]
 fn fact_parts(alloc: Global, facts: &[Fact]) -> Result<PartList, AllocError>
-    ensures { IfOk result (λ parts. map (λ (p : PartOf). claim_of p.formula) parts ≡ fact_claims facts.now) }
+    ensures { IfOk result (λ parts. map (λ (p : PartOf). claim_of p.formula) parts
+        ≡ fact_claims facts.now) }
 {
     let mut parts = PartList::new(alloc);
     for fact in facts {
@@ -171,7 +176,8 @@ fn fact_parts(alloc: Global, facts: &[Fact]) -> Result<PartList, AllocError>
 /// The facts of the model, and last the command.
 #[tactic(auto, using(crate::proofs::Targets::parts_last))]
 pub fn parts_of(alloc: Global, model: &Model, command: &Command) -> Result<PartList, AllocError>
-    ensures { IfOk result (λ parts. map (λ (p : PartOf). claim_of p.formula) parts ≡ fact_claims model.now.facts ++ claim_of command.now.formula ∷ []) }
+    ensures { IfOk result (λ parts. map (λ (p : PartOf). claim_of p.formula) parts
+        ≡ fact_claims model.now.facts ++ claim_of command.now.formula ∷ []) }
 {
     let mut parts = fact_parts(alloc, model.facts.as_slice())?;
     parts.push(Part {

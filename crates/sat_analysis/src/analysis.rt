@@ -98,10 +98,14 @@ impl Analysis {
     /// want of memory.
     pub fn learn(&mut self, trail: &Trail, conflict: u64) -> Result<(), AllocError>
         requires variables { self.old.variables ≡ trail.now.variables }
-        requires conflict { (0 < conflict) × (conflict ≤ length trail.now.ends) × IsFalseIn trail.now.literals trail.now.ends trail.now.assignment.trail (conflict - 1) }
+        requires conflict { (0 < conflict) × (conflict ≤ length trail.now.ends)
+            × IsFalseIn trail.now.literals trail.now.ends trail.now.assignment.trail
+            (conflict - 1) }
         ensures variables { self.new.variables ≡ self.old.variables }
-        ensures literals { OnOk result (All (IsLiteral trail.now.variables) self.new.literals.items) }
-        ensures learnt { OnOk result (IsLearnt trail.now self.new.literals.items self.new.hints.items self.new.back_to) }
+        ensures literals { OnOk result (All (IsLiteral trail.now.variables)
+            self.new.literals.items) }
+        ensures learnt { OnOk result (IsLearnt trail.now self.new.literals.items
+            self.new.hints.items self.new.back_to) }
     {
         // for the proof: this call's clauses say what a trail keeps
         let _literals = trail.trail();
@@ -147,11 +151,14 @@ fn resolve_all(
 ) -> Result<usize, AllocError>
     requires trail { Stands trail.now }
     requires variables { noted.old.variables ≡ trail.now.variables }
-    requires conflict { (0 < conflict) × (conflict ≤ length trail.now.ends) × IsFalseIn trail.now.literals trail.now.ends trail.now.assignment.trail (conflict - 1) }
-    requires none { (noted.old.literals ≡ []) × (places.old.items ≡ []) × (learnt.old.items ≡ []) × (dropped.old.items ≡ []) }
+    requires conflict { (0 < conflict) × (conflict ≤ length trail.now.ends)
+        × IsFalseIn trail.now.literals trail.now.ends trail.now.assignment.trail (conflict - 1) }
+    requires none { (noted.old.literals ≡ []) × (places.old.items ≡ []) × (learnt.old.items ≡ [])
+        × (dropped.old.items ≡ []) }
     ensures variables { noted.new.variables ≡ noted.old.variables }
     ensures literals { OnOk result (All (IsLiteral trail.now.variables) learnt.new.items) }
-    ensures analysed { OnOk result (IsAnalysed trail.now (clause_at trail.now (conflict - 1)) noted.new.literals learnt.new.items places.new.items) }
+    ensures analysed { OnOk result (IsAnalysed trail.now (clause_at trail.now (conflict - 1))
+        noted.new.literals learnt.new.items places.new.items) }
     ensures asserting { OnOk result (IsAsserting trail.now learnt.new.items) }
     ensures apart { OnOk result (AreApart learnt.new.items) }
 {

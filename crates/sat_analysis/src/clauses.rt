@@ -27,8 +27,12 @@ pub(crate) fn level_of(trail: &Trail, literal: i64) -> u64
 pub(crate) fn reason_of(trail: &Trail, literal: i64) -> Option<u64>
     requires { IsLiteral trail.now.variables literal }
     ensures in_range { IfSome result (λ n. (0 < n) × (n ≤ length trail.now.ends)) }
-    ensures forced { IfSome result (λ n. (j : ℕ) → j < length trail.now.assignment.trail → spec.index (value_at trail.now.assignment.trail j) ≡ spec.index literal → (n ≡ reason_of trail.now.assignment j) × (Contains trail.now.limits j → ⊥)) }
-    ensures chosen { IfNone result ((j : ℕ) → j < length trail.now.assignment.trail → spec.index (value_at trail.now.assignment.trail j) ≡ spec.index literal → Contains trail.now.limits j) }
+    ensures forced { IfSome result (λ n. (j : ℕ) → j < length trail.now.assignment.trail →
+        spec.index (value_at trail.now.assignment.trail j) ≡ spec.index literal →
+        (n ≡ reason_of trail.now.assignment j) × (Contains trail.now.limits j → ⊥)) }
+    ensures chosen { IfNone result ((j : ℕ) → j < length trail.now.assignment.trail →
+        spec.index (value_at trail.now.assignment.trail j) ≡ spec.index literal →
+        Contains trail.now.limits j) }
 {
     trail.reason(literal.unsigned_abs())
 }
@@ -38,7 +42,8 @@ pub(crate) fn note_clause(trail: &Trail, noted: &mut Noted, number: u64) -> Resu
     requires variables { noted.old.variables ≡ trail.now.variables }
     requires number { (0 < number) × (number ≤ length trail.now.ends) }
     ensures variables { noted.new.variables ≡ noted.old.variables }
-    ensures taken { OnOk result (IsTaken (clause_at trail.now (number - 1)) noted.old.literals noted.new.literals) }
+    ensures taken { OnOk result (IsTaken (clause_at trail.now (number - 1)) noted.old.literals
+        noted.new.literals) }
 {
     let literals = trail.clause(number);
     for place in 0..literals.len() {

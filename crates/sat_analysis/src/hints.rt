@@ -25,7 +25,8 @@ pub(crate) fn gather_places(
     requires literals { All (IsLiteral trail.now.variables) literals.now }
     requires within { start ≤ length literals.now }
     requires fails { AllFail trail.now literals.now }
-    ensures { OnOk result (IsPlaced trail.now literals.now start (length literals.now) places.old.items places.new.items) }
+    ensures { OnOk result (IsPlaced trail.now literals.now start (length literals.now)
+        places.old.items places.new.items) }
 {
     for number in start..literals.len() {
         places.push(trail.place(literals[number]))?;
@@ -42,7 +43,9 @@ fn gather_one(
     place: usize,
 ) -> Result<usize, AllocError>
     requires { (place < length trail.now.assignment.trail) × (Contains trail.now.limits place → ⊥) }
-    ensures { (rest : List ℕ) → IfOk result (λ next. hints.new.items ++ reasons_from trail.now next rest ≡ hints.old.items ++ reasons_from trail.now start (place ∷ rest)) }
+    ensures { (rest : List ℕ) → IfOk result (λ next.
+        hints.new.items ++ reasons_from trail.now next rest ≡ hints.old.items
+        ++ reasons_from trail.now start (place ∷ rest)) }
 {
     if place < start {
         return Ok(start);
@@ -58,8 +61,10 @@ fn gather_one(
 
 /// Adds the reasons of the literals at some places of the trail that don't fall, each once.
 fn gather_reasons(trail: &Trail, places: &[usize], hints: &mut Vec<u64>) -> Result<(), AllocError>
-    requires { (j : ℕ) → Contains places.now j → (j < length trail.now.assignment.trail) × (Contains trail.now.limits j → ⊥) }
-    ensures { OnOk result (hints.new.items ≡ hints.old.items ++ reasons_from trail.now 0 places.now) }
+    requires { (j : ℕ) → Contains places.now j → (j < length trail.now.assignment.trail)
+        × (Contains trail.now.limits j → ⊥) }
+    ensures { OnOk result (hints.new.items ≡ hints.old.items
+        ++ reasons_from trail.now 0 places.now) }
 {
     let mut start = 0;
     for place in places {
@@ -78,9 +83,11 @@ pub(crate) fn gather_hints(
 ) -> Result<(), AllocError>
     requires trail { Stands trail.now }
     requires conflict { (0 < conflict) × (conflict ≤ length trail.now.ends) }
-    requires places { (j : ℕ) → Contains places.old.items j → (j < length trail.now.assignment.trail) × (Contains trail.now.limits j → ⊥) }
+    requires places { (j : ℕ) → Contains places.old.items j →
+        (j < length trail.now.assignment.trail) × (Contains trail.now.limits j → ⊥) }
     requires none { hints.old.items ≡ [] }
-    ensures { (noted literals : List ℤ) → IsAnalysed trail.now (clause_at trail.now (conflict - 1)) noted literals places.old.items →
+    ensures { (noted literals : List ℤ) → IsAnalysed trail.now (clause_at trail.now (conflict - 1))
+        noted literals places.old.items →
         OnOk result (Passes trail.now literals hints.new.items) }
 {
     places.sort_unstable();

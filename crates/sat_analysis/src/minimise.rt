@@ -86,7 +86,9 @@ fn expand_one(
     requires literal { IsLiteral trail.now.variables literal }
     ensures variables { noted.new.variables ≡ noted.old.variables }
     ensures same { IfOk result (λ done. IsFalse done → noted.new.literals ≡ noted.old.literals) }
-    ensures taken { IfOk result (λ done. IsTrue done → (j : ℕ) → j < length trail.now.assignment.trail → spec.index (value_at trail.now.assignment.trail j) ≡ spec.index literal →
+    ensures taken { IfOk result (λ done. IsTrue done → (j : ℕ) →
+        j < length trail.now.assignment.trail → spec.index (value_at trail.now.assignment.trail j)
+        ≡ spec.index literal →
         (Contains trail.now.limits j → ⊥) × IsTaken (reason_at trail.now j) noted.old.literals noted.new.literals) }
 {
     match reason_of(trail, literal) {
@@ -107,8 +109,10 @@ fn expand(trail: &Trail, noted: &mut Noted, levels: u64, literal: i64) -> Result
     requires has { HasVariable noted.old.literals (spec.index literal) }
     requires fails { AllFail trail.now noted.old.literals }
     ensures variables { noted.new.variables ≡ noted.old.variables }
-    ensures longer { IfOk result (λ done. (ts : List ℤ) × (noted.new.literals ≡ noted.old.literals ++ ts)) }
-    ensures spread { IfOk result (λ done. IsTrue done → IsSpread trail.now noted.old.literals noted.new.literals literal) }
+    ensures longer { IfOk result (λ done. (ts : List ℤ)
+        × (noted.new.literals ≡ noted.old.literals ++ ts)) }
+    ensures spread { IfOk result (λ done. IsTrue done →
+        IsSpread trail.now noted.old.literals noted.new.literals literal) }
 {
     let start = noted.len();
     if !expand_one(trail, noted, levels, literal)? {
@@ -141,7 +145,8 @@ fn is_forced(
     requires fails { AllFail trail.now noted.old.literals }
     ensures variables { noted.new.variables ≡ noted.old.variables }
     ensures same { IfOk result (λ done. IsFalse done → noted.new.literals ≡ noted.old.literals) }
-    ensures spread { IfOk result (λ done. IsTrue done → IsSpread trail.now noted.old.literals noted.new.literals literal) }
+    ensures spread { IfOk result (λ done. IsTrue done →
+        IsSpread trail.now noted.old.literals noted.new.literals literal) }
 {
     let start = noted.len();
     if expand(trail, noted, levels, literal)? {
@@ -196,7 +201,8 @@ pub(crate) fn part(
     requires none { (learnt.old.items ≡ []) × (dropped.old.items ≡ []) }
     ensures variables { noted.new.variables ≡ noted.old.variables }
     ensures longer { OnOk result ((ts : List ℤ) × (noted.new.literals ≡ noted.old.literals ++ ts)) }
-    ensures parted { OnOk result (IsParted trail.now (length noted.old.literals) (length noted.old.literals) noted.new.literals learnt.new.items dropped.new.items) }
+    ensures parted { OnOk result (IsParted trail.now (length noted.old.literals)
+        (length noted.old.literals) noted.new.literals learnt.new.items dropped.new.items) }
 {
     let levels = levels_of(trail, noted.literals());
     for place in 0..noted.len() {

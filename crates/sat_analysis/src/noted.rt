@@ -96,7 +96,8 @@ impl Noted {
     fn pop(&mut self)
         requires { 0 < length self.old.literals }
         ensures variables { self.new.variables ≡ self.old.variables }
-        ensures literals { self.new.literals ≡ take (length self.old.literals - 1) self.old.literals }
+        ensures literals { self.new.literals ≡ take (length self.old.literals - 1)
+            self.old.literals }
     {
         let last = self.items.len() - 1;
         let at = index(self.items[last]);

@@ -26,8 +26,10 @@ fn is_met(literals: &[i64], noted: &Noted, place: usize) -> bool
 fn is_any_met(literals: &[i64], noted: &Noted, from: usize, to: usize) -> bool
     requires literals { All (IsLiteral noted.now.variables) literals.now }
     requires within { to ≤ length literals.now }
-    ensures some { IsTrue result → (j : ℕ) × (from ≤ j) × (j < to) × IsMetIn literals.now noted.now.literals j }
-    ensures none { IsFalse result → (j : ℕ) → from ≤ j → j < to → IsMetIn literals.now noted.now.literals j → ⊥ }
+    ensures some { IsTrue result → (j : ℕ) × (from ≤ j) × (j < to)
+        × IsMetIn literals.now noted.now.literals j }
+    ensures none { IsFalse result → (j : ℕ) → from ≤ j → j < to →
+        IsMetIn literals.now noted.now.literals j → ⊥ }
 {
     let mut place = to;
     'down: while place > from {
@@ -44,8 +46,10 @@ fn is_alone(trail: &Trail, literals: &[i64], noted: &Noted, place: usize) -> boo
     requires trail { Stands trail.now × (literals.now ≡ trail.now.assignment.trail) }
     requires variables { noted.now.variables ≡ trail.now.variables }
     requires within { place < length trail.now.assignment.trail }
-    ensures alone { IsTrue result → (0 < length trail.now.limits) × ((j : ℕ) → base trail.now ≤ j → j < place → IsMet trail.now noted.now.literals j → ⊥) }
-    ensures other { IsFalse result → 0 < length trail.now.limits → (j : ℕ) × (base trail.now ≤ j) × (j < place) × IsMet trail.now noted.now.literals j }
+    ensures alone { IsTrue result → (0 < length trail.now.limits)
+        × ((j : ℕ) → base trail.now ≤ j → j < place → IsMet trail.now noted.now.literals j → ⊥) }
+    ensures other { IsFalse result → 0 < length trail.now.limits → (j : ℕ) × (base trail.now ≤ j)
+        × (j < place) × IsMet trail.now noted.now.literals j }
 {
     if trail.top() == 0 {
         return false;
@@ -68,9 +72,11 @@ fn resolve(
     requires variables { noted.old.variables ≡ trail.now.variables }
     requires within { (base trail.now ≤ place) × (place < length trail.now.assignment.trail) }
     requires met { IsMet trail.now noted.old.literals place }
-    requires below { 0 < length trail.now.limits → (j : ℕ) × (base trail.now ≤ j) × (j < place) × IsMet trail.now noted.old.literals j }
+    requires below { 0 < length trail.now.limits → (j : ℕ) × (base trail.now ≤ j) × (j < place)
+        × IsMet trail.now noted.old.literals j }
     ensures variables { noted.new.variables ≡ noted.old.variables }
-    ensures back { (clause : List ℤ) → IsBack trail.now clause noted.old.literals places.old.items (place + 1) →
+    ensures back { (clause : List ℤ) → IsBack trail.now clause noted.old.literals places.old.items
+        (place + 1) →
         OnOk result (IsBack trail.now clause noted.new.literals places.new.items place) }
 {
     match reason_of(trail, literals[place]) {
@@ -96,10 +102,12 @@ fn take_place(
     requires variables { noted.old.variables ≡ trail.now.variables }
     requires within { (base trail.now ≤ place) × (place < length trail.now.assignment.trail) }
     ensures variables { noted.new.variables ≡ noted.old.variables }
-    ensures same { IfOk result (λ found. IsTrue found → (noted.new.literals ≡ noted.old.literals) × (places.new.items ≡ places.old.items)) }
+    ensures same { IfOk result (λ found. IsTrue found → (noted.new.literals ≡ noted.old.literals)
+        × (places.new.items ≡ places.old.items)) }
     ensures point { IfOk result (λ found. IsTrue found →
         (0 < length trail.now.limits) × IsMet trail.now noted.old.literals place × ((j : ℕ) → base trail.now ≤ j → j < place → IsMet trail.now noted.old.literals j → ⊥)) }
-    ensures back { (clause : List ℤ) → IsBack trail.now clause noted.old.literals places.old.items (place + 1) →
+    ensures back { (clause : List ℤ) → IsBack trail.now clause noted.old.literals places.old.items
+        (place + 1) →
         IfOk result (λ found. IsFalse found → IsBack trail.now clause noted.new.literals places.new.items place) }
 {
     if !is_met(literals, noted, place) {
@@ -122,10 +130,12 @@ pub(crate) fn find_point(
 ) -> Result<Option<usize>, AllocError>
     requires trail { Stands trail.now }
     requires variables { noted.old.variables ≡ trail.now.variables }
-    requires conflict { (0 < conflict) × (conflict ≤ length trail.now.ends) × IsFalseIn trail.now.literals trail.now.ends trail.now.assignment.trail (conflict - 1) }
+    requires conflict { (0 < conflict) × (conflict ≤ length trail.now.ends)
+        × IsFalseIn trail.now.literals trail.now.ends trail.now.assignment.trail (conflict - 1) }
     requires none { (noted.old.literals ≡ []) × (places.old.items ≡ []) }
     ensures variables { noted.new.variables ≡ noted.old.variables }
-    ensures found { IfOk result (IsFound trail.now (clause_at trail.now (conflict - 1)) noted.new.literals places.new.items) }
+    ensures found { IfOk result (IsFound trail.now (clause_at trail.now (conflict - 1))
+        noted.new.literals places.new.items) }
 {
     note_clause(trail, noted, conflict)?;
     let literals = trail.trail();

@@ -66,14 +66,17 @@ impl Checker {
     /// After an empty lemma that passed, that lemma stands, and later lines are checked as before.
     pub fn add(&mut self, line: &Line) -> Result<Step, LineFault>
         // What passes does what the line says.
-        ensures passes { IfOk result (λ kind. (step self.old line.now ≡ Ok self.new) × (kind ≡ kind_of line.now)) }
+        ensures passes { IfOk result (λ kind. (step self.old line.now ≡ Ok self.new)
+            × (kind ≡ kind_of line.now)) }
         // A fault is the first rule that the line breaks.
-        ensures fault { IfErr result (λ fault. IfSome (rule_of fault) (λ rule. step self.old line.now ≡ Err rule)) }
+        ensures fault { IfErr result (λ fault. IfSome (rule_of fault)
+            (λ rule. step self.old line.now ≡ Err rule)) }
         // Memory is wanted only to keep a lemma that passes.
         ensures memory { IsErrOf result LineFault.Memory → IsOk (step self.old line.now) }
         ensures kept { OnErr result (self.new ≡ self.old) }
         // What stands follows from the formula, as it did before.
-        ensures follows { (formula : List (List ℤ)) → Follows formula self.old → OnOk result (Follows formula self.new) }
+        ensures follows { (formula : List (List ℤ)) → Follows formula self.old →
+            OnOk result (Follows formula self.new) }
         // A refuted formula is satisfied by no assignment.
         ensures refuted { (formula : List (List ℤ)) → Follows formula self.old →
             IfOk result (λ kind. kind ≡ Step.Refuted → IsUnsatisfiable formula) }
@@ -100,7 +103,8 @@ impl Checker {
 
     /// Checks that a lemma follows by its hints.
     fn check(&mut self, literals: &[i64], hints: &[u64]) -> Result<(), LineFault>
-        ensures rule { broken_rule result ≡ walk (clause_at self.old) (among literals.now) hints.now }
+        ensures rule { broken_rule result ≡ walk (clause_at self.old) (among literals.now)
+            hints.now }
         ensures fault { IfErr result (λ fault. IsSome (rule_of fault)) }
         ensures kept { self.new ≡ self.old }
     {
@@ -112,11 +116,13 @@ impl Checker {
 
     /// Takes a lemma.
     fn add_lemma(&mut self, id: u64, clause: &Clause, hints: &Hints) -> Result<Step, LineFault>
-        ensures passes { IfOk result (λ kind. (step self.old (Line.Lemma id clause.now hints.now) ≡ Ok self.new)
+        ensures passes { IfOk result (λ kind. (step self.old (Line.Lemma id clause.now hints.now)
+            ≡ Ok self.new)
             × (kind ≡ kind_of (Line.Lemma id clause.now hints.now))) }
         ensures fault { IfErr result (λ fault. IfSome (rule_of fault)
             (λ rule. step self.old (Line.Lemma id clause.now hints.now) ≡ Err rule)) }
-        ensures memory { IsErrOf result LineFault.Memory → IsOk (step self.old (Line.Lemma id clause.now hints.now)) }
+        ensures memory { IsErrOf result LineFault.Memory →
+            IsOk (step self.old (Line.Lemma id clause.now hints.now)) }
         ensures kept { OnErr result (self.new ≡ self.old) }
     {
         if id <= self.top {
@@ -132,8 +138,10 @@ impl Checker {
 
     /// Takes a deletion line.
     fn delete(&mut self, ids: &Hints) -> Result<Step, LineFault>
-        ensures passes { IfOk result (λ kind. (step self.old (Line.Delete ids.now) ≡ Ok self.new) × (kind ≡ Step.Deleted)) }
-        ensures fault { IfErr result (λ fault. (fault ≡ LineFault.L5) × (step self.old (Line.Delete ids.now) ≡ Err 5)) }
+        ensures passes { IfOk result (λ kind. (step self.old (Line.Delete ids.now) ≡ Ok self.new)
+            × (kind ≡ Step.Deleted)) }
+        ensures fault { IfErr result (λ fault. (fault ≡ LineFault.L5)
+            × (step self.old (Line.Delete ids.now) ≡ Err 5)) }
         ensures kept { OnErr result (self.new ≡ self.old) }
     {
         let ids = ids.numbers();

@@ -82,7 +82,8 @@ pub(crate) fn mark_all(marks: &mut [u32], stamp: u32, literals: &[i64])
 #[inline]
 fn with_found(found: Rest, literal: i64) -> Rest
     ensures together { (rest : Rest) → together result rest ≡ together found (beside literal rest) }
-    ensures one { (n : ℕ) → HasMarks n literal → IfOne found (HasMarks n) → IfOne result (HasMarks n) }
+    ensures one { (n : ℕ) → HasMarks n literal → IfOne found (HasMarks n) →
+        IfOne result (HasMarks n) }
 {
     match found {
         Rest::Nothing => Rest::One(literal),

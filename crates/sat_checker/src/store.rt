@@ -18,7 +18,8 @@ use std::collections::{HashMap, HashSet};
 #[inline]
 fn is_below_next(ids: &[u64], place: usize) -> bool
     requires { place < length ids.now }
-    ensures { IsTrue result → place + 1 < length ids.now → slice_index ids.now place < slice_index ids.now (place + 1) }
+    ensures { IsTrue result → place + 1 < length ids.now →
+        slice_index ids.now place < slice_index ids.now (place + 1) }
 {
     place + 1 == ids.len() || ids[place] < ids[place + 1]
 }

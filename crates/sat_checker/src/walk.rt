@@ -21,7 +21,8 @@ fn walk(
 ) -> Result<(), LineFault>
     requires covered { AreCovered (length marks.old) (hash.get nat_eq clauses.now) }
     requires up_to { AreUpTo stamp marks.old }
-    ensures rule { broken_rule result ≡ walk (hash.get nat_eq clauses.now) (fails_by stamp marks.old) hints.now }
+    ensures rule { broken_rule result ≡ walk (hash.get nat_eq clauses.now)
+        (fails_by stamp marks.old) hints.now }
     ensures fault { IfErr result (λ fault. IsSome (rule_of fault)) }
     ensures up_to { AreUpTo stamp marks.new }
 {
@@ -48,7 +49,8 @@ pub(crate) fn check_hints(
 ) -> Result<(), LineFault>
     requires covered { AreCovered (length marks.old) (hash.get nat_eq clauses.now) }
     requires before { AreBefore stamp marks.old }
-    ensures rule { broken_rule result ≡ walk (hash.get nat_eq clauses.now) (among literals.now) hints.now }
+    ensures rule { broken_rule result ≡ walk (hash.get nat_eq clauses.now) (among literals.now)
+        hints.now }
     ensures fault { IfErr result (λ fault. IsSome (rule_of fault)) }
     ensures up_to { AreUpTo stamp marks.new }
 {

@@ -57,7 +57,8 @@ fn push_clauses(out: &mut Vec<u8>, clauses: &ClauseList) -> Result<(), AllocErro
 /// Writes clauses in the DIMACS CNF format: the table's rows as comments, the header, and each clause on a line of its
 /// own.
 pub fn print_cnf(alloc: Global, table: &Table, cnf: &Cnf) -> Result<Vec<u8>, AllocError>
-    ensures { IfOk result (λ text. text.items ≡ cnf_text table.now cnf.now.variables cnf.now.clauses) }
+    ensures { IfOk result (λ text. text.items ≡ cnf_text table.now cnf.now.variables
+        cnf.now.clauses) }
 {
     let mut out = Vec::new(alloc);
     push_rows(&mut out, table)?;

@@ -54,7 +54,8 @@ struct Taken {
 /// Closes the open clause.
 fn close(alloc: Global, most: u64, taken: &mut Taken) -> Result<(), AllocError>
     requires { IsTaken most taken.old }
-    ensures closed { OnOk result ((taken.new.closed ≡ taken.old.closed ++ taken.old.opened ∷ []) × (taken.new.opened ≡ [])) }
+    ensures closed { OnOk result ((taken.new.closed ≡ taken.old.closed ++ taken.old.opened ∷ [])
+        × (taken.new.opened ≡ [])) }
     ensures within { IsTaken most taken.new }
 {
     let clause = mem::replace(&mut taken.opened, Clause::new(alloc));
@@ -194,7 +195,9 @@ fn read_clauses(
     requires most { variables ≤ MOST_VARIABLES }
     requires few { IfSome behind (λ text. header + length text.now + 2 < 2 ^ 32) }
     requires header { 0 < header }
-    ensures { Gives result (clauses_behind variables count (end_line header (option_copied behind.entry)) nothing_taken header (other_parts (option_copied behind.entry))) }
+    ensures { Gives result (clauses_behind variables count
+        (end_line header (option_copied behind.entry)) nothing_taken header
+        (other_parts (option_copied behind.entry))) }
 {
     let mut taken = Taken {
         closed: ClauseList::new(alloc),

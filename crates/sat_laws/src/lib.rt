@@ -21,10 +21,14 @@ pub fn printed_lines_are_read_again()
 /// Words are read as a line where they are a right line. Fault 12 is a negative hint behind the front of a right lemma
 /// line with its first 0, and fault 13 is the front of a right line in which the text ends. Every other line has fault 11.
 pub fn faults_are_by_fronts()
-    ensures right { (cut : Bool) (words : List (List ℕ)) (line : Line) → (line_of cut words ≡ Ok line) ↔ IsRight words line }
-    ensures negative { (cut : Bool) (words : List (List ℕ)) → (line_of cut words ≡ Err 12) ↔ HasNegativeHint words }
-    ensures cut_off { (cut : Bool) (words : List (List ℕ)) → (line_of cut words ≡ Err 13) ↔ ((cut ≡ true) × IsCutOff words) }
-    ensures others { (cut : Bool) (words : List (List ℕ)) (rule : ℕ) → line_of cut words ≡ Err rule →
+    ensures right { (cut : Bool) (words : List (List ℕ)) (line : Line) →
+        (line_of cut words ≡ Ok line) ↔ IsRight words line }
+    ensures negative { (cut : Bool) (words : List (List ℕ)) → (line_of cut words ≡ Err 12)
+        ↔ HasNegativeHint words }
+    ensures cut_off { (cut : Bool) (words : List (List ℕ)) → (line_of cut words ≡ Err 13)
+        ↔ ((cut ≡ true) × IsCutOff words) }
+    ensures others { (cut : Bool) (words : List (List ℕ)) (rule : ℕ) →
+        line_of cut words ≡ Err rule →
         (rule ≡ 11) ⊎ ((rule ≡ 12) ⊎ (rule ≡ 13)) }
 {}
 
@@ -36,5 +40,9 @@ use sat_dimacs::{MOST_CLAUSES, MOST_VARIABLES};
 
 /// A law: clauses are read again from their text, under every table, within the limits of a header.
 pub fn printed_clauses_are_read_again()
-    ensures { (table : List (List ℕ)) (variables : ℕ) (clauses : List (List ℤ)) → All (λ row. has_feed row ≡ false) table → variables ≤ MOST_VARIABLES → length clauses ≤ MOST_CLAUSES → All (All (IsOf variables)) clauses → formula_of (cnf_text table variables clauses) ≡ Ok (record { variables = variables; clauses = clauses }) }
+    ensures { (table : List (List ℕ)) (variables : ℕ) (clauses : List (List ℤ)) →
+        All (λ row. has_feed row ≡ false) table → variables ≤ MOST_VARIABLES →
+        length clauses ≤ MOST_CLAUSES → All (All (IsOf variables)) clauses →
+        formula_of (cnf_text table variables clauses)
+        ≡ Ok (record { variables = variables; clauses = clauses }) }
 {}

@@ -32,7 +32,8 @@ impl LemmaLog {
     pub fn new(alloc: Global, cnf: &Cnf) -> Result<LemmaLog, AllocError>
         ensures lines { IfOk result (λ log. log.lines ≡ []) }
         ensures checker { IfOk result (λ log. log.checker ≡ start cnf.now.clauses) }
-        ensures lemmas { IfOk result (λ log. AreLemmas (start cnf.now.clauses) log.lines log.checker) }
+        ensures lemmas { IfOk result (λ log. AreLemmas (start cnf.now.clauses) log.lines
+            log.checker) }
     {
         Ok(LemmaLog {
             checker: Checker::new(alloc, cnf)?,
@@ -43,8 +44,10 @@ impl LemmaLog {
     /// Takes a lemma, where it passes. Where memory is refused, the log is not to be used any more.
     pub fn take(&mut self, line: Line) -> Result<Taken, AllocError>
         requires { IsTrue (is_lemma line) }
-        ensures taken { IfOk result (λ taken. IsTaken line self.old.lines self.old.checker taken self.new.lines self.new.checker) }
-        ensures leaves { (formula : List (List ℤ)) → AreLemmas (start formula) self.old.lines self.old.checker →
+        ensures taken { IfOk result (λ taken. IsTaken line self.old.lines self.old.checker taken
+            self.new.lines self.new.checker) }
+        ensures leaves { (formula : List (List ℤ)) →
+            AreLemmas (start formula) self.old.lines self.old.checker →
             IfOk result (λ taken. Leaves formula taken self.new.lines self.new.checker) }
     {
         match self.checker.add(&line) {

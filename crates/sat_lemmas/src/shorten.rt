@@ -15,7 +15,8 @@ use std::alloc::{AllocError, Global};
 /// How many lines there are up to the first empty lemma, if there is one.
 fn front(lines: &[Line]) -> Option<usize>
     ensures within { IfSome result (λ count. count ≤ length lines.now) }
-    ensures empty { IfSome result (λ count. IsTrue (list_any is_empty_lemma (take count lines.now))) }
+    ensures empty { IfSome result (λ count. IsTrue
+        (list_any is_empty_lemma (take count lines.now))) }
 {
     for place in 0..lines.len() {
         if is_empty_lemma(&lines[place]) {
@@ -39,7 +40,8 @@ fn marks_of(alloc: Global, clauses: usize, lines: &[Line]) -> Result<Vec<bool>, 
 
 /// The lines that the last one is drawn from, if these need no other.
 fn needed(alloc: Global, clauses: usize, lines: &[Line]) -> Result<Option<LineList>, AllocError>
-    ensures refutes { (formula : List (List ℤ)) → length formula ≡ clauses → Refutes formula lines.now →
+    ensures refutes { (formula : List (List ℤ)) → length formula ≡ clauses →
+        Refutes formula lines.now →
         IfOk result (λ found. IfSome found (λ rest. Refutes formula rest)) }
     ensures part { IfOk result (λ found. IfSome found (λ rest. ArePart rest lines.now)) }
 {
@@ -58,7 +60,8 @@ fn needed(alloc: Global, clauses: usize, lines: &[Line]) -> Result<Option<LineLi
 /// clauses' in turn.
 pub fn trim(alloc: Global, cnf: &Cnf, lines: LineList) -> Result<LineList, AllocError>
     // What the lines refute is still refuted.
-    ensures refutes { Refutes cnf.now.clauses lines → IfOk result (λ rest. Refutes cnf.now.clauses rest) }
+    ensures refutes { Refutes cnf.now.clauses lines →
+        IfOk result (λ rest. Refutes cnf.now.clauses rest) }
     // What is left are some of the lines, in their order.
     ensures part { IfOk result (λ rest. ArePart rest lines) }
     ensures few { IfOk result (λ rest. length rest ≤ length lines) }

@@ -57,7 +57,11 @@ impl Model for NodeLists {
 impl NodeLists {
     /// This many empty lists, and no node.
     pub fn new(alloc: Global, lists: usize) -> Result<NodeLists, AllocError>
-        ensures { IfOk result (λ v. v ≡ record { lists = replicate lists []; loose = []; nodes = 0 }) }
+        ensures { IfOk result (λ v. v ≡ record {
+          lists = replicate lists [];
+          loose = [];
+          nodes = 0;
+        }) }
     {
         Ok(NodeLists {
             heads: vec![in alloc; 0; lists]?,
@@ -97,7 +101,8 @@ impl NodeLists {
     /// The first node of the loose list.
     #[inline]
     pub fn first(&self) -> Option<usize>
-        ensures first { MatchOption result (self.now.loose ≡ []) (λ k. self.now.loose ≡ k ∷ drop 1 self.now.loose) }
+        ensures first { MatchOption result (self.now.loose ≡ [])
+            (λ k. self.now.loose ≡ k ∷ drop 1 self.now.loose) }
         ensures in_range { IfSome result (λ k. k < self.now.nodes) }
     {
         if self.loose == 0 {

@@ -28,12 +28,14 @@ pub fn step_is_sound()
 
 /// A law: no assignment satisfies a formula that a list of lines refutes.
 pub fn refutation_is_sound()
-    ensures { (formula : List (List ℤ)) (lines : List Line) → Refutes formula lines → IsUnsatisfiable formula }
+    ensures { (formula : List (List ℤ)) (lines : List Line) → Refutes formula lines →
+        IsUnsatisfiable formula }
 {}
 
 /// A law: a number that is written is read again.
 pub fn numbers_are_read_again()
-    ensures { (limit number : ℕ) → limit < 2 ^ 64 → 0 < number → number ≤ limit → positive_of limit (decimal number) ≡ Some number }
+    ensures { (limit number : ℕ) → limit < 2 ^ 64 → 0 < number → number ≤ limit →
+        positive_of limit (decimal number) ≡ Some number }
 {}
 
 /// A law: words that write literals and hints behind the number of a lemma are read as that lemma again.

@@ -30,7 +30,8 @@ fn push_literals(out: &mut Vec<u8>, clause: &Clause) -> Result<(), AllocError>
 
 /// Writes a lemma.
 fn push_lemma(out: &mut Vec<u8>, id: u64, clause: &Clause, hints: &Hints) -> Result<(), AllocError>
-    ensures { OnOk result (out.new.items ≡ out.old.items ++ line_text 0 (Line.Lemma id clause.now hints.now)) }
+    ensures { OnOk result (out.new.items ≡ out.old.items
+        ++ line_text 0 (Line.Lemma id clause.now hints.now)) }
 {
     push_number(out, id)?;
     push_literals(out, clause)?;

@@ -76,8 +76,10 @@ fn read_at(
     next: usize,
 ) -> Result<ReadLine, LratFault>
     ensures reading { Gives result (as_reading start next (line_of cut (words line.now))) }
-    ensures places { (from total : ℕ) → from ≤ start → start < next → next ≤ total → IfOk result (HasPlaces from total) }
-    ensures place { (from total : ℕ) → from ≤ start → start < next → next ≤ total → IfErr result (HasPlace from total) }
+    ensures places { (from total : ℕ) → from ≤ start → start < next → next ≤ total →
+        IfOk result (HasPlaces from total) }
+    ensures place { (from total : ℕ) → from ≤ start → start < next → next ≤ total →
+        IfErr result (HasPlace from total) }
 {
     match read_words(alloc, line, cut) {
         Ok(line) => Ok(ReadLine::Line(line, start, next)),

@@ -94,7 +94,8 @@ fn is_true(value: &i8) -> bool
 /// Whether each variable is true, by its value.
 pub(crate) fn truths_of(alloc: Global, values: &[i8]) -> Result<Vec<bool>, AllocError>
     ensures count { IfOk result (λ truths. length truths.items ≡ length values.now) }
-    ensures truths { IfOk result (λ truths. (k : ℕ) → k < length values.now → IsTrue (slice_index_or truths.items k false) ↔ (value_at values.now k ≡ pos 1)) }
+    ensures truths { IfOk result (λ truths. (k : ℕ) → k < length values.now →
+        IsTrue (slice_index_or truths.items k false) ↔ (value_at values.now k ≡ pos 1)) }
 {
     let mut truths = Vec::new(alloc);
     for place in 0..values.len() {

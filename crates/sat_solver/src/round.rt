@@ -57,8 +57,10 @@ fn is_zero(value: &i8) -> bool
 
 /// The negation of the least free variable, if there is one.
 fn least_free(values: &[i8]) -> Option<i64>
-    ensures some { IfSome result (λ l. IsLiteral (length values.now) l × (value_at values.now (spec.index l) ≡ pos 0)) }
-    ensures none { IfNone result ((i : ℕ) → i < length values.now → value_at values.now i ≡ pos 0 → ⊥) }
+    ensures some { IfSome result (λ l. IsLiteral (length values.now) l
+        × (value_at values.now (spec.index l) ≡ pos 0)) }
+    ensures none { IfNone result ((i : ℕ) → i < length values.now → value_at values.now i ≡ pos 0 →
+        ⊥) }
 {
     for place in 0..values.len() {
         if is_zero(&values[place]) {
@@ -78,7 +80,8 @@ fn can_assign(trail: &Trail, literal: i64) -> bool
 
 /// A free literal, the picked one if it is free, or none where no variable is free.
 fn free_literal(trail: &Trail, picked: i64) -> Option<i64>
-    ensures free { IfSome result (λ l. IsLiteral trail.now.variables l × IsFree trail.now.assignment.trail l) }
+    ensures free { IfSome result (λ l. IsLiteral trail.now.variables l
+        × IsFree trail.now.assignment.trail l) }
     ensures full { IfNone result (IsFull trail.now) }
 {
     if can_assign(trail, picked) {
@@ -91,10 +94,15 @@ fn free_literal(trail: &Trail, picked: i64) -> Option<i64>
 
 /// Makes a free literal true, if there is one.
 fn decide<C: Chooser>(trail: &mut Trail, chooser: &mut C) -> Turn
-    requires settled { (i : ℕ) → i < length trail.old.ends → IsTrueIn trail.old.literals trail.old.ends trail.old.assignment.trail i ⊎ IsOpen trail.old.literals trail.old.ends trail.old.assignment.trail i }
+    requires settled { (i : ℕ) → i < length trail.old.ends →
+        IsTrueIn trail.old.literals trail.old.ends trail.old.assignment.trail i
+        ⊎ IsOpen trail.old.literals trail.old.ends trail.old.assignment.trail i }
     ensures variables { trail.new.variables ≡ trail.old.variables }
-    ensures turn { (formula : List (List ℤ)) (budget : Option ℕ) (lines : List Line) (state : State) → IsSearch formula lines state trail.old → IsTurn formula budget result lines state trail.new }
-    ensures longer { result ≡ Turn.On → length trail.new.assignment.trail ≡ length trail.old.assignment.trail + 1 }
+    ensures turn { (formula : List (List ℤ)) (budget : Option ℕ) (lines : List Line)
+        (state : State) → IsSearch formula lines state trail.old →
+        IsTurn formula budget result lines state trail.new }
+    ensures longer { result ≡ Turn.On → length trail.new.assignment.trail
+        ≡ length trail.old.assignment.trail + 1 }
 {
     // for the proof: this call's clauses say what a trail keeps
     let _literals = trail.trail();
@@ -128,13 +136,16 @@ fn keep(
 ) -> Result<Taken, AllocError>
     requires shared { AreShared trail.old log.old.checker }
     requires literals { All (IsLiteral trail.old.variables) analysis.now.literals.items }
-    requires learnt { IsLearnt trail.old analysis.now.literals.items analysis.now.hints.items analysis.now.back_to }
+    requires learnt { IsLearnt trail.old analysis.now.literals.items analysis.now.hints.items
+        analysis.now.back_to }
     ensures variables { trail.new.variables ≡ trail.old.variables }
     ensures passes { IfOk result (λ taken. taken ≢ Taken.Failed) }
     ensures more { OnOk result (length log.new.lines ≡ length log.old.lines + 1) }
-    ensures fewer { (formula : List (List ℤ)) → IsSearch formula log.old.lines log.old.checker trail.old →
+    ensures fewer { (formula : List (List ℤ)) → IsSearch formula log.old.lines log.old.checker
+        trail.old →
         IfOk result (λ taken. taken ≡ Taken.Added → remaining trail.old.variables (behind formula log.new.lines) < remaining trail.old.variables (behind formula log.old.lines)) }
-    ensures taken { (formula : List (List ℤ)) → IsSearch formula log.old.lines log.old.checker trail.old →
+    ensures taken { (formula : List (List ℤ)) → IsSearch formula log.old.lines log.old.checker
+        trail.old →
         IfOk result (λ taken. IsKept formula taken log.new.lines log.new.checker trail.new) }
 {
     // for the proof: this call's clauses say what a trail keeps
@@ -150,7 +161,8 @@ fn keep(
 /// Goes back to level 0 where this is due, and lets old weights count less.
 fn count_conflict<C: Chooser>(trail: &mut Trail, learnt: &[i64], chooser: &mut C, pace: &mut Pace)
     ensures variables { trail.new.variables ≡ trail.old.variables }
-    ensures search { (formula : List (List ℤ)) (lines : List Line) (state : State) → IsSearch formula lines state trail.old → IsSearch formula lines state trail.new }
+    ensures search { (formula : List (List ℤ)) (lines : List Line) (state : State) →
+        IsSearch formula lines state trail.old → IsSearch formula lines state trail.new }
 {
     chooser.decay();
     // A variable that has been undone keeps the level that it had last.
@@ -174,13 +186,16 @@ fn take_conflict<C: Chooser>(
     requires analysis { analysis.old.variables ≡ trail.old.variables }
     requires shared { AreShared trail.old log.old.checker }
     requires room { AreWithin budget log.old.lines }
-    requires conflict { (0 < conflict) × (conflict ≤ length trail.old.ends) × IsFalseIn trail.old.literals trail.old.ends trail.old.assignment.trail (conflict - 1) }
+    requires conflict { (0 < conflict) × (conflict ≤ length trail.old.ends)
+        × IsFalseIn trail.old.literals trail.old.ends trail.old.assignment.trail (conflict - 1) }
     ensures analysis { analysis.new.variables ≡ analysis.old.variables }
     ensures variables { trail.new.variables ≡ trail.old.variables }
-    ensures turn { (formula : List (List ℤ)) → IsSearch formula log.old.lines log.old.checker trail.old →
+    ensures turn { (formula : List (List ℤ)) → IsSearch formula log.old.lines log.old.checker
+        trail.old →
         IfOk result (λ turn. IsTurn formula budget turn log.new.lines log.new.checker trail.new) }
     ensures room { OnOk result (AreWithin budget log.new.lines) }
-    ensures fewer { (formula : List (List ℤ)) → IsSearch formula log.old.lines log.old.checker trail.old →
+    ensures fewer { (formula : List (List ℤ)) → IsSearch formula log.old.lines log.old.checker
+        trail.old →
         IfOk result (λ turn. turn ≡ Turn.On → remaining trail.old.variables (behind formula log.new.lines) < remaining trail.old.variables (behind formula log.old.lines)) }
 {
     analysis.learn(trail, conflict)?;
@@ -215,10 +230,12 @@ pub(crate) fn take_turn<C: Chooser>(
     requires room { AreWithin budget log.old.lines }
     ensures analysis { analysis.new.variables ≡ analysis.old.variables }
     ensures variables { trail.new.variables ≡ trail.old.variables }
-    ensures turn { (formula : List (List ℤ)) → IsSearch formula log.old.lines log.old.checker trail.old →
+    ensures turn { (formula : List (List ℤ)) → IsSearch formula log.old.lines log.old.checker
+        trail.old →
         IfOk result (λ turn. IsTurn formula budget turn log.new.lines log.new.checker trail.new) }
     ensures room { OnOk result (AreWithin budget log.new.lines) }
-    ensures on { (formula : List (List ℤ)) → IsSearch formula log.old.lines log.old.checker trail.old →
+    ensures on { (formula : List (List ℤ)) → IsSearch formula log.old.lines log.old.checker
+        trail.old →
         IfOk result (λ turn. turn ≡ Turn.On →
         (remaining trail.old.variables (behind formula log.new.lines) < remaining trail.old.variables (behind formula log.old.lines))
         ⊎ ((log.new.lines ≡ log.old.lines) × (length trail.old.assignment.trail < length trail.new.assignment.trail))) }

@@ -23,7 +23,8 @@ use std::alloc::{AllocError, Global};
 /// The assignment of a trail, which satisfies each formula whose clauses have a true literal each, where every variable
 /// has a value.
 fn answer(alloc: Global, trail: &Trail) -> Result<Assignment, AllocError>
-    ensures { (formula : List (List ℤ)) → AreTrue formula trail.now.assignment.trail → IfOk result (IsSolution trail.now.variables formula) }
+    ensures { (formula : List (List ℤ)) → AreTrue formula trail.now.assignment.trail →
+        IfOk result (IsSolution trail.now.variables formula) }
 {
     // for the proof: this call's clauses say what a trail keeps
     let _literals = trail.trail();

@@ -13,7 +13,8 @@ use crate::assigned::Assigned;
 /// A number that is at most the place of the negation of a literal, if the literal is false.
 pub fn bound(assigned: &Assigned, literal: i64) -> usize
     requires { IsLiteral (length assigned.now.values) literal }
-    ensures { (j : ℕ) → j < length assigned.now.trail → j < result → value_at assigned.now.trail j ≢ neg_ℤ literal }
+    ensures { (j : ℕ) → j < length assigned.now.trail → j < result →
+        value_at assigned.now.trail j ≢ neg_ℤ literal }
 {
     if assigned.is_false(literal) {
         return assigned.place(literal);
@@ -26,7 +27,8 @@ pub fn latest(assigned: &Assigned, literals: &[i64], skip: i64) -> usize
     requires { All (IsLiteral (length assigned.now.values)) literals.now }
     ensures within { result ≤ length literals.now }
     ensures unlike { result < length literals.now → value_at literals.now result ≢ skip }
-    ensures none { result ≡ length literals.now → (p : ℕ) → p < length literals.now → value_at literals.now p ≡ skip }
+    ensures none { result ≡ length literals.now → (p : ℕ) → p < length literals.now →
+        value_at literals.now p ≡ skip }
 {
     let mut best = literals.len();
     let mut rank = 0;
@@ -47,7 +49,8 @@ pub fn latest(assigned: &Assigned, literals: &[i64], skip: i64) -> usize
 pub fn lower(numbers: &mut Vec<usize>, count: usize, bound: usize)
     requires { count ≤ length numbers.old.items }
     ensures len { length numbers.new.items ≡ length numbers.old.items }
-    ensures lowered { (k : ℕ) → k < count → (slice_index numbers.new.items k ≤ slice_index numbers.old.items k) × (slice_index numbers.new.items k ≤ bound) }
+    ensures lowered { (k : ℕ) → k < count → (slice_index numbers.new.items k
+        ≤ slice_index numbers.old.items k) × (slice_index numbers.new.items k ≤ bound) }
 {
     for place in 0..count {
         numbers[place] = numbers[place].min(bound);

@@ -52,7 +52,9 @@ impl Arena {
         ensures literals { self.new.literals.items ≡ self.old.literals.items }
         ensures ends { self.new.ends.items ≡ self.old.ends.items }
         ensures variables { self.new.variables ≡ self.old.variables }
-        ensures room { OnOk result ((vec_len self.new.literals + more ≤ vec_capacity self.new.literals) × (vec_len self.new.ends < vec_capacity self.new.ends)) }
+        ensures room { OnOk result ((vec_len self.new.literals + more
+            ≤ vec_capacity self.new.literals) × (vec_len self.new.ends
+            < vec_capacity self.new.ends)) }
     {
         self.literals.reserve(more)?;
         self.ends.reserve(1)
@@ -61,9 +63,12 @@ impl Arena {
     /// Adds a clause, for which there is room.
     pub fn push(&mut self, clause: &[i64])
         requires literals { All (IsLiteral self.old.variables) clause.now }
-        requires room { (vec_len self.old.literals + length clause.now ≤ vec_capacity self.old.literals) × (vec_len self.old.ends < vec_capacity self.old.ends) }
+        requires room { (vec_len self.old.literals + length clause.now
+            ≤ vec_capacity self.old.literals) × (vec_len self.old.ends
+            < vec_capacity self.old.ends) }
         ensures literals { self.new.literals.items ≡ self.old.literals.items ++ clause.now }
-        ensures ends { self.new.ends.items ≡ self.old.ends.items ++ length self.new.literals.items ∷ [] }
+        ensures ends { self.new.ends.items ≡ self.old.ends.items
+            ++ length self.new.literals.items ∷ [] }
         ensures variables { self.new.variables ≡ self.old.variables }
     {
         if self.literals.extend_from_slice(clause).is_err() {

@@ -137,7 +137,8 @@ impl Assigned {
         requires literal { IsLiteral (length self.now.values) literal }
         requires is_false { Contains self.now.trail (neg_ℤ literal) }
         ensures place { slice_get self.now.trail result ≡ Some (neg_ℤ literal) }
-        ensures only { (j : ℕ) → j < length self.now.trail → value_at self.now.trail j ≡ neg_ℤ literal → j ≡ result }
+        ensures only { (j : ℕ) → j < length self.now.trail →
+            value_at self.now.trail j ≡ neg_ℤ literal → j ≡ result }
     {
         self.places[index(literal)]
     }
@@ -146,7 +147,8 @@ impl Assigned {
     #[inline]
     pub fn last_place(&self, literal: i64) -> usize
         requires { IsLiteral (length self.now.values) literal }
-        ensures { Contains self.now.trail (neg_ℤ literal) → slice_get self.now.trail result ≡ Some (neg_ℤ literal) }
+        ensures { Contains self.now.trail (neg_ℤ literal) →
+            slice_get self.now.trail result ≡ Some (neg_ℤ literal) }
     {
         self.places[index(literal)]
     }
@@ -195,7 +197,8 @@ impl Assigned {
         ensures variables { length self.new.values ≡ length self.old.values }
         ensures fits { length self.new.trail ≤ length self.new.values }
         ensures levels { self.new.levels ≡ slice_set self.old.levels (spec.index literal) level }
-        ensures reasons { self.new.reasons ≡ slice_set self.old.reasons (spec.index literal) reason }
+        ensures reasons { self.new.reasons ≡ slice_set self.old.reasons (spec.index literal)
+            reason }
         ensures put { IsPut self.old self.new literal level reason }
     {
         let at = index(literal);

@@ -45,19 +45,28 @@ fn turn(
     level: u64,
 ) -> Option<u64>
     requires variables { length assigned.old.values ≡ arena.now.variables }
-    requires woven { IsWoven arena.now.literals.items arena.now.ends.items watches.old.at.items watches.old.lists arena.now.variables }
-    requires copied { IsCopied arena.now.literals.items arena.now.ends.items watches.old.at.items watches.old.copies.items }
+    requires woven { IsWoven arena.now.literals.items arena.now.ends.items watches.old.at.items
+        watches.old.lists arena.now.variables }
+    requires copied { IsCopied arena.now.literals.items arena.now.ends.items watches.old.at.items
+        watches.old.copies.items }
     requires none_loose { watches.old.lists.loose ≡ [] }
     requires in_range { place < length assigned.old.trail }
-    requires watched { IsWatched arena.now.literals.items arena.now.ends.items watches.old.at.items assigned.old.trail (length assigned.old.trail) place }
+    requires watched { IsWatched arena.now.literals.items arena.now.ends.items watches.old.at.items
+        assigned.old.trail (length assigned.old.trail) place }
     ensures variables { length assigned.new.values ≡ length assigned.old.values }
-    ensures woven { IsWoven arena.now.literals.items arena.now.ends.items watches.new.at.items watches.new.lists arena.now.variables }
-    ensures copied { IsCopied arena.now.literals.items arena.now.ends.items watches.new.at.items watches.new.copies.items }
+    ensures woven { IsWoven arena.now.literals.items arena.now.ends.items watches.new.at.items
+        watches.new.lists arena.now.variables }
+    ensures copied { IsCopied arena.now.literals.items arena.now.ends.items watches.new.at.items
+        watches.new.copies.items }
     ensures none_loose { watches.new.lists.loose ≡ [] }
-    ensures kept { IsKept arena.now.literals.items arena.now.ends.items watches.old.at.items assigned.old.trail watches.new.at.items assigned.new.trail }
-    ensures forced { ForcesMore arena.now.literals.items arena.now.ends.items level assigned.old assigned.new }
-    ensures watched { IfNone result (IsWatched arena.now.literals.items arena.now.ends.items watches.new.at.items assigned.new.trail (length assigned.new.trail) (place + 1)) }
-    ensures false_clause { IfSome result (λ n. (0 < n) × (n ≤ length arena.now.ends.items) × IsFalseIn arena.now.literals.items arena.now.ends.items assigned.new.trail (n - 1)) }
+    ensures kept { IsKept arena.now.literals.items arena.now.ends.items watches.old.at.items
+        assigned.old.trail watches.new.at.items assigned.new.trail }
+    ensures forced { ForcesMore arena.now.literals.items arena.now.ends.items level assigned.old
+        assigned.new }
+    ensures watched { IfNone result (IsWatched arena.now.literals.items arena.now.ends.items
+        watches.new.at.items assigned.new.trail (length assigned.new.trail) (place + 1)) }
+    ensures false_clause { IfSome result (λ n. (0 < n) × (n ≤ length arena.now.ends.items)
+        × IsFalseIn arena.now.literals.items arena.now.ends.items assigned.new.trail (n - 1)) }
 {
     let list = list_of(assigned.falsified(place));
     watches.lists.detach(list);
@@ -77,21 +86,30 @@ pub fn advance(
     level: u64,
 ) -> (usize, Option<u64>)
     requires variables { length assigned.old.values ≡ arena.now.variables }
-    requires woven { IsWoven arena.now.literals.items arena.now.ends.items watches.old.at.items watches.old.lists arena.now.variables }
-    requires copied { IsCopied arena.now.literals.items arena.now.ends.items watches.old.at.items watches.old.copies.items }
+    requires woven { IsWoven arena.now.literals.items arena.now.ends.items watches.old.at.items
+        watches.old.lists arena.now.variables }
+    requires copied { IsCopied arena.now.literals.items arena.now.ends.items watches.old.at.items
+        watches.old.copies.items }
     requires none_loose { watches.old.lists.loose ≡ [] }
     requires in_range { start ≤ length assigned.old.trail }
-    requires watched { IsWatched arena.now.literals.items arena.now.ends.items watches.old.at.items assigned.old.trail (length assigned.old.trail) start }
+    requires watched { IsWatched arena.now.literals.items arena.now.ends.items watches.old.at.items
+        assigned.old.trail (length assigned.old.trail) start }
     ensures variables { length assigned.new.values ≡ length assigned.old.values }
-    ensures woven { IsWoven arena.now.literals.items arena.now.ends.items watches.new.at.items watches.new.lists arena.now.variables }
-    ensures copied { IsCopied arena.now.literals.items arena.now.ends.items watches.new.at.items watches.new.copies.items }
+    ensures woven { IsWoven arena.now.literals.items arena.now.ends.items watches.new.at.items
+        watches.new.lists arena.now.variables }
+    ensures copied { IsCopied arena.now.literals.items arena.now.ends.items watches.new.at.items
+        watches.new.copies.items }
     ensures none_loose { watches.new.lists.loose ≡ [] }
-    ensures kept { IsKept arena.now.literals.items arena.now.ends.items watches.old.at.items assigned.old.trail watches.new.at.items assigned.new.trail }
-    ensures forced { ForcesMore arena.now.literals.items arena.now.ends.items level assigned.old assigned.new }
+    ensures kept { IsKept arena.now.literals.items arena.now.ends.items watches.old.at.items
+        assigned.old.trail watches.new.at.items assigned.new.trail }
+    ensures forced { ForcesMore arena.now.literals.items arena.now.ends.items level assigned.old
+        assigned.new }
     ensures reached { result.0 ≤ length assigned.new.trail }
-    ensures watched { IsWatched arena.now.literals.items arena.now.ends.items watches.new.at.items assigned.new.trail (length assigned.new.trail) result.0 }
+    ensures watched { IsWatched arena.now.literals.items arena.now.ends.items watches.new.at.items
+        assigned.new.trail (length assigned.new.trail) result.0 }
     ensures all { IfNone result.1 (result.0 ≡ length assigned.new.trail) }
-    ensures false_clause { IfSome result.1 (λ n. (0 < n) × (n ≤ length arena.now.ends.items) × IsFalseIn arena.now.literals.items arena.now.ends.items assigned.new.trail (n - 1)) }
+    ensures false_clause { IfSome result.1 (λ n. (0 < n) × (n ≤ length arena.now.ends.items)
+        × IsFalseIn arena.now.literals.items arena.now.ends.items assigned.new.trail (n - 1)) }
 {
     let mut done = start;
     'trail: while done < assigned.len() {
@@ -112,15 +130,21 @@ pub fn advance_short(
     level: u64,
 ) -> (usize, Option<u64>)
     requires variables { length assigned.old.values ≡ arena.now.variables }
-    requires alike { (j : ℕ) → j < length short.now → (slice_index short.now j < length arena.now.ends.items) × IsAlike arena.now.literals.items arena.now.ends.items (slice_index short.now j) }
+    requires alike { (j : ℕ) → j < length short.now →
+        (slice_index short.now j < length arena.now.ends.items)
+        × IsAlike arena.now.literals.items arena.now.ends.items (slice_index short.now j) }
     requires in_range { start ≤ length short.now }
     ensures variables { length assigned.new.values ≡ length assigned.old.values }
     ensures longer { (ts : List ℤ) × (assigned.new.trail ≡ assigned.old.trail ++ ts) }
-    ensures forced { ForcesMore arena.now.literals.items arena.now.ends.items level assigned.old assigned.new }
+    ensures forced { ForcesMore arena.now.literals.items arena.now.ends.items level assigned.old
+        assigned.new }
     ensures reached { (start ≤ result.0) × (result.0 ≤ length short.now) }
-    ensures holds { (j : ℕ) → start ≤ j → j < result.0 → IsTrueIn arena.now.literals.items arena.now.ends.items assigned.new.trail (slice_index short.now j) }
+    ensures holds { (j : ℕ) → start ≤ j → j < result.0 →
+        IsTrueIn arena.now.literals.items arena.now.ends.items assigned.new.trail
+        (slice_index short.now j) }
     ensures all { IfNone result.1 (result.0 ≡ length short.now) }
-    ensures false_clause { IfSome result.1 (λ n. (0 < n) × (n ≤ length arena.now.ends.items) × IsFalseIn arena.now.literals.items arena.now.ends.items assigned.new.trail (n - 1)) }
+    ensures false_clause { IfSome result.1 (λ n. (0 < n) × (n ≤ length arena.now.ends.items)
+        × IsFalseIn arena.now.literals.items arena.now.ends.items assigned.new.trail (n - 1)) }
 {
     let mut done = start;
     'clauses: while done < short.len() {
@@ -140,9 +164,12 @@ fn satisfy(arena: &Arena, assigned: &mut Assigned, clause: usize, level: u64) ->
     requires alike { IsAlike arena.now.literals.items arena.now.ends.items clause }
     ensures variables { length assigned.new.values ≡ length assigned.old.values }
     ensures longer { (ts : List ℤ) × (assigned.new.trail ≡ assigned.old.trail ++ ts) }
-    ensures forced { ForcesMore arena.now.literals.items arena.now.ends.items level assigned.old assigned.new }
-    ensures holds { IsTrue result → IsTrueIn arena.now.literals.items arena.now.ends.items assigned.new.trail clause }
-    ensures false_clause { IsFalse result → IsFalseIn arena.now.literals.items arena.now.ends.items assigned.new.trail clause }
+    ensures forced { ForcesMore arena.now.literals.items arena.now.ends.items level assigned.old
+        assigned.new }
+    ensures holds { IsTrue result → IsTrueIn arena.now.literals.items arena.now.ends.items
+        assigned.new.trail clause }
+    ensures false_clause { IsFalse result → IsFalseIn arena.now.literals.items arena.now.ends.items
+        assigned.new.trail clause }
 {
     let first = arena.start(clause);
     if first == arena.ends[clause] {

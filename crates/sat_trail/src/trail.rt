@@ -121,8 +121,10 @@ impl Trail {
     /// trail is then as before.
     pub fn add_clause(&mut self, clause: &Clause) -> Result<u64, AllocError>
         requires { IsWithin self.old.variables clause.now }
-        ensures added { IfOk result (λ n. Adds self.old self.new clause.now × (n ≡ length self.new.ends)) }
-        ensures assignment { (self.new.variables ≡ self.old.variables) × (self.new.assignment ≡ self.old.assignment) × (self.new.limits ≡ self.old.limits) }
+        ensures added { IfOk result (λ n. Adds self.old self.new clause.now
+            × (n ≡ length self.new.ends)) }
+        ensures assignment { (self.new.variables ≡ self.old.variables)
+            × (self.new.assignment ≡ self.old.assignment) × (self.new.limits ≡ self.old.limits) }
         ensures err { OnErr result (self.new ≡ self.old) }
     {
         self.add_literals(clause.literals())
@@ -131,8 +133,10 @@ impl Trail {
     /// Adds a clause of these literals.
     fn add_literals(&mut self, literals: &[i64]) -> Result<u64, AllocError>
         requires { All (IsLiteral self.old.variables) literals.now }
-        ensures added { IfOk result (λ n. Adds self.old self.new literals.now × (n ≡ length self.new.ends)) }
-        ensures assignment { (self.new.variables ≡ self.old.variables) × (self.new.assignment ≡ self.old.assignment) × (self.new.limits ≡ self.old.limits) }
+        ensures added { IfOk result (λ n. Adds self.old self.new literals.now
+            × (n ≡ length self.new.ends)) }
+        ensures assignment { (self.new.variables ≡ self.old.variables)
+            × (self.new.assignment ≡ self.old.assignment) × (self.new.limits ≡ self.old.limits) }
         ensures err { OnErr result (self.new ≡ self.old) }
     {
         let one = latest(&self.assigned, literals, 0);
@@ -150,8 +154,10 @@ impl Trail {
         requires literals { All (IsLiteral self.old.variables) literals.now }
         requires places { (one < length literals.now) × (two < length literals.now) }
         requires different { value_at literals.now one ≢ value_at literals.now two }
-        ensures added { IfOk result (λ n. Adds self.old self.new literals.now × (n ≡ length self.new.ends)) }
-        ensures assignment { (self.new.variables ≡ self.old.variables) × (self.new.assignment ≡ self.old.assignment) × (self.new.limits ≡ self.old.limits) }
+        ensures added { IfOk result (λ n. Adds self.old self.new literals.now
+            × (n ≡ length self.new.ends)) }
+        ensures assignment { (self.new.variables ≡ self.old.variables)
+            × (self.new.assignment ≡ self.old.assignment) × (self.new.limits ≡ self.old.limits) }
         ensures err { OnErr result (self.new ≡ self.old) }
     {
         self.arena.reserve(literals.len())?;
@@ -175,9 +181,12 @@ impl Trail {
     /// Adds a clause without two different literals.
     fn add_short(&mut self, literals: &[i64]) -> Result<u64, AllocError>
         requires literals { All (IsLiteral self.old.variables) literals.now }
-        requires alike { (p q : ℕ) → p < length literals.now → q < length literals.now → value_at literals.now p ≡ value_at literals.now q }
-        ensures added { IfOk result (λ n. Adds self.old self.new literals.now × (n ≡ length self.new.ends)) }
-        ensures assignment { (self.new.variables ≡ self.old.variables) × (self.new.assignment ≡ self.old.assignment) × (self.new.limits ≡ self.old.limits) }
+        requires alike { (p q : ℕ) → p < length literals.now → q < length literals.now →
+            value_at literals.now p ≡ value_at literals.now q }
+        ensures added { IfOk result (λ n. Adds self.old self.new literals.now
+            × (n ≡ length self.new.ends)) }
+        ensures assignment { (self.new.variables ≡ self.old.variables)
+            × (self.new.assignment ≡ self.old.assignment) × (self.new.limits ≡ self.old.limits) }
         ensures err { OnErr result (self.new ≡ self.old) }
     {
         self.arena.reserve(literals.len())?;
@@ -210,10 +219,13 @@ impl Trail {
     pub fn assign(&mut self, literal: i64)
         requires literal { IsLiteral self.old.variables literal }
         requires free { IsFree self.old.assignment.trail literal }
-        ensures clauses { (self.new.literals ≡ self.old.literals) × (self.new.ends ≡ self.old.ends) × (self.new.variables ≡ self.old.variables) }
+        ensures clauses { (self.new.literals ≡ self.old.literals) × (self.new.ends ≡ self.old.ends)
+            × (self.new.variables ≡ self.old.variables) }
         ensures trail { self.new.assignment.trail ≡ self.old.assignment.trail ++ literal ∷ [] }
-        ensures limits { self.new.limits ≡ self.old.limits ++ length self.old.assignment.trail ∷ [] }
-        ensures put { IsPut self.old.assignment self.new.assignment literal (length self.old.limits + 1) 0 }
+        ensures limits { self.new.limits ≡ self.old.limits
+            ++ length self.old.assignment.trail ∷ [] }
+        ensures put { IsPut self.old.assignment self.new.assignment literal
+            (length self.old.limits + 1) 0 }
     {
         let len = self.assigned.len();
         self.assigned.put(literal, self.top as u64 + 1, 0);
@@ -226,10 +238,14 @@ impl Trail {
     /// Takes back the levels above one.
     pub fn undo_to(&mut self, level: u64)
         requires { level ≤ length self.old.limits }
-        ensures clauses { (self.new.literals ≡ self.old.literals) × (self.new.ends ≡ self.old.ends) × (self.new.variables ≡ self.old.variables) }
-        ensures trail { self.new.assignment.trail ≡ take (slice_index_or self.old.limits level (length self.old.assignment.trail)) self.old.assignment.trail }
+        ensures clauses { (self.new.literals ≡ self.old.literals) × (self.new.ends ≡ self.old.ends)
+            × (self.new.variables ≡ self.old.variables) }
+        ensures trail { self.new.assignment.trail ≡ take
+            (slice_index_or self.old.limits level (length self.old.assignment.trail))
+            self.old.assignment.trail }
         ensures limits { self.new.limits ≡ take level self.old.limits }
-        ensures kept { (self.new.assignment.levels ≡ self.old.assignment.levels) × (self.new.assignment.reasons ≡ self.old.assignment.reasons) }
+        ensures kept { (self.new.assignment.levels ≡ self.old.assignment.levels)
+            × (self.new.assignment.reasons ≡ self.old.assignment.reasons) }
     {
         let level = level as usize;
         if level < self.top {
@@ -242,12 +258,18 @@ impl Trail {
 
     /// Makes true what the clauses force, with the clause as its reason, and gives the number of a clause that is false, if there is one.
     pub fn propagate(&mut self) -> Option<u64>
-        ensures clauses { (self.new.literals ≡ self.old.literals) × (self.new.ends ≡ self.old.ends) × (self.new.variables ≡ self.old.variables) }
-        ensures longer { (ts : List ℤ) × (self.new.assignment.trail ≡ self.old.assignment.trail ++ ts) }
-        ensures forced { ForcesMore self.new.literals self.new.ends (length self.old.limits) self.old.assignment self.new.assignment }
+        ensures clauses { (self.new.literals ≡ self.old.literals) × (self.new.ends ≡ self.old.ends)
+            × (self.new.variables ≡ self.old.variables) }
+        ensures longer { (ts : List ℤ) × (self.new.assignment.trail ≡ self.old.assignment.trail
+            ++ ts) }
+        ensures forced { ForcesMore self.new.literals self.new.ends (length self.old.limits)
+            self.old.assignment self.new.assignment }
         ensures limits { self.new.limits ≡ self.old.limits }
-        ensures none { IfNone result ((i : ℕ) → i < length self.new.ends → IsTrueIn self.new.literals self.new.ends self.new.assignment.trail i ⊎ IsOpen self.new.literals self.new.ends self.new.assignment.trail i) }
-        ensures false_clause { IfSome result (λ n. (0 < n) × (n ≤ length self.new.ends) × IsFalseIn self.new.literals self.new.ends self.new.assignment.trail (n - 1)) }
+        ensures none { IfNone result ((i : ℕ) → i < length self.new.ends →
+            IsTrueIn self.new.literals self.new.ends self.new.assignment.trail i
+            ⊎ IsOpen self.new.literals self.new.ends self.new.assignment.trail i) }
+        ensures false_clause { IfSome result (λ n. (0 < n) × (n ≤ length self.new.ends)
+            × IsFalseIn self.new.literals self.new.ends self.new.assignment.trail (n - 1)) }
     {
         let level = self.top as u64;
         let (short_done, found) = advance_short(
@@ -325,10 +347,15 @@ impl Trail {
     /// The clause that forced a variable, or none where it opened a level.
     pub fn reason(&self, variable: u64) -> Option<u64>
         requires variable { (0 < variable) × (variable ≤ self.now.variables) }
-        ensures reason { IfSome result (λ n. slice_index self.now.assignment.reasons (variable - 1) ≡ n) }
+        ensures reason { IfSome result (λ n. slice_index self.now.assignment.reasons (variable - 1)
+            ≡ n) }
         ensures in_range { IfSome result (λ n. (0 < n) × (n ≤ length self.now.ends)) }
-        ensures chosen { IfNone result ((j : ℕ) → j < length self.now.assignment.trail → spec.index (value_at self.now.assignment.trail j) ≡ variable - 1 → Contains self.now.limits j) }
-        ensures forced { IfSome result (λ n. (j : ℕ) → j < length self.now.assignment.trail → spec.index (value_at self.now.assignment.trail j) ≡ variable - 1 → Contains self.now.limits j → ⊥) }
+        ensures chosen { IfNone result ((j : ℕ) → j < length self.now.assignment.trail →
+            spec.index (value_at self.now.assignment.trail j) ≡ variable - 1 →
+            Contains self.now.limits j) }
+        ensures forced { IfSome result (λ n. (j : ℕ) → j < length self.now.assignment.trail →
+            spec.index (value_at self.now.assignment.trail j) ≡ variable - 1 →
+            Contains self.now.limits j → ⊥) }
     {
         let clause = self.assigned.reason(variable as usize - 1);
         if clause == 0 || clause > self.arena.ends.len() as u64 {
@@ -340,7 +367,8 @@ impl Trail {
     /// Where the negation of a false literal stands on the trail; of another literal any number.
     pub fn place(&self, literal: i64) -> usize
         requires { IsLiteral self.now.variables literal }
-        ensures { Contains self.now.assignment.trail (neg_ℤ literal) → slice_get self.now.assignment.trail result ≡ Some (neg_ℤ literal) }
+        ensures { Contains self.now.assignment.trail (neg_ℤ literal) →
+            slice_get self.now.assignment.trail result ≡ Some (neg_ℤ literal) }
     {
         self.assigned.last_place(literal)
     }

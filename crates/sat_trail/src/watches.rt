@@ -67,8 +67,11 @@ fn find_first(arena: &Arena, assigned: &Assigned, first: usize, last: usize, oth
     requires in_range { last ≤ length arena.now.literals.items }
     ensures within { (first ≤ result) × (result ≤ last) }
     ensures unlike { result < last → value_at arena.now.literals.items result ≢ other }
-    ensures not_false { result < last → Contains assigned.now.trail (neg_ℤ (value_at arena.now.literals.items result)) → ⊥ }
-    ensures closed { (p : ℕ) → first ≤ p → p < result → (value_at arena.now.literals.items p ≡ other) ⊎ Contains assigned.now.trail (neg_ℤ (value_at arena.now.literals.items p)) }
+    ensures not_false { result < last → Contains assigned.now.trail
+        (neg_ℤ (value_at arena.now.literals.items result)) → ⊥ }
+    ensures closed { (p : ℕ) → first ≤ p → p < result →
+        (value_at arena.now.literals.items p ≡ other)
+        ⊎ Contains assigned.now.trail (neg_ℤ (value_at arena.now.literals.items p)) }
 {
     for place in first..last {
         let literal = arena.literals[place];
@@ -95,8 +98,11 @@ fn find_open(
     requires in_range { last ≤ length arena.now.literals.items }
     ensures within { (first ≤ result) × (result ≤ last) }
     ensures unlike { result < last → value_at arena.now.literals.items result ≢ other }
-    ensures not_false { result < last → Contains assigned.now.trail (neg_ℤ (value_at arena.now.literals.items result)) → ⊥ }
-    ensures closed { result ≡ last → (p : ℕ) → first ≤ p → p < last → (value_at arena.now.literals.items p ≡ other) ⊎ Contains assigned.now.trail (neg_ℤ (value_at arena.now.literals.items p)) }
+    ensures not_false { result < last → Contains assigned.now.trail
+        (neg_ℤ (value_at arena.now.literals.items result)) → ⊥ }
+    ensures closed { result ≡ last → (p : ℕ) → first ≤ p → p < last →
+        (value_at arena.now.literals.items p ≡ other)
+        ⊎ Contains assigned.now.trail (neg_ℤ (value_at arena.now.literals.items p)) }
 {
     if first <= from && from < last {
         let place = find_first(arena, assigned, from, last, other);
@@ -121,10 +127,13 @@ impl Watches {
     fn inspect(&self, arena: &Arena, assigned: &Assigned, node: usize) -> Found
         requires variables { length assigned.now.values ≡ arena.now.variables }
         requires two_each { length self.now.at.items ≡ 2 * length arena.now.ends.items }
-        requires copied { IsCopied arena.now.literals.items arena.now.ends.items self.now.at.items self.now.copies.items }
+        requires copied { IsCopied arena.now.literals.items arena.now.ends.items self.now.at.items
+            self.now.copies.items }
         requires in_range { node < length self.now.at.items }
-        requires pair { IsPair arena.now.literals.items arena.now.ends.items self.now.at.items (node / 2) }
-        ensures { IsFound arena.now.literals.items arena.now.ends.items self.now.at.items assigned.now.trail node result }
+        requires pair { IsPair arena.now.literals.items arena.now.ends.items self.now.at.items
+            (node / 2) }
+        ensures { IsFound arena.now.literals.items arena.now.ends.items self.now.at.items
+            assigned.now.trail node result }
     {
         let other = self.copies[other_node(node)];
         if assigned.is_true(other) {
@@ -146,10 +155,13 @@ impl Watches {
     /// Moves the first loose node to the list of the literal that it watches.
     #[inline]
     fn settle(&mut self, arena: &Arena, node: usize)
-        requires woven { IsWoven arena.now.literals.items arena.now.ends.items self.old.at.items self.old.lists arena.now.variables }
-        requires copied { IsCopied arena.now.literals.items arena.now.ends.items self.old.at.items self.old.copies.items }
+        requires woven { IsWoven arena.now.literals.items arena.now.ends.items self.old.at.items
+            self.old.lists arena.now.variables }
+        requires copied { IsCopied arena.now.literals.items arena.now.ends.items self.old.at.items
+            self.old.copies.items }
         requires first { self.old.lists.loose ≡ node ∷ drop 1 self.old.lists.loose }
-        ensures woven { IsWoven arena.now.literals.items arena.now.ends.items self.new.at.items self.new.lists arena.now.variables }
+        ensures woven { IsWoven arena.now.literals.items arena.now.ends.items self.new.at.items
+            self.new.lists arena.now.variables }
         ensures at { self.new.at.items ≡ self.old.at.items }
         ensures copies { self.new.copies.items ≡ self.old.copies.items }
         ensures loose { self.new.lists.loose ≡ drop 1 self.old.lists.loose }
@@ -162,15 +174,23 @@ impl Watches {
     #[inline]
     fn take(&mut self, arena: &Arena, assigned: &mut Assigned, node: usize, level: u64) -> bool
         requires variables { length assigned.old.values ≡ arena.now.variables }
-        requires woven { IsWoven arena.now.literals.items arena.now.ends.items self.old.at.items self.old.lists arena.now.variables }
-        requires copied { IsCopied arena.now.literals.items arena.now.ends.items self.old.at.items self.old.copies.items }
+        requires woven { IsWoven arena.now.literals.items arena.now.ends.items self.old.at.items
+            self.old.lists arena.now.variables }
+        requires copied { IsCopied arena.now.literals.items arena.now.ends.items self.old.at.items
+            self.old.copies.items }
         requires first { self.old.lists.loose ≡ node ∷ drop 1 self.old.lists.loose }
         ensures variables { length assigned.new.values ≡ length assigned.old.values }
-        ensures copied { IsCopied arena.now.literals.items arena.now.ends.items self.new.at.items self.new.copies.items }
-        ensures taken { IsTrue result → IsTaken arena.now.literals.items arena.now.ends.items arena.now.variables self.old.at.items assigned.old.trail self.old.lists.loose self.new.at.items assigned.new.trail self.new.lists }
-        ensures false_clause { IsFalse result → (node < length self.old.at.items) × IsFalseIn arena.now.literals.items arena.now.ends.items assigned.old.trail (node / 2) }
+        ensures copied { IsCopied arena.now.literals.items arena.now.ends.items self.new.at.items
+            self.new.copies.items }
+        ensures taken { IsTrue result → IsTaken arena.now.literals.items arena.now.ends.items
+            arena.now.variables self.old.at.items assigned.old.trail self.old.lists.loose
+            self.new.at.items assigned.new.trail self.new.lists }
+        ensures false_clause { IsFalse result → (node < length self.old.at.items)
+            × IsFalseIn arena.now.literals.items arena.now.ends.items assigned.old.trail
+            (node / 2) }
         ensures unchanged { IsFalse result → (self.new ≡ self.old) × (assigned.new ≡ assigned.old) }
-        ensures forced { ForcesMore arena.now.literals.items arena.now.ends.items level assigned.old assigned.new }
+        ensures forced { ForcesMore arena.now.literals.items arena.now.ends.items level assigned.old
+            assigned.new }
     {
         match self.inspect(arena, assigned, node) {
             Found::True => {
@@ -195,16 +215,27 @@ impl Watches {
     /// Takes the loose nodes in turn, up to one whose clause is false, and gives that clause's number.
     pub fn visit(&mut self, arena: &Arena, assigned: &mut Assigned, level: u64) -> Option<u64>
         requires variables { length assigned.old.values ≡ arena.now.variables }
-        requires woven { IsWoven arena.now.literals.items arena.now.ends.items self.old.at.items self.old.lists arena.now.variables }
-        requires copied { IsCopied arena.now.literals.items arena.now.ends.items self.old.at.items self.old.copies.items }
+        requires woven { IsWoven arena.now.literals.items arena.now.ends.items self.old.at.items
+            self.old.lists arena.now.variables }
+        requires copied { IsCopied arena.now.literals.items arena.now.ends.items self.old.at.items
+            self.old.copies.items }
         ensures variables { length assigned.new.values ≡ length assigned.old.values }
-        ensures woven { IsWoven arena.now.literals.items arena.now.ends.items self.new.at.items self.new.lists arena.now.variables }
-        ensures copied { IsCopied arena.now.literals.items arena.now.ends.items self.new.at.items self.new.copies.items }
-        ensures kept { IsKept arena.now.literals.items arena.now.ends.items self.old.at.items assigned.old.trail self.new.at.items assigned.new.trail }
-        ensures forced { ForcesMore arena.now.literals.items arena.now.ends.items level assigned.old assigned.new }
+        ensures woven { IsWoven arena.now.literals.items arena.now.ends.items self.new.at.items
+            self.new.lists arena.now.variables }
+        ensures copied { IsCopied arena.now.literals.items arena.now.ends.items self.new.at.items
+            self.new.copies.items }
+        ensures kept { IsKept arena.now.literals.items arena.now.ends.items self.old.at.items
+            assigned.old.trail self.new.at.items assigned.new.trail }
+        ensures forced { ForcesMore arena.now.literals.items arena.now.ends.items level assigned.old
+            assigned.new }
         ensures none_loose { IfNone result (self.new.lists.loose ≡ []) }
-        ensures visited { IfNone result ((w : ℤ) → Contains assigned.old.trail (neg_ℤ w) → IsVisited arena.now.literals.items arena.now.ends.items self.old.at.items self.old.lists.loose assigned.old.trail w → IsVisited arena.now.literals.items arena.now.ends.items self.new.at.items self.new.lists.loose assigned.new.trail w) }
-        ensures false_clause { IfSome result (λ n. (0 < n) × (n ≤ length arena.now.ends.items) × IsFalseIn arena.now.literals.items arena.now.ends.items assigned.new.trail (n - 1)) }
+        ensures visited { IfNone result ((w : ℤ) → Contains assigned.old.trail (neg_ℤ w) →
+            IsVisited arena.now.literals.items arena.now.ends.items self.old.at.items
+            self.old.lists.loose assigned.old.trail w →
+            IsVisited arena.now.literals.items arena.now.ends.items self.new.at.items
+            self.new.lists.loose assigned.new.trail w) }
+        ensures false_clause { IfSome result (λ n. (0 < n) × (n ≤ length arena.now.ends.items)
+            × IsFalseIn arena.now.literals.items arena.now.ends.items assigned.new.trail (n - 1)) }
     {
         'nodes: while let Some(node) = self.lists.first() {
             if !self.take(arena, assigned, node, level) {
@@ -216,9 +247,12 @@ impl Watches {
 
     /// Puts what is left of the loose nodes back.
     pub fn restore(&mut self, arena: &Arena)
-        requires woven { IsWoven arena.now.literals.items arena.now.ends.items self.old.at.items self.old.lists arena.now.variables }
-        requires copied { IsCopied arena.now.literals.items arena.now.ends.items self.old.at.items self.old.copies.items }
-        ensures woven { IsWoven arena.now.literals.items arena.now.ends.items self.new.at.items self.new.lists arena.now.variables }
+        requires woven { IsWoven arena.now.literals.items arena.now.ends.items self.old.at.items
+            self.old.lists arena.now.variables }
+        requires copied { IsCopied arena.now.literals.items arena.now.ends.items self.old.at.items
+            self.old.copies.items }
+        ensures woven { IsWoven arena.now.literals.items arena.now.ends.items self.new.at.items
+            self.new.lists arena.now.variables }
         ensures at { self.new.at.items ≡ self.old.at.items }
         ensures copies { self.new.copies.items ≡ self.old.copies.items }
         ensures none_loose { self.new.lists.loose ≡ [] }

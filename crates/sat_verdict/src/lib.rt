@@ -15,5 +15,6 @@ pub use mode::{Verdict, check_texts, message_of, status_of};
 
 /// A law: two texts have at most one verdict.
 pub fn texts_have_one_verdict()
-    ensures { (clauses lines : List ℕ) (verdict other : Verdict) → IsVerdict clauses lines verdict → IsVerdict clauses lines other → verdict ≡ other }
+    ensures { (clauses lines : List ℕ) (verdict other : Verdict) → IsVerdict clauses lines verdict →
+        IsVerdict clauses lines other → verdict ≡ other }
 {}

@@ -64,7 +64,8 @@ enum Turn {
 /// What a fault comes to, where it is a broken rule.
 fn rejected(fault: LineFault, proof: &[u8], start: usize) -> Result<Turn, AllocError>
     requires { start < length proof.now }
-    ensures turn { IfOk result (λ turn. IfSome (rule_of fault) (λ rule. turn ≡ Turn.Over (Verdict.Rejected rule (line_number proof.now start)))) }
+    ensures turn { IfOk result (λ turn. IfSome (rule_of fault)
+        (λ rule. turn ≡ Turn.Over (Verdict.Rejected rule (line_number proof.now start)))) }
     ensures rule { IfOk result (λ turn. IsSome (rule_of fault)) }
 {
     match rule_number(fault) {
@@ -89,8 +90,10 @@ fn take_line(
     requires few { lemmas + 1 < 2 ^ 64 }
     ensures turn { (from : ℕ) → read_from proof.now from ≡ Found line.now start next →
         IfOk result (λ turn. IsTurn proof.now from lemmas checker.old checker.new turn) }
-    ensures places { IfOk result (λ turn. IfOn turn (λ place count. (place ≡ next) × (count ≤ lemmas + 1))) }
-    ensures sound { (formula : List (List ℤ)) → Follows formula checker.old → IfOk result (λ turn. IsSoundTurn formula checker.new turn) }
+    ensures places { IfOk result (λ turn. IfOn turn
+        (λ place count. (place ≡ next) × (count ≤ lemmas + 1))) }
+    ensures sound { (formula : List (List ℤ)) → Follows formula checker.old →
+        IfOk result (λ turn. IsSoundTurn formula checker.new turn) }
 {
     match checker.add(line) {
         Ok(Step::Refuted) => Ok(Turn::Over(Verdict::Refuted)),
@@ -114,8 +117,10 @@ fn read_turn(
     requires from { from ≤ length proof.now }
     requires few { lemmas + 1 < 2 ^ 64 }
     ensures turn { IfOk result (λ turn. IsTurn proof.now from lemmas checker.old checker.new turn) }
-    ensures places { IfOk result (λ turn. IfOn turn (λ place count. (from < place) × (place ≤ length proof.now) × (count ≤ lemmas + 1))) }
-    ensures sound { (formula : List (List ℤ)) → Follows formula checker.old → IfOk result (λ turn. IsSoundTurn formula checker.new turn) }
+    ensures places { IfOk result (λ turn. IfOn turn
+        (λ place count. (from < place) × (place ≤ length proof.now) × (count ≤ lemmas + 1))) }
+    ensures sound { (formula : List (List ℤ)) → Follows formula checker.old →
+        IfOk result (λ turn. IsSoundTurn formula checker.new turn) }
 {
     match read_line(alloc, proof, from) {
         Ok(ReadLine::Line(line, start, next)) => take_line(
@@ -133,7 +138,8 @@ fn read_turn(
 /// Checks the lines of a text.
 fn check_lines(alloc: Global, mut checker: Checker, proof: &[u8]) -> Result<Verdict, AllocError>
     ensures verdict { IfOk result (λ verdict. Ends proof.now 0 0 checker verdict) }
-    ensures refuted { (formula : List (List ℤ)) → Follows formula checker → IfOk result (λ verdict. verdict ≡ Verdict.Refuted → IsUnsatisfiable formula) }
+    ensures refuted { (formula : List (List ℤ)) → Follows formula checker →
+        IfOk result (λ verdict. verdict ≡ Verdict.Refuted → IsUnsatisfiable formula) }
 {
     let mut from = 0;
     let mut lemmas = 0;
@@ -157,7 +163,8 @@ pub fn check_texts(alloc: Global, cnf: &[u8], proof: &[u8]) -> Result<Verdict, A
     // The verdict is that on the two texts.
     ensures verdict { IfOk result (IsVerdict cnf.now proof.now) }
     // Where it is `Refuted`, no assignment satisfies the clauses.
-    ensures refuted { IfOk result (λ verdict. verdict ≡ Verdict.Refuted → NoneSatisfies (formula_of cnf.now)) }
+    ensures refuted { IfOk result (λ verdict. verdict ≡ Verdict.Refuted →
+        NoneSatisfies (formula_of cnf.now)) }
 {
     let formula = match read_cnf(alloc, cnf) {
         Ok(formula) => formula,
