@@ -107,6 +107,14 @@ fn led_instances(
     Ok(instances)
 }
 
+/// The text of the instance of this number.
+fn text_of(keys: &[Key], instance: usize) -> Option<u32> {
+    match keys.get(instance) {
+        Some(key) => Some(key.text),
+        None => None,
+    }
+}
+
 /// The instances with their opens.
 fn instances_of(
     alloc: Global,
@@ -117,7 +125,7 @@ fn instances_of(
     ensures { IfOk result (λ instances. pairs_of instances ≡ map pair_of keys.items) }
 {
     let integer_text = match integer {
-        Some(instance) => keys.get(instance).map(|key| key.text),
+        Some(instance) => text_of(&keys, instance),
         None => None,
     };
     let mut instances = Items::new(alloc);

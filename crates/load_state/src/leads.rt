@@ -1,5 +1,4 @@
 //! Whether the opens of a model lead where they should.
-#![tactic(auto, using(crate::proofs::Led::near_answered, crate::proofs::Led::far_answered, crate::proofs::Led::leads_to, crate::proofs::Led::written_led, crate::proofs::Led::implied_led, crate::proofs::Led::ends_here, crate::proofs::Led::ends_after, crate::proofs::Led::integers_led, crate::proofs::Led::same_bytes, crate::proofs::Led::declared_by, crate::proofs::Led::text_of_source, crate::proofs::Led::sig_stands, crate::proofs::Led::parameter_stands, crate::proofs::Led::given_by, crate::proofs::Led::parameter_here, crate::proofs::Led::instance_led, crate::proofs::Opens::openings_counted))]
 
 ghost use Rattle.std.specs.Prelude.{◌≡◌, ◌∷◌, [], true, IfOk, IfSome, length, slice_get, Some};
 ghost use Rattle.load_state.specs.Keys.{texts_of};
@@ -18,6 +17,7 @@ use std::alloc::{AllocError, Global};
 use syntax_tree::{Header, Instance, Open, Opened, Parameter, QualName, SigName, SigRef};
 
 /// Whether this is the text of a path, by what was answered for its two names.
+#[tactic(auto, using(crate::proofs::Led::near_answered, crate::proofs::Led::far_answered))]
 fn is_answered(
     alloc: Global,
     asked: &[Asked],
@@ -50,6 +50,7 @@ fn is_text(answer: Option<Option<u32>>, text: u32) -> bool
 }
 
 /// The instance to which an open leads, where the open has this alias and the instance is one of the text of this path.
+#[tactic(auto, using(crate::proofs::Led::leads_to))]
 fn target_of<'a>(
     alloc: Global,
     asked: &[Asked],
@@ -75,6 +76,7 @@ fn target_of<'a>(
 }
 
 /// Whether an open has this alias.
+#[tactic(auto, using(crate::proofs::Led::same_bytes))]
 fn is_alias(opened: &Opened, alias: &str) -> bool
     ensures { result ≡ true → opened.now.alias ≡ alias.now }
 {
@@ -82,6 +84,7 @@ fn is_alias(opened: &Opened, alias: &str) -> bool
 }
 
 /// Whether a text's sig of this number has this name, and may be seen where it is sought.
+#[tactic(auto, using(crate::proofs::Led::same_bytes, crate::proofs::Led::declared_by))]
 fn is_declared(source: &Source, number: u32, name: &str, harmless: bool) -> bool
     ensures { result ≡ true → IsDeclared source.now.text.tree number name.now (harmless ≡ true) }
 {
@@ -92,6 +95,7 @@ fn is_declared(source: &Source, number: u32, name: &str, harmless: bool) -> bool
 }
 
 /// The text of an instance.
+#[tactic(auto, using(crate::proofs::Led::text_of_source))]
 fn source_at<'a>(sources: &'a [Source], instance: &Instance) -> Option<&'a Source>
     ensures { IfSome result (λ source. slice_get (texts_of sources.now) instance.now.text ≡ Some source.now.text) }
 {
@@ -145,6 +149,7 @@ fn parameter_at<'a>(header: &'a Header, place: usize) -> Option<&'a Parameter>
 }
 
 /// Whether a parameter has this name.
+#[tactic(auto, using(crate::proofs::Led::same_bytes))]
 fn is_parameter_named(parameter: &Parameter, name: &Name) -> bool
     ensures { result ≡ true → parameter.now.name.name ≡ name.now }
 {
@@ -152,6 +157,7 @@ fn is_parameter_named(parameter: &Parameter, name: &Name) -> bool
 }
 
 /// Whether the parameter of this place has this name.
+#[tactic(auto, using(crate::proofs::Led::parameter_here))]
 fn has_parameter(header: &Option<Header>, place: usize, name: &Name) -> bool
     ensures { result ≡ true → slice_get (header_names header.now) place ≡ Some name.now }
 {
@@ -175,6 +181,7 @@ fn has_argument(arguments: &[Option<SigRef>], place: usize, argument: Option<Sig
 }
 
 /// Whether an instance of a text has this argument for its parameter of this name.
+#[tactic(auto, using(crate::proofs::Led::given_by))]
 fn is_given(
     source: &Source,
     arguments: &[Option<SigRef>],
@@ -275,6 +282,7 @@ fn alias_of(asked: &Open) -> &str
 }
 
 /// Whether a written open leads where it should.
+#[tactic(auto, using(crate::proofs::Led::written_led))]
 fn is_written_led(
     alloc: Global,
     asked: &[Asked],
@@ -309,6 +317,7 @@ fn is_written_led(
 }
 
 /// Whether the open that an enum implies leads where it should.
+#[tactic(auto, using(crate::proofs::Led::implied_led))]
 fn is_implied_led(
     alloc: Global,
     asked: &[Asked],
@@ -361,7 +370,7 @@ fn is_led(
 {
     let written = source.text.tree.opens.as_slice();
     if place < written.len() {
-        return is_written_led(
+        let led = is_written_led(
             alloc,
             asked,
             root,
@@ -370,17 +379,22 @@ fn is_led(
             number,
             &written[place],
             opened,
-        );
+        )?;
+        return Ok(led);
     }
-    match source.table.enums().get(place - written.len()) {
-        Some(implied) => is_implied_led(
-            alloc, asked, root, sources, instances, number, *implied, opened,
-        ),
+    match source.table.enum_at(place - written.len()) {
+        Some(implied) => {
+            let led = is_implied_led(
+                alloc, asked, root, sources, instances, number, implied, opened,
+            )?;
+            Ok(led)
+        }
         None => Ok(false),
     }
 }
 
 /// Whether an open is that of the integers.
+#[tactic(auto, using(crate::proofs::Led::integers_led))]
 fn is_of_integers(
     alloc: Global,
     asked: &[Asked],
@@ -405,6 +419,7 @@ fn is_of_integers(
 }
 
 /// Whether behind so many opens comes none, or the one of the integers.
+#[tactic(auto, using(crate::proofs::Led::ends_here))]
 fn is_end(
     alloc: Global,
     asked: &[Asked],
@@ -426,6 +441,7 @@ fn is_end(
 }
 
 /// How many opens a text has.
+#[tactic(auto, using(crate::proofs::Opens::openings_counted))]
 pub fn opening_count(source: &Source) -> Result<usize, AllocError>
     ensures { IfOk result (λ count. count ≡ length (asks.openings_of source.now.text.tree)) }
 {
@@ -474,6 +490,7 @@ fn are_led(
 }
 
 /// The same of an instance whose text is among these.
+#[tactic(auto, using(crate::proofs::Led::instance_led))]
 fn is_instance_led(
     alloc: Global,
     asked: &[Asked],

@@ -1,5 +1,4 @@
 //! An open leads to an instance: one that was loaded before, or a new one.
-#![tactic(auto, using(crate::proofs::Faults::memory_is_quiet, crate::proofs::Faults::refusal_is_quiet, crate::proofs::Refusals::memory_in_text, crate::proofs::Refusals::refused_at, crate::proofs::Refusals::refused_written, crate::proofs::Opens::asked_written, crate::proofs::Opens::asked_implied, crate::proofs::Opens::opens_counted))]
 
 ghost use Rattle.std.specs.Prelude.{◌≡◌, ◌+◌, ◌<◌, ◌≤◌, true, false, IsTrue, IfErr, IfOk, OnOk, OnErr, length, map, [], ◌∷◌, ◌++◌};
 ghost use Rattle.load_state.specs.Causes.{IsQuietFault};
@@ -26,6 +25,7 @@ use std::collections::HashSet;
 use syntax_tree::Opened;
 
 /// Notes the answer for a name.
+#[tactic(auto, using(crate::proofs::Faults::memory_is_quiet))]
 pub fn note(
     alloc: Global,
     asked: &mut Vec<Asked>,
@@ -43,6 +43,7 @@ pub fn note(
 }
 
 /// How many opens an instance has, with those that enums imply.
+#[tactic(auto, using(crate::proofs::Opens::opens_counted))]
 pub fn open_count(loading: &Loading, instance: usize) -> Result<usize, AllocError>
     ensures { IfOk result (IsOpenCount (text_at loading.now.keys.items (texts_of loading.now.sources.items) instance)) }
 {
@@ -52,6 +53,7 @@ pub fn open_count(loading: &Loading, instance: usize) -> Result<usize, AllocErro
 }
 
 /// What the open of this number asks for.
+#[tactic(auto, using(crate::proofs::Faults::memory_is_quiet, crate::proofs::Refusals::memory_in_text))]
 pub fn request_at(
     alloc: Global,
     loading: &Loading,
@@ -94,6 +96,7 @@ pub struct Target {
 }
 
 /// The instance of a text to which an open leads, which is added where it isn't there yet.
+#[tactic(auto, using(crate::proofs::Faults::memory_is_quiet, crate::proofs::Refusals::memory_in_text))]
 pub fn placed(
     alloc: Global,
     loading: &mut Loading,
@@ -136,6 +139,7 @@ pub fn placed(
 }
 
 /// The refusal of an open of an instance.
+#[tactic(auto, using(crate::proofs::Faults::memory_is_quiet, crate::proofs::Faults::refusal_is_quiet, crate::proofs::Refusals::memory_in_text, crate::proofs::Refusals::refused_at))]
 pub fn refused_open(
     alloc: Global,
     loading: &Loading,

@@ -1,5 +1,4 @@
 //! A table says what names stand for in a text: its sigs, enums and parameters.
-#![tactic(auto, using(crate::proofs::Opens::enums_next))]
 
 ghost use Rattle.std.specs.Prelude.{◌≡◌, ◌+◌, ◌++◌, ◌∷◌, [], IfOk, IfSome, OnOk, Some, length, map, slice_get};
 ghost use Rattle.std.specs.List.{list_any};
@@ -79,6 +78,7 @@ pub struct Table {
 
 impl Table {
     /// The table of a module.
+    #[tactic(auto, using(crate::proofs::Opens::enums_next))]
     pub fn new(alloc: Global, tree: &Module) -> Result<Table, AllocError>
         ensures enums { IfOk result (λ table. table.enums.items ≡ enums_of tree.now) }
         ensures declared { IfOk result (λ table. table.declared.items ≡ declares.sigs_of tree.now) }
