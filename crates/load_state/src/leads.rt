@@ -60,7 +60,9 @@ fn target_of<'a>(
     alias: &str,
     path: &str,
 ) -> Result<Option<&'a Instance>, AllocError>
-    ensures { IfOk result (λ found. IfSome found (λ target. LeadsTo (IsAnswered asked.now root.now) instances.now alias.now path.now opened.now target.now)) }
+    ensures { IfOk result (λ found. IfSome found (λ target.
+        LeadsTo (IsAnswered asked.now root.now) instances.now alias.now path.now opened.now
+        target.now)) }
 {
     match instances.get(opened.instance as usize) {
         Some(target) => {
@@ -97,7 +99,8 @@ fn is_declared(source: &Source, number: u32, name: &str, harmless: bool) -> bool
 /// The text of an instance.
 #[tactic(auto, using(crate::proofs::Led::text_of_source))]
 fn source_at<'a>(sources: &'a [Source], instance: &Instance) -> Option<&'a Source>
-    ensures { IfSome result (λ source. slice_get (texts_of sources.now) instance.now.text ≡ Some source.now.text) }
+    ensures { IfSome result (λ source. slice_get (texts_of sources.now) instance.now.text
+        ≡ Some source.now.text) }
 {
     sources.get(instance.text as usize)
 }
@@ -123,7 +126,8 @@ fn is_sig_named(
     written: &QualName,
     argument: Option<SigRef>,
 ) -> bool
-    ensures { result ≡ true → StandsFor instances.now (texts_of sources.now) number written.now argument }
+    ensures { result ≡ true → StandsFor instances.now (texts_of sources.now) number written.now
+        argument }
 {
     let name = last_part(written.parts.as_slice());
     match argument {
@@ -143,7 +147,8 @@ fn is_sig_named(
 
 /// The parameter of this place.
 fn parameter_at<'a>(header: &'a Header, place: usize) -> Option<&'a Parameter>
-    ensures { IfSome result (λ parameter. slice_get header.now.parameters place ≡ Some parameter.now) }
+    ensures { IfSome result (λ parameter. slice_get header.now.parameters place
+        ≡ Some parameter.now) }
 {
     header.parameters.as_slice().get(place)
 }
@@ -217,7 +222,8 @@ fn is_parameter(
     written: &QualName,
     argument: Option<SigRef>,
 ) -> bool
-    ensures { result ≡ true → StandsFor instances.now (texts_of sources.now) number written.now argument }
+    ensures { result ≡ true → StandsFor instances.now (texts_of sources.now) number written.now
+        argument }
 {
     match only_part(written.parts.as_slice()) {
         Some(part) => match instance_at(instances, number) {
@@ -239,7 +245,8 @@ fn is_argument(
     written: &SigName,
     argument: Option<SigRef>,
 ) -> bool
-    ensures { result ≡ true → IsArgument instances.now (texts_of sources.now) number written.now argument }
+    ensures { result ≡ true → IsArgument instances.now (texts_of sources.now) number written.now
+        argument }
 {
     match written {
         SigName::Int(_) => argument.is_none(),
@@ -258,7 +265,8 @@ fn are_arguments(
     names: &[SigName],
     arguments: &[Option<SigRef>],
 ) -> bool
-    ensures { result ≡ true → AreArguments instances.now (texts_of sources.now) number names.now arguments.now }
+    ensures { result ≡ true → AreArguments instances.now (texts_of sources.now) number names.now
+        arguments.now }
 {
     if names.len() != arguments.len() {
         return false;
@@ -293,7 +301,8 @@ fn is_written_led(
     written: &Open,
     opened: &Opened,
 ) -> Result<bool, AllocError>
-    ensures { IfOk result (λ is. is ≡ true → IsLed (IsAnswered asked.now root.now) instances.now (texts_of sources.now) number (asks.written written.now) opened.now) }
+    ensures { IfOk result (λ is. is ≡ true → IsLed (IsAnswered asked.now root.now) instances.now
+        (texts_of sources.now) number (asks.written written.now) opened.now) }
 {
     let path = path_text(alloc, &written.path)?;
     match target_of(
@@ -328,7 +337,8 @@ fn is_implied_led(
     enumerated: Enumerated,
     opened: &Opened,
 ) -> Result<bool, AllocError>
-    ensures { IfOk result (λ is. is ≡ true → IsLed (IsAnswered asked.now root.now) instances.now (texts_of sources.now) number (asks.implied enumerated) opened.now) }
+    ensures { IfOk result (λ is. is ≡ true → IsLed (IsAnswered asked.now root.now) instances.now
+        (texts_of sources.now) number (asks.implied enumerated) opened.now) }
 {
     match target_of(
         alloc,
@@ -346,7 +356,8 @@ fn is_implied_led(
 
 /// Whether the one argument is this sig of the instance of this number.
 fn is_sig(arguments: &[Option<SigRef>], instance: u32, sig: u32) -> bool
-    ensures { result ≡ true → arguments.now ≡ Some (record { instance = instance; sig = sig }) ∷ [] }
+    ensures { result ≡ true → arguments.now ≡ Some (record { instance = instance; sig = sig }) ∷
+        [] }
 {
     match arguments {
         [Some(given)] => given.instance == instance && given.sig == sig,
@@ -366,7 +377,10 @@ fn is_led(
     place: usize,
     opened: &Opened,
 ) -> Result<bool, AllocError>
-    ensures { IfOk result (λ is. is ≡ true → (o : asks.Opening) → slice_get (asks.openings_of source.now.text.tree) place ≡ Some o → IsLed (IsAnswered asked.now root.now) instances.now (texts_of sources.now) number o opened.now) }
+    ensures { IfOk result (λ is. is ≡ true → (o : asks.Opening) →
+        slice_get (asks.openings_of source.now.text.tree) place ≡ Some o →
+        IsLed (IsAnswered asked.now root.now) instances.now (texts_of sources.now) number o
+        opened.now) }
 {
     let written = source.text.tree.opens.as_slice();
     if place < written.len() {
@@ -402,7 +416,8 @@ fn is_of_integers(
     instances: &[Instance],
     opened: &Opened,
 ) -> Result<bool, AllocError>
-    ensures { IfOk result (λ is. is ≡ true → IsOfIntegers (IsAnswered asked.now root.now) instances.now opened.now) }
+    ensures { IfOk result (λ is. is ≡ true → IsOfIntegers (IsAnswered asked.now root.now)
+        instances.now opened.now) }
 {
     match target_of(
         alloc,
@@ -428,7 +443,8 @@ fn is_end(
     count: usize,
     opens: &[Opened],
 ) -> Result<bool, AllocError>
-    ensures { IfOk result (λ is. is ≡ true → IsEnd (IsAnswered asked.now root.now) instances.now count opens.now) }
+    ensures { IfOk result (λ is. is ≡ true → IsEnd (IsAnswered asked.now root.now) instances.now
+        count opens.now) }
 {
     if opens.len() == count {
         return Ok(true);
@@ -460,7 +476,8 @@ fn are_led(
     source: &Source,
     opens: &[Opened],
 ) -> Result<bool, AllocError>
-    ensures { IfOk result (λ is. is ≡ true → AreLed (IsAnswered asked.now root.now) instances.now (texts_of sources.now) number source.now.text.tree opens.now) }
+    ensures { IfOk result (λ is. is ≡ true → AreLed (IsAnswered asked.now root.now) instances.now
+        (texts_of sources.now) number source.now.text.tree opens.now) }
 {
     let count = opening_count(source)?;
     if opens.len() < count {
@@ -500,7 +517,8 @@ fn is_instance_led(
     number: u32,
     instance: &Instance,
 ) -> Result<bool, AllocError>
-    ensures { IfOk result (λ is. is ≡ true → IsInstanceLed (IsAnswered asked.now root.now) instances.now (texts_of sources.now) number instance.now) }
+    ensures { IfOk result (λ is. is ≡ true → IsInstanceLed (IsAnswered asked.now root.now)
+        instances.now (texts_of sources.now) number instance.now) }
 {
     match sources.get(instance.text as usize) {
         Some(source) => {
@@ -522,7 +540,8 @@ pub fn all_led(
     sources: &[Source],
     instances: &[Instance],
 ) -> Result<bool, AllocError>
-    ensures { IfOk result (λ is. is ≡ true → AllLed (IsAnswered asked.now root.now) instances.now (texts_of sources.now)) }
+    ensures { IfOk result (λ is. is ≡ true → AllLed (IsAnswered asked.now root.now) instances.now
+        (texts_of sources.now)) }
 {
     for place in 0..instances.len() {
         let number = small(place)?;

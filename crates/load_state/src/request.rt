@@ -85,7 +85,8 @@ fn argument_at(
     requires { place < length names.now }
     ensures quiet { IfErr result IsQuietFault }
     ensures refused { IfErr result (IsAtSome opener.entry.source.now.text.name names.now) }
-    ensures fits { IfOk result (λ found. (name : SigName) → slice_get names.now place ≡ Some name → opens.Fits name found) }
+    ensures fits { IfOk result (λ found. (name : SigName) → slice_get names.now place ≡ Some name →
+        opens.Fits name found) }
 {
     argument(alloc, opener, &names[place])
 }

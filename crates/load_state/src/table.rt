@@ -138,8 +138,10 @@ impl Table {
     }
 
     fn add_paragraph(&mut self, alloc: Global, paragraph: &Paragraph) -> Result<(), AllocError>
-        ensures enums { OnOk result (self.new.enums.items ≡ self.old.enums.items ++ enum_in self.old.sigs paragraph.now) }
-        ensures declared { OnOk result (self.new.declared.items ≡ self.old.declared.items ++ declares.declared_in paragraph.now) }
+        ensures enums { OnOk result (self.new.enums.items ≡ self.old.enums.items
+            ++ enum_in self.old.sigs paragraph.now) }
+        ensures declared { OnOk result (self.new.declared.items ≡ self.old.declared.items
+            ++ declares.declared_in paragraph.now) }
         ensures sigs { OnOk result (self.new.sigs ≡ self.old.sigs + sigs_in paragraph.now) }
     {
         match paragraph {
@@ -166,7 +168,8 @@ impl Table {
         is_private: bool,
     ) -> Result<(), AllocError>
         ensures enums { self.new.enums.items ≡ self.old.enums.items }
-        ensures declared { OnOk result (self.new.declared.items ≡ self.old.declared.items ++ map (declares.declared_as is_private) names.now) }
+        ensures declared { OnOk result (self.new.declared.items ≡ self.old.declared.items
+            ++ map (declares.declared_as is_private) names.now) }
         ensures sigs { OnOk result (self.new.sigs ≡ self.old.sigs + length names.now) }
     {
         for named in names {
@@ -178,7 +181,8 @@ impl Table {
     /// Adds the next sig of the text.
     fn add_sig(&mut self, alloc: Global, named: &Named, is_private: bool) -> Result<(), AllocError>
         ensures enums { self.new.enums.items ≡ self.old.enums.items }
-        ensures declared { OnOk result (self.new.declared.items ≡ self.old.declared.items ++ declares.declared_as is_private named.now ∷ []) }
+        ensures declared { OnOk result (self.new.declared.items ≡ self.old.declared.items
+            ++ declares.declared_as is_private named.now ∷ []) }
         ensures sigs { OnOk result (self.new.sigs ≡ self.old.sigs + 1) }
     {
         let number = self.sigs;

@@ -152,7 +152,8 @@ fn label(alloc: Global, cursor: &mut Cursor<'_>) -> Result<Option<Named>, ParseF
 
 /// `run` or `check`, and whether it is the second.
 fn keyword(cursor: &mut Cursor<'_>) -> Result<bool, ParseFault>
-    ensures { IfOk result (λ is_check. kinds cursor.old ≡ word (keyword_of is_check) ∷ kinds cursor.new) }
+    ensures { IfOk result (λ is_check. kinds cursor.old
+        ≡ word (keyword_of is_check) ∷ kinds cursor.new) }
 {
     if cursor.eat_word(Word::Check) {
         return Ok(true);
