@@ -116,6 +116,8 @@ fn settled(
     let draft = single(alloc, Unary::Fits(place), draft)?;
     let part = part_of(alloc, &draft)?;
     let outcome = settle(alloc, &setting.known.typing, &draft, &part)?;
+    part.put_away();
+    draft.put_away();
     if is_unjudged(&root, place) && !matches!(outcome, Settled::TooMany) {
         return Ok(None);
     }
