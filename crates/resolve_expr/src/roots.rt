@@ -102,6 +102,8 @@ fn outcome_of(
     let draft = single(alloc, Unary::Fits(place), draft)?;
     let part = part_of(alloc, &draft)?;
     let outcome = settle(alloc, &setting.known.typing, &draft, &part)?;
+    part.put_away();
+    draft.put_away();
     Ok(outcome)
 }
 
