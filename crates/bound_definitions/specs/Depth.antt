@@ -1,22 +1,46 @@
 -- How deep formulas and expressions are.
 -- It is counted as if calls were replaced by bodies and `let` names by their values.
-use Rattle.std.specs.Prelude.{ℕ, zero, suc, ◌+◌, ◌-◌, eqb, if◌then◌else◌, max, Bool, true, false, List, length, Option, Some, None, slice_get}
+use Rattle.std.specs.Prelude.{ℕ, zero, suc, ◌+◌, ◌-◌, eqb, if◌then◌else◌, max, List, length, Option, Some, None, slice_get}
 use Rattle.core_tree.specs.declared.operators.RelationOp.{RelationOp}
-use Rattle.core_tree.specs.declared.operators.RelationOp.TheVariants.{Join}
+use Rattle.core_tree.specs.declared.operators.RelationOp.TheVariants.{Union, Difference, Intersection, Join, Override, LeftRestrict, RightRestrict}
+use Rattle.core_tree.specs.declared.operators.Connective.TheVariants.{Or, Iff}
+use Rattle.core_tree.specs.declared.operators.TemporalBinary.TheVariants.{Then}
 use Rattle.core_tree.specs.declared.model.Body.{Body}
 use Rattle.core_tree.specs.declared.model.BodyForm.{BodyForm}
 use Rattle.core_tree.specs.declared.model.BodyForm.TheVariants.{Test, Term as Value}
 use Rattle.core_tree.specs.Trees.{Term, Terms, Variables, Claim, Claims, term_of, claim_of, sig, field, name, univ, iden, empty, int, combine, product, unary, prime, choose_term, comprehension, number, count, arithmetic, sum_over, let_term, call_term, no_terms, more_terms, no_variables, more_variables, inside, equal, within, test, compare, negation, every, connect, choose_claim, for_all, counted, temporal, temporal_pair, let_claim, call_claim, no_claims, more_claims}
 use Rattle.core_tree.specs.Past.{Depths, BodyDepths, with_depth}
 
-abbrev pub is_join : Term → Bool
-is_join (combine Join a b) = true
-is_join _ = false
+-- the level of an operator between relations, all of which group to the left
+abbrev pub level_between : RelationOp → ℕ
+level_between Union = 10
+level_between Difference = 10
+level_between Override = 12
+level_between Intersection = 13
+level_between LeftRestrict = 15
+level_between RightRestrict = 15
+level_between Join = 16
 
--- a row of joins is one part, however long it is
-abbrev pub under_operator : RelationOp → Bool → ℕ → ℕ
-under_operator Join true n = n
-under_operator _ _ n = 1 + n
+-- the level of an expression's operator where operators of that level group to the left, and else 0
+abbrev pub level_in : Term → ℕ
+level_in (combine op a b) = level_between op
+level_in (product a m n b) = 14
+level_in (arithmetic op a b) = 10
+level_in _ = 0
+
+-- the same of a formula; a row of conjunctions is one list already
+abbrev pub level_of : Claim → ℕ
+level_of (connect Or f g) = 2
+level_of (connect Iff f g) = 3
+level_of (temporal_pair Then f g) = 0
+level_of (temporal_pair op f g) = 6
+level_of _ = 0
+
+-- An operator of a level over a first operand, of its own level, and the others, by their depths. A row of
+-- operators of one level is one part, however long it is: there the first operand is no part by itself.
+abbrev pub in_row : (level own first others : ℕ) → ℕ
+in_row zero own first others = 1 + max first others
+in_row (suc level) own first others = max (if eqb own (suc level) then first else 1 + first) (1 + others)
 
 module _ (bodies : BodyDepths) where
   abbrev mutual
@@ -28,15 +52,15 @@ module _ (bodies : BodyDepths) where
     depth_in iden d = 0
     depth_in empty d = 0
     depth_in int d = 0
-    depth_in (combine op a b) d = max (under_operator op (is_join a) (depth_in a d)) (1 + depth_in b d)
-    depth_in (product a m n b) d = 1 + max (depth_in a d) (depth_in b d)
+    depth_in (combine op a b) d = in_row (level_between op) (level_in a) (depth_in a d) (depth_in b d)
+    depth_in (product a m n b) d = in_row 14 (level_in a) (depth_in a d) (depth_in b d)
     depth_in (unary op a) d = 1 + depth_in a d
     depth_in (prime a) d = 1 + depth_in a d
     depth_in (choose_term f a b) d = 1 + max (depth_of f d) (max (depth_in a d) (depth_in b d))
     depth_in (comprehension vs f) d = 1 + depth_under vs d (λ inner. depth_of f inner)
     depth_in (number n place) d = 0
     depth_in (count a) d = 1 + depth_in a d
-    depth_in (arithmetic op a b) d = 1 + max (depth_in a d) (depth_in b d)
+    depth_in (arithmetic op a b) d = in_row 10 (level_in a) (depth_in a d) (depth_in b d)
     depth_in (sum_over vs a) d = 1 + depth_under vs d (λ inner. depth_in a inner)
     depth_in (let_term x a b) d = 1 + max (depth_in a d) (depth_in b (with_depth d x (depth_in a d)))
     depth_in (call_term body es) d = 1 + bodies body (depth_of_arguments es d)
@@ -59,12 +83,12 @@ module _ (bodies : BodyDepths) where
     depth_of (compare op a b) d = 1 + max (depth_in a d) (depth_in b d)
     depth_of (negation f) d = 1 + depth_of f d
     depth_of (every fs) d = depth_of_each fs d
-    depth_of (connect op f g) d = 1 + max (depth_of f d) (depth_of g d)
+    depth_of (connect op f g) d = in_row (level_of (connect op f g)) (level_of f) (depth_of f d) (depth_of g d)
     depth_of (choose_claim f g h) d = 1 + max (depth_of f d) (max (depth_of g d) (depth_of h d))
     depth_of (for_all vs f) d = 1 + depth_under vs d (λ inner. depth_of f inner)
     depth_of (counted q vs f) d = 1 + depth_under vs d (λ inner. depth_of f inner)
     depth_of (temporal op f) d = 1 + depth_of f d
-    depth_of (temporal_pair op f g) d = 1 + max (depth_of f d) (depth_of g d)
+    depth_of (temporal_pair op f g) d = in_row (level_of (temporal_pair op f g)) (level_of f) (depth_of f d) (depth_of g d)
     depth_of (let_claim x e f) d = 1 + max (depth_in e d) (depth_of f (with_depth d x (depth_in e d)))
     depth_of (call_claim body es) d = 1 + bodies body (depth_of_arguments es d)
 

@@ -5,7 +5,7 @@
 ghost use Rattle.std.specs.Prelude.{◌<◌, length, IfSome};
 
 use core_tree::{
-    Body, BodyForm, Expr, Formula, RelationOp, TemporalBinary, TemporalUnary, Variable,
+    Body, BodyForm, Connective, Expr, Formula, RelationOp, TemporalBinary, TemporalUnary, Variable,
 };
 use std::alloc::{AllocError, Global};
 
@@ -74,6 +74,61 @@ fn inside_pair(measure: Measure, op: TemporalBinary, depth: u32) -> u32 {
     }
 }
 
+/// The depth of the first operand of an operator, from that of the others. A row of operators of
+/// one level is one part, so there it is that of the row; but past operators nest in a row too.
+fn first_inside(measure: Measure, is_row: bool, depth: u32, others: u32) -> u32 {
+    match measure {
+        Measure::Past => others,
+        Measure::Depth => { if is_row { depth } else { others } }
+    }
+}
+
+/// The level of the operator of an expression, where operators of that level group to the left, and
+/// else 0.
+fn expr_level(expr: &Expr) -> u32 {
+    match expr {
+        Expr::Combine(op, _, _) => relation_level(*op),
+        Expr::Arithmetic(_, _, _) => 10,
+        Expr::Product(_, _, _, _) => 14,
+        _ => 0,
+    }
+}
+
+/// The level of an operator between relations.
+fn relation_level(op: RelationOp) -> u32 {
+    match op {
+        RelationOp::Union | RelationOp::Difference => 10,
+        RelationOp::Override => 12,
+        RelationOp::Intersection => 13,
+        RelationOp::LeftRestrict | RelationOp::RightRestrict => 15,
+        RelationOp::Join => 16,
+    }
+}
+
+/// The level of the operator of a formula, where operators of that level group to the left, and
+/// else 0. A row of conjunctions is one list already.
+fn formula_level(formula: &Formula) -> u32 {
+    match formula {
+        Formula::Connect(Connective::Or, _, _) => 2,
+        Formula::Connect(Connective::Iff, _, _) => 3,
+        Formula::TemporalPair(TemporalBinary::Then, _, _) => 0,
+        Formula::TemporalPair(_, _, _) => 6,
+        _ => 0,
+    }
+}
+
+/// Whether an expression with an operator goes on the row of its first operand.
+fn is_expr_row(expr: &Expr, first: &Expr) -> bool {
+    let level = expr_level(expr);
+    level > 0 && level == expr_level(first)
+}
+
+/// Whether a formula with an operator goes on the row of its first operand.
+fn is_formula_row(formula: &Formula, first: &Formula) -> bool {
+    let level = formula_level(formula);
+    level > 0 && level == formula_level(first)
+}
+
 /// The greater one of a depth, if any, and a further one.
 fn deeper(known: Option<u32>, depth: u32) -> Option<u32> {
     match known {
@@ -133,7 +188,7 @@ impl Walk {
     }
 }
 
-/// A formula at a depth.
+/// A formula at a depth. A row of operators of one level counts once, however long it is.
 #[cycle(walk)]
 fn walk_formula(
     measure: Measure,
@@ -160,7 +215,8 @@ fn walk_formula(
         Formula::Not(f) => walk_formula(measure, bodies, walk, f, next),
         Formula::Every(list) => walk_every(measure, bodies, walk, list.as_slice(), depth),
         Formula::Connect(_, f, g) => {
-            walk_formula(measure, bodies, walk, f, next)?;
+            let first = first_inside(measure, is_formula_row(formula, f), depth, next);
+            walk_formula(measure, bodies, walk, f, first)?;
             walk_formula(measure, bodies, walk, g, next)
         }
         Formula::Choose(f, g, h) => {
@@ -183,7 +239,8 @@ fn walk_formula(
         ),
         Formula::TemporalPair(op, f, g) => {
             let inner = inside_pair(measure, *op, depth);
-            walk_formula(measure, bodies, walk, f, inner)?;
+            let first = first_inside(measure, is_formula_row(formula, f), depth, inner);
+            walk_formula(measure, bodies, walk, f, first)?;
             walk_formula(measure, bodies, walk, g, inner)
         }
         Formula::Let(name, value, f) => {
@@ -196,7 +253,7 @@ fn walk_formula(
     }
 }
 
-/// An expression at a depth. A row of joins counts once, however long it is.
+/// An expression at a depth. A row of operators of one level counts once, however long it is.
 #[cycle(walk)]
 fn walk_expr(
     measure: Measure,
@@ -211,21 +268,19 @@ fn walk_expr(
             walk.touch_name(*name, depth);
             Ok(())
         }
-        Expr::Combine(RelationOp::Join, a, b) => {
-            let first = if is_join(a) { depth } else { next };
+        Expr::Combine(_, a, b) => {
+            let first = first_inside(measure, is_expr_row(expr, a), depth, next);
             walk_expr(measure, bodies, walk, a, first)?;
             walk_expr(measure, bodies, walk, b, next)
         }
-        Expr::Combine(_, a, b) => {
-            walk_expr(measure, bodies, walk, a, next)?;
-            walk_expr(measure, bodies, walk, b, next)
-        }
         Expr::Product(a, _, _, b) => {
-            walk_expr(measure, bodies, walk, a, next)?;
+            let first = first_inside(measure, is_expr_row(expr, a), depth, next);
+            walk_expr(measure, bodies, walk, a, first)?;
             walk_expr(measure, bodies, walk, b, next)
         }
         Expr::Arithmetic(_, a, b) => {
-            walk_expr(measure, bodies, walk, a, next)?;
+            let first = first_inside(measure, is_expr_row(expr, a), depth, next);
+            walk_expr(measure, bodies, walk, a, first)?;
             walk_expr(measure, bodies, walk, b, next)
         }
         Expr::Unary(_, a) => walk_expr(measure, bodies, walk, a, next),
@@ -344,14 +399,6 @@ fn walk_call(
         }
     }
     Ok(())
-}
-
-/// Whether an expression is a join.
-fn is_join(expr: &Expr) -> bool {
-    match expr {
-        Expr::Combine(RelationOp::Join, _, _) => true,
-        _ => false,
-    }
 }
 
 /// A walk that begins, with no name in scope.
