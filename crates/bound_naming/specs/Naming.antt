@@ -1,6 +1,6 @@
 -- The naming. What atoms are called is no part of a model's meaning, so of the lassos that differ in it alone it is enough to
 -- look for one: for a canonical one, which uses the atoms of a sig in turn as far as pairs of tuples tell.
-use Rattle.std.specs.Prelude.{◌≡◌, ◌↔◌, ◌⊎◌, ◌<◌, ◌≤◌, ◌+◌, ℕ, Bool, true, false, List, [], ◌∷◌, length, map, take, All, Contains, IsSome, Some, None, slice_get}
+use Rattle.std.specs.Prelude.{◌≡◌, ◌↔◌, ◌⊎◌, ◌<◌, ◌≤◌, ◌+◌, ℕ, Bool, true, false, ◌&&◌, List, [], ◌∷◌, length, map, take, All, Contains, IsSome, Some, None, slice_get}
 use Rattle.core_tree.specs.declared.model.Model.{Model}
 use Rattle.core_tree.specs.declared.model.Sig.{Sig}
 use Rattle.core_meaning.specs.declared.scopes.SigScope.{SigScope}
@@ -54,6 +54,11 @@ decides false false rest = rest
 abbrev pub favours : (ℕ → Bool) → List Pair → Bool
 favours x [] = true
 favours x (p ∷ rest) = decides (x p.earlier) (x p.later) (favours x rest)
+
+-- so it is in each list
+abbrev pub favours_all : (ℕ → Bool) → List (List Pair) → Bool
+favours_all x [] = true
+favours_all x (pairs ∷ rest) = favours x pairs && favours_all x rest
 
 -- ---- of a lasso
 

@@ -8,4 +8,4 @@
 
 pub mod pairs;
 
-pub use pairs::Pair;
+pub use pairs::{Pair, PairList};
