@@ -36,9 +36,9 @@ pub record NoneKeeps (prepared : Prepared) (bounds : Bounds) (kept : List ℕ) :
   pub candidates : All IsCovered prepared.target.formulas → (lasso : LassoValue) → IsCandidate bounds lasso → KeepsFacts prepared kept lasso → ⊥
   -- and none at all of at most as many states, where the model is usual
   pub lassos :
-    All IsCovered prepared.target.formulas → IsUsual prepared.model →
-    (lasso : LassoValue) → IsLassoOver prepared.model prepared.scopes lasso → length lasso.states ≤ bounds.states →
-    KeepsFacts prepared kept lasso → ⊥
+      All IsCovered prepared.target.formulas → IsUsual prepared.model →
+      (lasso : LassoValue) → IsLassoOver prepared.model prepared.scopes lasso → length lasso.states ≤ bounds.states →
+      KeepsFacts prepared kept lasso → ⊥
 
 -- what clauses rule out with some facts alone
 abbrev pub KeptFactsRuleOut : Type 0

@@ -21,10 +21,9 @@ mod shrink;
 
 ghost use Rattle.answer_certificates.specs.Kept.{KeptFactsRuleOut};
 
+use bound_laws::satisfying_lassos_are_candidates;
 pub use facts::{Core, NumberList};
 pub use shrink::find_core;
-
-use bound_laws::satisfying_lassos_are_candidates;
 
 /// A law: where clauses rule out what a target does with some of a model's facts alone, no lasso of
 /// at most as many states as the bounds satisfies the declarations, these facts and the command, if

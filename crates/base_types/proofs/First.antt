@@ -86,10 +86,3 @@ take_all (t ∷ told) (suc n) le = ap (λ l. t ∷ l) (take_all told n (omega ar
 pub keeps_holds : {B : Type 0} (holds : B → Option Texts) (start items : List B) (i : ℕ) (b next : B) → map holds items ≡ map holds start →
     b ≡ get_or items i b → holds next ≡ holds b → map holds (set items i next) ≡ map holds start
 keeps_holds holds start items i b next same is keeps = map-set_same holds items i next b (keeps ∙ ap holds is) ∙ same
-
--- after the last library the name is absent
-pub answers_none : {B : Type 0} (holds : B → Option Texts) (items : List B) (name : List ℕ) (most : ℕ) (n : ℕ) (told : List Texts) → map holds items ≡ map (λ t. Some t) told →
-    length items ≤ n → text_of (take n told) name ≡ None → AnswersFirst told name most Absent
-answers_none holds items name most n told tells le none =
-    let all : take n told ≡ told = take_all told n (subst (λ k. k ≤ n) (told_length holds items told tells) le) in
-    ap (option_map (take most)) (sym (subst (λ l. text_of l name ≡ None) all none))

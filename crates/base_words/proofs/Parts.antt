@@ -3,12 +3,9 @@ use Rattle.std.proofs.Common.{◌≡◌, ℕ, zero, suc, ◌+◌, ◌<◌, ◌�
 use Rattle.std.proofs.lemmas.Bool.{ltb-true, ltb-false}
 use Rattle.std.specs.List.{position_or_len, slice_split, filter, prefix_len}
 use Rattle.std.proofs.lemmas.List.{at_drop_more, at_drop_all}
-use Rattle.std.proofs.lemmas.List.Sums.{position_or_len_is, fails_before_first, passes_at_first, prefix_len-le-length}
+use Rattle.std.proofs.lemmas.List.Sums.{position_or_len_is, fails_before_first, passes_at_first}
 use Rattle.std.proofs.lemmas.List.Splits.{slice_split_first, slice_split_none, slice_split-cons_yes}
 use Rattle.base_words.specs.Words.{is_feed, is_blank, parts, words, is_some_word}
-
-pub place_bound : (p : ℕ → Bool) (xs : List ℕ) → position_or_len p xs ≤ length xs
-place_bound p xs = prefix_len-le-length (λ x. not (p x)) xs
 
 pub nowhere : (p : ℕ → Bool) (xs : List ℕ) (n : ℕ) → length xs ≤ n → ((k : ℕ) → k < n → p (get_or xs k 0) ≡ false) → length xs ≡ position_or_len p xs
 nowhere p xs n h none = sym (position_or_len_is p xs (length xs) 0 (omega arith) (λ k below. none k (omega arith)) (λ below. absurd (omega arith)))

@@ -10,7 +10,7 @@ use Rattle.core_meaning.specs.declared.scopes.Scopes.{Scopes}
 use Rattle.core_meaning.specs.Sequence.{LassoValue}
 use Rattle.core_meaning.specs.World.{InRelation}
 use Rattle.core_meaning.specs.Kept.{world_of, first_atom, or_zero_number, IsLiteral}
-use Rattle.core_renaming.specs.Sigs.{IsOwnAtom, KeepsSigs, literal_atom}
+use Rattle.core_renaming.specs.Sigs.{IsTopSigAtom, KeepsSigs, literal_atom}
 use Rattle.core_laws.specs.Typed.{IsTypedLasso, HasColumn, ColumnsHaveAtoms, SigsOfOneAtom}
 use Rattle.core_laws.proofs.Ranges.{IsTopAtom, one_top, among_atoms}
 use Rattle.core_laws.proofs.Climbs.{Climb, Extending, get_within}
@@ -23,11 +23,11 @@ use Rattle.bound_laws.proofs.Owning.{owner_is, owner_place, owner_one, owner_col
 use Rattle.bound_laws.proofs.Places.{owner_low, origin_up}
 
 -- an atom of a top-level sig, by what the scopes say of it
-top_own : (scopes : Scopes) (t a : ℕ) (e : SigScope) → slice_get scopes.numbers t ≡ Some e → IsTopAtom scopes.numbers t a → IsOwnAtom scopes.numbers t e a
-top_own scopes t a e get (low, high) = (low, subst (λ (n : ℕ). a < first_atom scopes.numbers t + n) (ap or_zero_number get) high)
+scoped_of_top : (scopes : Scopes) (t a : ℕ) (e : SigScope) → slice_get scopes.numbers t ≡ Some e → IsTopAtom scopes.numbers t a → IsTopSigAtom scopes.numbers t e a
+scoped_of_top scopes t a e get (low, high) = (low, subst (λ (n : ℕ). a < first_atom scopes.numbers t + n) (ap or_zero_number get) high)
 
-own_top : (scopes : Scopes) (t a : ℕ) (e : SigScope) → slice_get scopes.numbers t ≡ Some e → IsOwnAtom scopes.numbers t e a → IsTopAtom scopes.numbers t a
-own_top scopes t a e get (low, high) = (low, subst (λ (n : ℕ). a < first_atom scopes.numbers t + n) (sym (ap or_zero_number get)) high)
+top_of_scoped : (scopes : Scopes) (t a : ℕ) (e : SigScope) → slice_get scopes.numbers t ≡ Some e → IsTopSigAtom scopes.numbers t e a → IsTopAtom scopes.numbers t a
+top_of_scoped scopes t a e get (low, high) = (low, subst (λ (n : ℕ). a < first_atom scopes.numbers t + n) (sym (ap or_zero_number get)) high)
 
 module _ (model : Model) (scopes : Scopes) (lasso : LassoValue) where
   -- the move of a sig that owns an atom: from the atom that it has to its own
@@ -109,11 +109,11 @@ module _ (model : Model) (scopes : Scopes) (lasso : LassoValue) where
       atom_in s m is = atoms model scopes lasso typed s m.atom (column_of s m is)
 
       -- where one atom of the top-level sig above an owner is a sig's, all are
-      with_another : (s : ℕ) (m : Move) → IsMoveOf s m → (t : ℕ) (e : SigScope) → slice_get scopes.numbers t ≡ Some e → e.top ≡ true → (x y : ℕ) → IsTopAtom scopes.numbers (top_of model.sigs s) x → IsTopAtom scopes.numbers (top_of model.sigs s) y → IsOwnAtom scopes.numbers t e x → IsOwnAtom scopes.numbers t e y
-      with_another s m is t e get top x y one two own =
+      with_another : (s : ℕ) (m : Move) → IsMoveOf s m → (t : ℕ) (e : SigScope) → slice_get scopes.numbers t ≡ Some e → e.top ≡ true → (x y : ℕ) → IsTopAtom scopes.numbers (top_of model.sigs s) x → IsTopAtom scopes.numbers (top_of model.sigs s) y → IsTopSigAtom scopes.numbers t e x → IsTopSigAtom scopes.numbers t e y
+      with_another s m is t e get top x y one two of_sig =
           let mine = move_below s m is in
-          let same : top_of model.sigs s ≡ t = one_top scopes.numbers (top_of model.sigs s) t x mine.scope e mine.scoped mine.marked get top one (own_top scopes t x e get own) in
-          top_own scopes t y e get (subst (λ (u : ℕ). IsTopAtom scopes.numbers u y) same two)
+          let same : top_of model.sigs s ≡ t = one_top scopes.numbers (top_of model.sigs s) t x mine.scope e mine.scoped mine.marked get top one (top_of_scoped scopes t x e get of_sig) in
+          scoped_of_top scopes t y e get (subst (λ (u : ℕ). IsTopAtom scopes.numbers u y) same two)
 
       -- below a literal's top-level sig no sig owns an atom
       no_literal : HasOrigins model.sigs → (q : ℕ) (m : Move) → IsMoveOf q m → (s p : ℕ) (d : Sig) → slice_get model.sigs s ≡ Some d → IsLiteral model scopes d p → (x : ℕ) → IsTopAtom scopes.numbers (top_of model.sigs q) x → IsTopAtom scopes.numbers (top_of model.sigs s) x → ⊥
@@ -131,7 +131,7 @@ module _ (model : Model) (scopes : Scopes) (lasso : LassoValue) where
       -- the renaming that makes such moves keeps the sigs
       pub keeps_sigs : HasOrigins model.sigs → (ms : List Move) → ((m : Move) → Contains ms m → (s : ℕ) × IsMoveOf s m) → KeepsSigs model scopes (moving ms)
       keeps_sigs origins ms are = record {
-        sigs = λ t e get top a. kept (IsOwnAtom scopes.numbers t e) ms (λ m among.
+        sigs = λ t e get top a. kept (IsTopSigAtom scopes.numbers t e) ms (λ m among.
             let (s, is) = are m among in (
               with_another s m is t e get top m.atom m.place (atom_in s m is) (place_in s m is),
               with_another s m is t e get top m.place m.atom (place_in s m is) (atom_in s m is),

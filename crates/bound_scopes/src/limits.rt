@@ -43,7 +43,8 @@ const ROOT: Position = Position {
 /// written out (S49).
 pub fn scopes(alloc: Global, model: &Model, command: u32) -> Result<Scopes, ScopeFault>
     ensures ok { IfOk result (λ s. AreScopes model.now s) }
-    ensures listed { IfSome (slice_get model.now.commands command) (λ c. IfOk result (λ s. All (IsListed s.numbers) c.scope)) }
+    ensures listed { IfSome (slice_get model.now.commands command)
+        (λ c. IfOk result (λ s. All (IsListed s.numbers) c.scope)) }
     ensures absent { length model.now.commands ≤ command → result ≡ Err (Refused no_command) }
     ensures fault { command < length model.now.commands → IfErr result (λ e. IsScopeFault e) }
 {

@@ -17,8 +17,12 @@ ghost use Rattle.core_window.specs.Windows.{Binding, atom_names};
 /// An expression has one number of tuples at a position, and stands for one integer there, in every
 /// environment that gives atoms to names.
 pub fn integers_are_unique()
-    ensures counts { (w : World) (list : List Body) (e : Term) (atoms : List Binding) (i : ℕ) (n m : ℤ) → IsCount w (InTerm w (bodies_of w list) e (atom_names atoms) i) n → IsCount w (InTerm w (bodies_of w list) e (atom_names atoms) i) m → n ≡ m }
-    ensures numbers { (w : World) (list : List Body) (e : Term) (atoms : List Binding) (i : ℕ) (n m : ℤ) → IsNumber w (InTerm w (bodies_of w list) e (atom_names atoms) i) n → IsNumber w (InTerm w (bodies_of w list) e (atom_names atoms) i) m → n ≡ m }
+    ensures counts { (w : World) (list : List Body) (e : Term) (atoms : List Binding) (i : ℕ)
+        (n m : ℤ) → IsCount w (InTerm w (bodies_of w list) e (atom_names atoms) i) n →
+        IsCount w (InTerm w (bodies_of w list) e (atom_names atoms) i) m → n ≡ m }
+    ensures numbers { (w : World) (list : List Body) (e : Term) (atoms : List Binding) (i : ℕ)
+        (n m : ℤ) → IsNumber w (InTerm w (bodies_of w list) e (atom_names atoms) i) n →
+        IsNumber w (InTerm w (bodies_of w list) e (atom_names atoms) i) m → n ≡ m }
 {}
 
 ghost use Rattle.core_laws.specs.Sequences.{SameSatisfied};

@@ -111,7 +111,9 @@ impl Model for Lasso {
 /// isn't below their number.
 pub fn make_lasso(states: Vec<State>, loop_start: u32) -> Option<Lasso>
     requires { length states.items < 2 ^ 32 }
-    ensures { MatchOption result (length states.items ≤ loop_start) (λ l. (loop_start < length states.items) × (l ≡ record { states = states.items; loop_start = loop_start })) }
+    ensures { MatchOption result (length states.items ≤ loop_start)
+        (λ l. (loop_start < length states.items) × (l
+        ≡ record { states = states.items; loop_start = loop_start })) }
 {
     if loop_start as usize >= states.len() {
         return None;

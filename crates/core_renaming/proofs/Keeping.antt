@@ -22,7 +22,7 @@ use Rattle.core_meaning.specs.Called.{bodies_of}
 use Rattle.core_meaning.specs.Kept.{world_of, IsAtomOf, InColumnBound, InRowBound, InSigBound, Keeps, or_zero_number, first_atom, top_above}
 use Rattle.core_meaning.specs.Satisfied.{DeclaresAt, SatisfiesWith}
 use Rattle.core_renaming.specs.Renamings.{Renaming, KeepsIntegers, ShowsRenamed, inverse}
-use Rattle.core_renaming.specs.Sigs.{IsOwnAtom, KeepsSigs, IsWellFormed, DeclarationsKeepTruth, ScopesAreKept, SatisfactionIsKept}
+use Rattle.core_renaming.specs.Sigs.{IsTopSigAtom, KeepsSigs, IsWellFormed, DeclarationsKeepTruth, ScopesAreKept, SatisfactionIsKept}
 use Rattle.core_renaming.proofs.Moves.{same_atom, Moved, onto, alike, moved_by, all_atoms, implied, atoms_moved, atom_moved, inside_moved, multiplicity_moved}
 use Rattle.core_renaming.proofs.Meanings.{relation_moved, integers_are, MovedNames, more_moved, no_names_moved, term_moved, fits_moved, holds_moved, bodies_moved}
 use Rattle.core_renaming.proofs.Targets.{some_to, inverse_integers, inverse_shows, numbers_to}
@@ -34,8 +34,8 @@ use Rattle.core_renaming.proofs.Literals.{bounded_atom}
 pub inverse_keeps : (model : Model) (scopes : Scopes) (r : Renaming) → KeepsSigs model scopes r → KeepsSigs model scopes (inverse r)
 inverse_keeps model scopes r keeps = record {
   sigs = λ s e get top a. (
-    (λ own. (keeps.sigs s e get top (r.from a)).1 (subst (IsOwnAtom scopes.numbers s e) (sym (r.to_from a)) own)),
-    (λ own. subst (IsOwnAtom scopes.numbers s e) (r.to_from a) ((keeps.sigs s e get top (r.from a)).0 own)),
+    (λ of_sig. (keeps.sigs s e get top (r.from a)).1 (subst (IsTopSigAtom scopes.numbers s e) (sym (r.to_from a)) of_sig)),
+    (λ of_sig. subst (IsTopSigAtom scopes.numbers s e) (r.to_from a) ((keeps.sigs s e get top (r.from a)).0 of_sig)),
   );
   integers = inverse_integers scopes r keeps.integers;
   literals = λ s d p get is own. sym (ap r.from (keeps.literals s d p get is own)) ∙ r.from_to _;
@@ -153,8 +153,8 @@ module _ (model : Model) (scopes : Scopes) (r : Renaming) (right : IsWellFormed 
   column_to (SigColumn s) a (e, get, top) inside =
       let number : or_zero_number (slice_get scopes.numbers (top_above model.sigs (length model.sigs) s)) ≡ or_zero e.number = ap or_zero_number get in
       let high = subst (λ n. a < first_atom scopes.numbers (top_above model.sigs (length model.sigs) s) + n) number inside.1 in
-      let own = (keeps.sigs (top_above model.sigs (length model.sigs) s) e get top a).0 (inside.0, high) in
-      (own.0, subst (λ n. r.to a < first_atom scopes.numbers (top_above model.sigs (length model.sigs) s) + n) (sym number) own.1)
+      let of_sig = (keeps.sigs (top_above model.sigs (length model.sigs) s) e get top a).0 (inside.0, high) in
+      (of_sig.0, subst (λ n. r.to a < first_atom scopes.numbers (top_above model.sigs (length model.sigs) s) + n) (sym number) of_sig.1)
 
   row_to : (s : ℕ) (row : TypeRow) (a : ℕ) → Contains (sig_rows model.sigs (length model.sigs) s) row → InRowBound model scopes row (a ∷ []) → InRowBound model scopes row (r.to a ∷ [])
   row_to s [] a among inside = elim inside [ ]

@@ -9,7 +9,7 @@ use Rattle.core_meaning.specs.declared.scopes.Scopes.{Scopes}
 use Rattle.core_meaning.specs.Sequence.{LassoValue}
 use Rattle.core_meaning.specs.Kept.{IsAtomOf, IsLiteral}
 use Rattle.core_renaming.specs.Renamings.{Renaming, ShowsRenamed, inverse}
-use Rattle.core_renaming.specs.Sigs.{IsOwnAtom, KeepsSigs, literal_atom}
+use Rattle.core_renaming.specs.Sigs.{IsTopSigAtom, KeepsSigs, literal_atom}
 
 -- the second after the first
 abbrev pub composed : Renaming → Renaming → Renaming
@@ -67,5 +67,5 @@ IsNoLiteral model scopes a = (s : ℕ) (d : Sig) (p : ℕ) → slice_get model.s
 -- The exchange of two atoms of one top-level sig, neither of them a literal's, keeps the sigs.
 abbrev pub ExchangesKeepSigs : Type 0
 ExchangesKeepSigs =
-    (model : Model) (scopes : Scopes) (s : ℕ) (e : SigScope) (a b : ℕ) → slice_get scopes.numbers s ≡ Some e → e.top ≡ true → IsOwnAtom scopes.numbers s e a → IsOwnAtom scopes.numbers s e b →
+    (model : Model) (scopes : Scopes) (s : ℕ) (e : SigScope) (a b : ℕ) → slice_get scopes.numbers s ≡ Some e → e.top ≡ true → IsTopSigAtom scopes.numbers s e a → IsTopSigAtom scopes.numbers s e b →
     IsNoLiteral model scopes a → IsNoLiteral model scopes b → KeepsSigs model scopes (exchange a b)

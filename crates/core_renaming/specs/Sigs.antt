@@ -15,8 +15,8 @@ use Rattle.core_laws.specs.Typed.{ExtendsPlain, AreScopesOf}
 use Rattle.core_renaming.specs.Renamings.{Renaming, KeepsIntegers, ShowsRenamed}
 
 -- an atom of a top-level sig, of which the scopes say this
-abbrev pub IsOwnAtom : List SigScope → ℕ → SigScope → ℕ → Type 0
-IsOwnAtom numbers s e a = (first_atom numbers s ≤ a) × (a < first_atom numbers s + or_zero e.number)
+abbrev pub IsTopSigAtom : List SigScope → ℕ → SigScope → ℕ → Type 0
+IsTopSigAtom numbers s e a = (first_atom numbers s ≤ a) × (a < first_atom numbers s + or_zero e.number)
 
 -- the atom of a literal's sig, which has this number, under its parent
 abbrev pub literal_atom : Scopes → ℕ → ℕ → ℕ
@@ -25,7 +25,7 @@ literal_atom scopes s p = first_atom scopes.numbers p + (s - p - 1)
 -- The atoms of each top-level sig change places among themselves. Integers stay as they are, and so does the atom of each literal
 -- that is one of the top-level sig above the literal's sig.
 pub record KeepsSigs (model : Model) (scopes : Scopes) (r : Renaming) : Type 0 where
-  pub sigs : (s : ℕ) (e : SigScope) → slice_get scopes.numbers s ≡ Some e → e.top ≡ true → (a : ℕ) → IsOwnAtom scopes.numbers s e a ↔ IsOwnAtom scopes.numbers s e (r.to a)
+  pub sigs : (s : ℕ) (e : SigScope) → slice_get scopes.numbers s ≡ Some e → e.top ≡ true → (a : ℕ) → IsTopSigAtom scopes.numbers s e a ↔ IsTopSigAtom scopes.numbers s e (r.to a)
   pub integers : KeepsIntegers scopes r
   pub literals : (s : ℕ) (d : Sig) (p : ℕ) → slice_get model.sigs s ≡ Some d → IsLiteral model scopes d p → IsAtomOf model scopes s (literal_atom scopes s p) → r.to (literal_atom scopes s p) ≡ literal_atom scopes s p
 

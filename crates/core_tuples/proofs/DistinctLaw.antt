@@ -4,7 +4,7 @@ use Rattle.std.specs.declared.cmp.Ordering.TheVariants.{Less, Equal}
 use Rattle.std.specs.Cmp.{nat_cmp_is}
 use Rattle.std.specs.List.Sorted.{IsStrictlySortedBy, IsNonDecreasingBy}
 use Rattle.std.proofs.lemmas.Bool.{cases_lt, cases_eq, true≢false}
-use Rattle.std.proofs.lemmas.List.{get_or_default, drop_all, append-nil}
+use Rattle.std.proofs.lemmas.List.{get_or_default, append-nil}
 use Rattle.std.proofs.lemmas.List.Elements.{All-nil, All-cons, All-rest}
 use Rattle.std.proofs.lemmas.List.Folds.{list_any-append}
 use Rattle.core_tuples.specs.Index.{IsNumber, index_of}
@@ -119,6 +119,3 @@ module _ (arity : ℕ) (ts : List (List ℕ)) (columns : All (λ t. length t ≡
     pub distinct_step : (b : Bool) (x : List ℕ) → x ≡ get_or ts place x → (b ≡ true) ↔ IsLast ts place → Distinct arity ts (kept ++ chosen b x) (place + 1)
     distinct_step true x is test = subst (λ (u : List ℕ). Distinct arity ts (kept ++ u ∷ []) (place + 1)) (sym (read ts place x lt is)) (distinct_push (test.0 refl))
     distinct_step false x is test = subst (λ (us : List (List ℕ)). Distinct arity ts us (place + 1)) (sym (append-nil kept)) (distinct_skip (λ last. true≢false (sym (test.1 last))))
-
-  pub distinct_all : (kept : List (List ℕ)) (place : ℕ) → length ts ≤ place → Distinct arity ts kept place → (t : List ℕ) → has kept t ≡ has ts t
-  distinct_all kept place over d t = sym (or_false (has kept t)) ∙ ap (λ (zs : List (List ℕ)). has kept t || has zs t) (sym (drop_all place ts over)) ∙ d.truth t

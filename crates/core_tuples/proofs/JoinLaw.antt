@@ -161,6 +161,3 @@ tuple_fits a xs i s n sa all lt is same = (
 -- the rows that a loop adds have the columns of the result
 pub glued_columns : (head : List ℕ) (skip k n : ℕ) (row : List (List ℕ)) → All (λ t. length t ≡ k) row → length head + (k - skip) ≡ n → All (λ t. length head + (length t - skip) ≡ n) row
 glued_columns head skip k n row columns few = λ i d lt. omega (arith, columns i d lt)
-
-pub at_least_one : (a : TupleList) (xs : List (List ℕ)) → IsTupleSet a → xs ≡ a.tuples → All (λ t. 1 ≤ length t) xs
-at_least_one a xs sa all = λ i d lt. let long = subst (λ (es : List (List ℕ)). All (λ t. length t ≡ a.arity) es) (sym all) sa.columns i d lt in omega (arith, sa.least)

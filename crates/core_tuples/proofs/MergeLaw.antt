@@ -1,6 +1,6 @@
 -- A merge of two sets in order, step by step.
-use Rattle.std.proofs.Common.{◌≡◌, ℕ, ◌+◌, ◌<◌, ◌≤◌, List, [], ◌∷◌, ◌++◌, length, All, refl, sym, ap, ◌∙◌, arith, subst, append_assoc, inl, inr, Bool, true, false, ◌&&◌, ◌||◌, if◌then◌else◌, ◌⊎◌, drop, get_or, drop-cons, add-one}
-use Rattle.std.proofs.lemmas.List.{append-nil, get_or_default, drop_all}
+use Rattle.std.proofs.Common.{◌≡◌, ℕ, ◌+◌, ◌<◌, List, [], ◌∷◌, ◌++◌, length, All, refl, sym, ap, ◌∙◌, arith, subst, append_assoc, inl, inr, Bool, true, false, ◌&&◌, ◌||◌, if◌then◌else◌, ◌⊎◌, drop, get_or, drop-cons, add-one}
+use Rattle.std.proofs.lemmas.List.{get_or_default, drop_all}
 use Rattle.std.proofs.lemmas.Bool.{cases_lt}
 use Rattle.core_tuples.proofs.OrderLemmas.{above, same_tuple}
 use Rattle.std.specs.declared.cmp.Ordering.TheVariants.{Less, Equal, Greater}
@@ -174,9 +174,3 @@ module _ (arity : ℕ) (kept : Kept) (whole : List ℕ → Bool) (all xs ys : Li
       both_step arity kept whole all x (drop (i + 1) xs) (get_or ys j []) (drop (j + 1) ys)
       (subst (λ (zs : List (List ℕ)). heads (x ∷ drop (i + 1) xs) zs ≡ Equal) f (subst (λ (zs : List (List ℕ)). heads zs (drop j ys) ≡ Equal) e equal))
       (subst (λ (zs : List (List ℕ)). Merging arity kept whole all (x ∷ drop (i + 1) xs) zs) f (subst (λ (zs : List (List ℕ)). Merging arity kept whole all zs (drop j ys)) e m))
-
-  -- at the end of both, the tuples so far are all
-  pub merged : length xs ≤ i → length ys ≤ j → Merging arity kept whole all (drop i xs) (drop j ys) → IsTupleSet (record { arity = arity; tuples = all }) × ((t : List ℕ) → has all t ≡ whole t)
-  merged le le' m =
-      let n : Merging arity kept whole all [] [] = subst (λ (zs : List (List ℕ)). Merging arity kept whole all [] zs) (drop_all j ys le') (subst (λ (zs : List (List ℕ)). Merging arity kept whole all zs (drop j ys)) (drop_all i xs le) m) in
-      (subst (λ (ts : List (List ℕ)). IsTupleSet (record { arity = arity; tuples = ts })) (append-nil all) n.first, λ t. sym (or_false (has all t)) ∙ n.truth t)

@@ -138,9 +138,6 @@ set_insert arity ts t i s e n g = record {
 pub just_insert : (arity : ℕ) (ts : List (List ℕ)) (t : List ℕ) (i : ℕ) → HasJust (record { arity = arity; tuples = insert ts i t }) arity (λ u. Contains ts u ⊎ (u ≡ t))
 just_insert arity ts t i = record { columns = refl; just = λ u. (insert_cases ts t i u, insert_kept ts t i u) }
 
-pub just_there : (arity : ℕ) (ts : List (List ℕ)) (t : List ℕ) → Contains ts t → HasJust (record { arity = arity; tuples = ts }) arity (λ u. Contains ts u ⊎ (u ≡ t))
-just_there arity ts t h = record { columns = refl; just = λ u. (λ x. inl x, elim [ inl x ↦ x | inr e ↦ subst (λ v. Contains ts v) (sym e) h ]) }
-
 -- what a search for a place tells of membership
 pub found_means : (r : Result ℕ ℕ) (ts : List (List ℕ)) (t : List ℕ) → IfOk r (λ _. Contains ts t) → IfErr r (λ i. IsGap ts t i) → (is_ok r ≡ true) ↔ Contains ts t
 found_means (Ok i) ts t found gap = ((λ _. found), (λ _. refl))

@@ -65,10 +65,6 @@ pub rec_with : {X : Type 0} (P : X → Type 0) (all : List X) (x : X) (xs ys : L
 rec_with P [] x xs ys h k = (h.0, k)
 rec_with P (y ∷ all) x xs ys h k = (h.0, rec_with P all x xs ys h.1 k.1)
 
-pub rec_back : {X : Type 0} (P : X → Type 0) (all xs : List X) → AllByRecursion P (all ++ xs) → AllByRecursion P xs
-rec_back P [] xs h = h
-rec_back P (y ∷ all) xs h = rec_back P all xs h.1
-
 pub rec_more : {X : Type 0} (P Q : X → Type 0) (xs : List X) → ((x : X) → P x → Q x) → AllByRecursion P xs → AllByRecursion Q xs
 rec_more P Q [] f h = tt
 rec_more P Q (x ∷ xs) f h = (f x h.0, rec_more P Q xs f h.1)

@@ -67,7 +67,8 @@ fn merge(
     requires first { IsTupleSet (record { arity = arity; tuples = a.now }) }
     requires second { IsTupleSet (record { arity = arity; tuples = b.now }) }
     ensures arity { IfOk result (λ s. s.arity ≡ arity) }
-    ensures truth { IfOk result (λ s. (t : List ℕ) → has s.tuples t ≡ keeps kept (has a.now t) (has b.now t)) }
+    ensures truth { IfOk result (λ s. (t : List ℕ) →
+        has s.tuples t ≡ keeps kept (has a.now t) (has b.now t)) }
 {
     let mut all = Vec::new(alloc);
     let mut i = 0;

@@ -44,7 +44,9 @@ fn distinct(alloc: Global, arity: u32, tuples: &[Keyed]) -> Result<TupleSet, All
 /// Whether the tuple at the place is the last of those that are the same.
 fn is_last(tuples: &[Keyed], place: usize) -> bool
     requires { place < length tuples.now }
-    ensures { IsTrue result ↔ (place + 1 < length tuples.now → index_of (slice_index_or tuples.now place []) ≢ index_of (slice_index_or tuples.now (place + 1) [])) }
+    ensures { IsTrue result ↔ (place + 1 < length tuples.now →
+        index_of (slice_index_or tuples.now place [])
+        ≢ index_of (slice_index_or tuples.now (place + 1) [])) }
 {
     place + 1 == tuples.len() || tuples[place].index() != tuples[place + 1].index()
 }

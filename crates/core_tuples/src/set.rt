@@ -109,7 +109,8 @@ impl TupleSet {
     pub fn insert(&mut self, tuple: Tuple) -> Result<(), AllocError>
         requires columns { length tuple ≡ self.old.arity }
         requires numbers { All IsNumber tuple }
-        ensures ok { OnOk result (HasJust self.new self.old.arity (λ t. In t self.old ⊎ (t ≡ tuple))) }
+        ensures ok { OnOk result (HasJust self.new self.old.arity
+            (λ t. In t self.old ⊎ (t ≡ tuple))) }
         ensures err { OnErr result (self.new ≡ self.old) }
     {
         // for the proof: a field is read, so that the invariant of the set is at hand

@@ -30,8 +30,10 @@ impl Window {
     pub fn length(&self) -> u64
         requires some { self.now.loop_start < self.now.states }
         requires few { self.now.depth ≤ 8 }
-        ensures number { result ≡ self.now.loop_start + (self.now.depth + 1) * (self.now.states - self.now.loop_start) }
-        ensures end { (lasso : LassoValue) → IsOf self.now lasso → result ≡ window_end lasso self.now.depth }
+        ensures number { result ≡ self.now.loop_start + (self.now.depth + 1) *
+            (self.now.states - self.now.loop_start) }
+        ensures end { (lasso : LassoValue) → IsOf self.now lasso →
+            result ≡ window_end lasso self.now.depth }
     {
         let round = self.states - self.loop_start;
         self.loop_start as u64 + (self.depth as u64 + 1) * round as u64
@@ -42,7 +44,8 @@ impl Window {
     pub fn fold(&self, position: u64) -> u64
         requires some { self.now.loop_start < self.now.states }
         requires few { self.now.depth ≤ 8 }
-        ensures place { (lasso : LassoValue) → IsOf self.now lasso → result ≡ fold_of lasso self.now.depth position }
+        ensures place { (lasso : LassoValue) → IsOf self.now lasso →
+            result ≡ fold_of lasso self.now.depth position }
     {
         let end = self.length();
         let round = (self.states - self.loop_start) as u64;
@@ -59,10 +62,15 @@ impl Window {
 /// tuples one period later, and so at their place in the window. It holds for every formula and
 /// expression, calls and `let` among them, in every environment that gives atoms to names.
 pub fn window_law()
-    ensures formulas { (w : World) (list : List Body) (f : Claim) (atoms : List Binding) (h i : ℕ) → HasLoop w.lasso → past_of (body_depths list) f (atom_depths atoms) ≤ h → h < uncounted → IsFar w.lasso h i →
+    ensures formulas { (w : World) (list : List Body) (f : Claim) (atoms : List Binding) (h i : ℕ) →
+        HasLoop w.lasso → past_of (body_depths list) f (atom_depths atoms) ≤ h → h < uncounted →
+        IsFar w.lasso h i →
         Holds w (bodies_of w list) f (atom_names atoms) i ↔ Holds w (bodies_of w list) f (atom_names atoms) (i + period w.lasso) }
-    ensures terms { (w : World) (list : List Body) (e : Term) (atoms : List Binding) (h i : ℕ) (t : List ℕ) → HasLoop w.lasso → past_in (body_depths list) e (atom_depths atoms) ≤ h → h < uncounted → IsFar w.lasso h i →
+    ensures terms { (w : World) (list : List Body) (e : Term) (atoms : List Binding) (h i : ℕ)
+        (t : List ℕ) → HasLoop w.lasso → past_in (body_depths list) e (atom_depths atoms) ≤ h →
+        h < uncounted → IsFar w.lasso h i →
         InTerm w (bodies_of w list) e (atom_names atoms) i t ↔ InTerm w (bodies_of w list) e (atom_names atoms) (i + period w.lasso) t }
-    ensures folded { (w : World) (list : List Body) (f : Claim) (atoms : List Binding) (h i : ℕ) → HasLoop w.lasso → past_of (body_depths list) f (atom_depths atoms) ≤ h → h < uncounted →
+    ensures folded { (w : World) (list : List Body) (f : Claim) (atoms : List Binding) (h i : ℕ) →
+        HasLoop w.lasso → past_of (body_depths list) f (atom_depths atoms) ≤ h → h < uncounted →
         Holds w (bodies_of w list) f (atom_names atoms) (fold_of w.lasso h i) ↔ Holds w (bodies_of w list) f (atom_names atoms) i }
 {}

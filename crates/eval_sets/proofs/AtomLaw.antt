@@ -54,10 +54,3 @@ module _ (set : TupleList) (is : IsTupleSet set) (one : set.arity ≡ 1) where
         distinct = differ;
         all_and_only = λ x. (to x, from x);
       })
-
--- a set of other columns has no member
-pub none_listed : (set : TupleList) (xs : List ℕ) → IsTupleSet set → set.arity ≢ 1 → xs ≡ [] → IsListOf (λ x. In (x ∷ []) set) xs
-none_listed set xs is other e = subst (λ (ys : List ℕ). IsListOf (λ x. In (x ∷ []) set) ys) (sym e) (record {
-  distinct = λ i j d lt high. absurd (omega arith);
-  all_and_only = λ x. ((λ (k, lt, f). absurd (omega arith)), (λ h. absurd (other (sym (has_columns set (x ∷ []) is h)))));
-})

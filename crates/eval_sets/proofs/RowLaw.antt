@@ -89,9 +89,6 @@ first_row (y ∷ s) row x d some at same t = (
   (λ (z, r, e, f). let here : z ≡ y = cc in f ∙ ap (λ (k : ℕ). k ∷ []) (here ∙ sym at) ∙ sym same),
 )
 
-pub first_never : (s : List ℕ) → length s ≡ 0 → (t : List ℕ) → ¬ GivesFirst s t
-first_never s none t (x, r, e, f) = omega (arith, ap (λ (v : List ℕ). length v) e)
-
 pub twice_row : (s row : List ℕ) (x d : ℕ) → length s ≡ 1 → x ≡ get_or s 0 d → row ≡ x ∷ x ∷ [] → (t : List ℕ) → (t ≡ row) ↔ GivesTwice s t
 twice_row [] row x d one at same t = absurd (omega arith)
 twice_row (y ∷ []) row x d one at same t = (
@@ -99,9 +96,6 @@ twice_row (y ∷ []) row x d one at same t = (
   (λ (z, e, f). let here : z ≡ y = cc in f ∙ ap (λ (k : ℕ). k ∷ k ∷ []) (here ∙ sym at) ∙ sym same),
 )
 twice_row (y ∷ z ∷ s) row x d one at same t = absurd (omega arith)
-
-pub twice_never : (s : List ℕ) → length s ≢ 1 → (t : List ℕ) → ¬ GivesTwice s t
-twice_never s other t (x, e, f) = other (ap (λ (v : List ℕ). length v) e)
 
 pub after_row : (begin s rest row : List ℕ) → s ≡ begin ++ rest → row ≡ rest → (t : List ℕ) → (t ≡ row) ↔ GivesAfter begin s t
 after_row begin s rest row split same t = (

@@ -20,7 +20,8 @@ use std::alloc::{AllocError, Global};
 fn bit_or_false<G: Gates>(gates: &G, set: bool, node: Node) -> Node
     requires { G.belongs gates.now node }
     ensures belongs { G.belongs gates.now result }
-    ensures value { (x : ℕ → Bool) → G.node_value gates.now x result ≡ (set && G.node_value gates.now x node) }
+    ensures value { (x : ℕ → Bool) → G.node_value gates.now x result
+        ≡ (set && G.node_value gates.now x node) }
 {
     if set { node } else { gates.constant(false) }
 }

@@ -16,7 +16,8 @@ fn doubled<G: Gates>(alloc: Global, gates: &mut G, a: &Matrix) -> Result<Matrix,
     ensures keeps { Keeps G.belongs G.node_value gates.old gates.new }
     ensures belongs { IfOk result (λ m. AllBelong (G.belongs gates.new) m.entries) }
     ensures arity { IfOk result (λ m. m.arity ≡ 2) }
-    ensures truth { IfOk result (λ m. (x : ℕ → Bool) (t : List ℕ) → (truth (G.node_value gates.new x) m t ≡ true)
+    ensures truth { IfOk result (λ m. (x : ℕ → Bool) (t : List ℕ) →
+        (truth (G.node_value gates.new x) m t ≡ true)
         ↔ IsReachedWithin (G.node_value gates.old x) a.now 2 t) }
 {
     // for the proof: this call's clause says that it is a matrix
@@ -39,7 +40,8 @@ pub fn closure<G: Gates>(
     ensures keeps { Keeps G.belongs G.node_value gates.old gates.new }
     ensures belongs { IfOk result (λ m. AllBelong (G.belongs gates.new) m.entries) }
     ensures arity { IfOk result (λ m. m.arity ≡ 2) }
-    ensures truth { IfOk result (λ m. (x : ℕ → Bool) (t : List ℕ) → (truth (G.node_value gates.new x) m t ≡ true)
+    ensures truth { IfOk result (λ m. (x : ℕ → Bool) (t : List ℕ) →
+        (truth (G.node_value gates.new x) m t ≡ true)
         ↔ IsReached (G.node_value gates.old x) a.now t) }
 {
     // for the proof: this call's clause says that it is a matrix

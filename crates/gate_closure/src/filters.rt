@@ -88,7 +88,8 @@ fn filtered<G: Gates>(
     ensures keeps { Keeps G.belongs G.node_value gates.old gates.new }
     ensures belongs { IfOk result (λ m. AllBelong (G.belongs gates.new) m.entries) }
     ensures arity { IfOk result (λ m. m.arity ≡ a.now.arity) }
-    ensures truth { IfOk result (λ m. (x : ℕ → Bool) (t : List ℕ) → truth (G.node_value gates.new x) m t
+    ensures truth { IfOk result (λ m. (x : ℕ → Bool) (t : List ℕ) →
+        truth (G.node_value gates.new x) m t
         ≡ (truth (G.node_value gates.old x) a.now t && counts kept (truth (G.node_value gates.old x) s.now (atom_at side t ∷ [])))) }
 {
     let mut all = Vec::new(alloc);
@@ -107,7 +108,8 @@ fn firsts<G: Gates>(alloc: Global, gates: &mut G, a: &Matrix) -> Result<Matrix, 
     ensures keeps { Keeps G.belongs G.node_value gates.old gates.new }
     ensures belongs { IfOk result (λ m. AllBelong (G.belongs gates.new) m.entries) }
     ensures arity { IfOk result (λ m. m.arity ≡ 1) }
-    ensures truth { IfOk result (λ m. (x : ℕ → Bool) (t : List ℕ) → (truth (G.node_value gates.new x) m t ≡ true)
+    ensures truth { IfOk result (λ m. (x : ℕ → Bool) (t : List ℕ) →
+        (truth (G.node_value gates.new x) m t ≡ true)
         ↔ IsFirst (G.node_value gates.old x) a.now t) }
 {
     let mut all = Vec::new(alloc);
@@ -136,7 +138,8 @@ pub fn override_by<G: Gates>(
     ensures keeps { Keeps G.belongs G.node_value gates.old gates.new }
     ensures belongs { IfOk result (λ m. AllBelong (G.belongs gates.new) m.entries) }
     ensures arity { IfOk result (λ m. m.arity ≡ a.now.arity) }
-    ensures truth { IfOk result (λ m. (x : ℕ → Bool) (t : List ℕ) → (truth (G.node_value gates.new x) m t ≡ true)
+    ensures truth { IfOk result (λ m. (x : ℕ → Bool) (t : List ℕ) →
+        (truth (G.node_value gates.new x) m t ≡ true)
         ↔ IsOverridden (G.node_value gates.old x) a.now b.now t) }
 {
     // for the proof: this call's clause says that it is a matrix
@@ -159,7 +162,8 @@ pub fn left_restrict<G: Gates>(
     ensures keeps { Keeps G.belongs G.node_value gates.old gates.new }
     ensures belongs { IfOk result (λ m. AllBelong (G.belongs gates.new) m.entries) }
     ensures arity { IfOk result (λ m. m.arity ≡ b.now.arity) }
-    ensures truth { IfOk result (λ m. (x : ℕ → Bool) (t : List ℕ) → (truth (G.node_value gates.new x) m t ≡ true)
+    ensures truth { IfOk result (λ m. (x : ℕ → Bool) (t : List ℕ) →
+        (truth (G.node_value gates.new x) m t ≡ true)
         ↔ IsLeftRestricted (G.node_value gates.old x) a.now b.now t) }
 {
     // for the proof: this call's clause says that it is a matrix
@@ -180,7 +184,8 @@ pub fn right_restrict<G: Gates>(
     ensures keeps { Keeps G.belongs G.node_value gates.old gates.new }
     ensures belongs { IfOk result (λ m. AllBelong (G.belongs gates.new) m.entries) }
     ensures arity { IfOk result (λ m. m.arity ≡ a.now.arity) }
-    ensures truth { IfOk result (λ m. (x : ℕ → Bool) (t : List ℕ) → (truth (G.node_value gates.new x) m t ≡ true)
+    ensures truth { IfOk result (λ m. (x : ℕ → Bool) (t : List ℕ) →
+        (truth (G.node_value gates.new x) m t ≡ true)
         ↔ IsRightRestricted (G.node_value gates.old x) a.now b.now t) }
 {
     // for the proof: this call's clause says that it is a matrix

@@ -13,7 +13,8 @@ use std::alloc::{AllocError, Global};
 fn node_or_false<G: Gates>(gates: &G, nodes: &[Node], place: usize) -> Node
     requires { AllIn (G.belongs gates.now) nodes.now }
     ensures belongs { G.belongs gates.now result }
-    ensures counts { (x : ℕ → Bool) → count_by (G.node_value gates.now x) (take (place + 1) nodes.now)
+    ensures counts { (x : ℕ → Bool) → count_by (G.node_value gates.now x)
+        (take (place + 1) nodes.now)
         ≡ count_by (G.node_value gates.now x) (take place nodes.now) + bit (G.node_value gates.now x result) }
 {
     if place < nodes.len() {

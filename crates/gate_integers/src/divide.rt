@@ -93,7 +93,8 @@ fn divide<G: Gates>(
         ≡ number (G.node_value gates.old x) a.now) }
     ensures below { IfOk result (λ p. (x : ℕ → Bool) → 0 < number (G.node_value gates.old x) b.now →
         number (G.node_value gates.new x) p.remainder < number (G.node_value gates.old x) b.now) }
-    ensures by_zero { IfOk result (λ p. (x : ℕ → Bool) → number (G.node_value gates.old x) b.now ≡ 0 →
+    ensures by_zero { IfOk result (λ p. (x : ℕ → Bool) →
+        number (G.node_value gates.old x) b.now ≡ 0 →
         number (G.node_value gates.new x) p.quotient + 1 ≡ 2 ^ length a.now) }
 {
     let mut quotient = Bits::new(alloc);

@@ -12,7 +12,8 @@ use std::alloc::{AllocError, Global};
 pub fn zeros<G: Gates>(alloc: Global, gates: &G, width: usize) -> Result<Bits, AllocError>
     ensures belongs { IfOk result (λ bits. AllIn (G.belongs gates.now) bits) }
     ensures width { IfOk result (λ bits. length bits ≡ width) }
-    ensures values { IfOk result (λ bits. (x : ℕ → Bool) → map (G.node_value gates.now x) bits ≡ replicate width false) }
+    ensures values { IfOk result (λ bits. (x : ℕ → Bool) →
+        map (G.node_value gates.now x) bits ≡ replicate width false) }
 {
     let mut bits = Bits::new(alloc);
     for _bit in 0..width {

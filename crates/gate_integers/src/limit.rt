@@ -20,7 +20,8 @@ fn count_one<G: Gates>(
     ensures keeps { Keeps G.belongs G.node_value gates.old gates.new }
     ensures belongs { IfOk result (λ next. AllIn (G.belongs gates.new) next) }
     ensures entries { IfOk result (λ next. length next ≡ length row.now) }
-    ensures counts { IfOk result (λ next. (x : ℕ → Bool) (c : ℕ) → Tells (G.node_value gates.old x) row.now c
+    ensures counts { IfOk result (λ next. (x : ℕ → Bool) (c : ℕ) →
+        Tells (G.node_value gates.old x) row.now c
         → Tells (G.node_value gates.new x) next (c + bit (G.node_value gates.old x node))) }
 {
     let mut next = NodeList::new(alloc);

@@ -32,7 +32,8 @@ pub fn gathered<G: Gates>(
     ensures keeps { Keeps G.belongs G.node_value gates.old gates.new }
     ensures belongs { IfOk result (λ m. AllBelong (G.belongs gates.new) m.entries) }
     ensures arity { IfOk result (λ m. m.arity ≡ arity) }
-    ensures truth { IfOk result (λ m. (x : ℕ → Bool) (t : List ℕ) → truth (G.node_value gates.new x) m t
+    ensures truth { IfOk result (λ m. (x : ℕ → Bool) (t : List ℕ) →
+        truth (G.node_value gates.new x) m t
         ≡ has (G.node_value gates.old x) entries.items t) }
 {
     let mut entries = entries;
@@ -46,7 +47,8 @@ fn run_end(entries: &[Entry], place: usize, index: u128) -> usize
     ensures after { place ≤ result }
     ensures within { result ≤ length entries.now }
     ensures same { AllWithin (λ e. index_of e.tuple ≡ index) entries.now place result }
-    ensures next { (d : MatrixEntry) → result < length entries.now → index_of (slice_index_or entries.now result d).tuple ≢ index }
+    ensures next { (d : MatrixEntry) → result < length entries.now →
+        index_of (slice_index_or entries.now result d).tuple ≢ index }
 {
     let mut end = place;
     while end < entries.len() {
@@ -109,7 +111,8 @@ fn collapsed<G: Gates>(
     ensures keeps { Keeps G.belongs G.node_value gates.old gates.new }
     ensures belongs { IfOk result (λ m. AllBelong (G.belongs gates.new) m.entries) }
     ensures arity { IfOk result (λ m. m.arity ≡ arity) }
-    ensures truth { IfOk result (λ m. (x : ℕ → Bool) (t : List ℕ) → truth (G.node_value gates.new x) m t
+    ensures truth { IfOk result (λ m. (x : ℕ → Bool) (t : List ℕ) →
+        truth (G.node_value gates.new x) m t
         ≡ has (G.node_value gates.old x) entries.now t) }
 {
     let mut all = Vec::new(alloc);

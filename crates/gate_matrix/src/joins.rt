@@ -82,8 +82,10 @@ fn add_row<G: Gates>(
     ensures belongs { OnOk result (AllBelong (G.belongs gates.new) all.new.items) }
     ensures columns { OnOk result ((k : ℕ) → All (λ e. length e.tuple ≡ k) all.old.items
         → All (λ e. length head.now + (length e.tuple - skip) ≡ k) row.now → All (λ e. length e.tuple ≡ k) all.new.items) }
-    ensures numbers { OnOk result (All (λ e. All IsNumber e.tuple) all.old.items → All (λ e. All IsNumber e.tuple) all.new.items) }
-    ensures truth { OnOk result ((x : ℕ → Bool) (t : List ℕ) → has (G.node_value gates.new x) all.new.items t
+    ensures numbers { OnOk result (All (λ e. All IsNumber e.tuple) all.old.items →
+        All (λ e. All IsNumber e.tuple) all.new.items) }
+    ensures truth { OnOk result ((x : ℕ → Bool) (t : List ℕ) →
+        has (G.node_value gates.new x) all.new.items t
         ≡ (has (G.node_value gates.old x) all.old.items t || has_row (G.node_value gates.old x) head.now node skip row.now t)) }
 {
     for entry in row {
@@ -112,7 +114,8 @@ pub fn join<G: Gates>(
     ensures keeps { Keeps G.belongs G.node_value gates.old gates.new }
     ensures belongs { IfOk result (λ m. AllBelong (G.belongs gates.new) m.entries) }
     ensures arity { IfOk result (λ m. m.arity ≡ a.now.arity + b.now.arity - 2) }
-    ensures truth { IfOk result (λ m. (x : ℕ → Bool) (t : List ℕ) → (truth (G.node_value gates.new x) m t ≡ true)
+    ensures truth { IfOk result (λ m. (x : ℕ → Bool) (t : List ℕ) →
+        (truth (G.node_value gates.new x) m t ≡ true)
         ↔ IsJoined (G.node_value gates.old x) a.now b.now t) }
 {
     let mut all = Vec::new(alloc);
@@ -140,7 +143,8 @@ pub fn product<G: Gates>(
     ensures keeps { Keeps G.belongs G.node_value gates.old gates.new }
     ensures belongs { IfOk result (λ m. AllBelong (G.belongs gates.new) m.entries) }
     ensures arity { IfOk result (λ m. m.arity ≡ a.now.arity + b.now.arity) }
-    ensures truth { IfOk result (λ m. (x : ℕ → Bool) (t : List ℕ) → (truth (G.node_value gates.new x) m t ≡ true)
+    ensures truth { IfOk result (λ m. (x : ℕ → Bool) (t : List ℕ) →
+        (truth (G.node_value gates.new x) m t ≡ true)
         ↔ IsPaired (G.node_value gates.old x) a.now b.now t) }
 {
     let mut all = Vec::new(alloc);
@@ -179,7 +183,8 @@ pub fn transpose<G: Gates>(alloc: Global, gates: &mut G, a: &Matrix) -> Result<M
     ensures keeps { Keeps G.belongs G.node_value gates.old gates.new }
     ensures belongs { IfOk result (λ m. AllBelong (G.belongs gates.new) m.entries) }
     ensures arity { IfOk result (λ m. m.arity ≡ 2) }
-    ensures truth { IfOk result (λ m. (x : ℕ → Bool) (t : List ℕ) → (truth (G.node_value gates.new x) m t ≡ true)
+    ensures truth { IfOk result (λ m. (x : ℕ → Bool) (t : List ℕ) →
+        (truth (G.node_value gates.new x) m t ≡ true)
         ↔ IsTurned (G.node_value gates.old x) a.now t) }
 {
     let mut all = Vec::new(alloc);

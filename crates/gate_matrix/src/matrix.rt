@@ -133,8 +133,10 @@ fn discard(_tuple: Tuple) {}
 fn put_entry(entries: &mut Vec<Entry>, tuple: Tuple, node: Node) -> Result<(), AllocError>
     requires matrix { IsMatrix (record { arity = length tuple; entries = entries.old.items }) }
     requires numbers { All IsNumber tuple }
-    ensures matrix { OnOk result (IsMatrix (record { arity = length tuple; entries = entries.new.items })) }
-    ensures ok { OnOk result (IsPut (record { arity = length tuple; entries = entries.old.items }) tuple node (record { arity = length tuple; entries = entries.new.items })) }
+    ensures matrix { OnOk result (IsMatrix (record
+        { arity = length tuple; entries = entries.new.items })) }
+    ensures ok { OnOk result (IsPut (record { arity = length tuple; entries = entries.old.items })
+        tuple node (record { arity = length tuple; entries = entries.new.items })) }
     ensures err { OnErr result (entries.new.items ≡ entries.old.items) }
 {
     match place_of(entries, &tuple) {

@@ -29,7 +29,8 @@ pub enum Rule {
 pub(crate) fn unless_false<G: Gates>(gates: &G, node: Node) -> Option<Node>
     requires { G.belongs gates.now node }
     ensures belongs { ForSome result (λ n. G.belongs gates.now n) }
-    ensures truth { (x : ℕ → Bool) → truth_of (G.node_value gates.now x) result ≡ G.node_value gates.now x node }
+    ensures truth { (x : ℕ → Bool) → truth_of (G.node_value gates.now x) result
+        ≡ G.node_value gates.now x node }
 {
     if node == gates.constant(false) {
         None
@@ -100,7 +101,8 @@ fn add_kept<G: Gates>(
     requires first_belongs { ForSome nodes.0 (λ n. G.belongs gates.old n) }
     requires second_belongs { ForSome nodes.1 (λ n. G.belongs gates.old n) }
     ensures keeps { Keeps G.belongs G.node_value gates.old gates.new }
-    ensures added { OnOk result (IsAdded G.belongs G.node_value gates.new all.old.items all.new.items tuple.now
+    ensures added { OnOk result (IsAdded G.belongs G.node_value gates.new all.old.items
+        all.new.items tuple.now
         (λ x. combine rule (truth_of (G.node_value gates.old x) nodes.0) (truth_of (G.node_value gates.old x) nodes.1))) }
 {
     let node = combined(gates, rule, nodes.0, nodes.1)?;
@@ -111,7 +113,8 @@ fn add_kept<G: Gates>(
 /// Which list goes on with the lower tuple, where they go on at these places; a list that is at its
 /// end counts as above all tuples.
 fn heads_at(a: &[Entry], i: usize, b: &[Entry], j: usize) -> Ordering
-    requires columns { (k : ℕ) × All (λ e. length e.tuple ≡ k) a.now × All (λ e. length e.tuple ≡ k) b.now }
+    requires columns { (k : ℕ) × All (λ e. length e.tuple ≡ k) a.now
+        × All (λ e. length e.tuple ≡ k) b.now }
     requires first { i ≤ length a.now }
     requires second { j ≤ length b.now }
     ensures { result ≡ heads (tuples_of (drop i a.now)) (tuples_of (drop j b.now)) }
@@ -145,7 +148,8 @@ fn merge<G: Gates>(
     ensures keeps { Keeps G.belongs G.node_value gates.old gates.new }
     ensures belongs { IfOk result (λ m. AllBelong (G.belongs gates.new) m.entries) }
     ensures arity { IfOk result (λ m. m.arity ≡ arity) }
-    ensures truth { IfOk result (λ m. (x : ℕ → Bool) (t : List ℕ) → truth (G.node_value gates.new x) m t
+    ensures truth { IfOk result (λ m. (x : ℕ → Bool) (t : List ℕ) →
+        truth (G.node_value gates.new x) m t
         ≡ combine rule (has (G.node_value gates.old x) a.now t) (has (G.node_value gates.old x) b.now t)) }
 {
     let mut all = Vec::new(alloc);
@@ -191,7 +195,8 @@ pub fn union<G: Gates>(
     ensures keeps { Keeps G.belongs G.node_value gates.old gates.new }
     ensures belongs { IfOk result (λ m. AllBelong (G.belongs gates.new) m.entries) }
     ensures arity { IfOk result (λ m. m.arity ≡ a.now.arity) }
-    ensures truth { IfOk result (λ m. (x : ℕ → Bool) (t : List ℕ) → truth (G.node_value gates.new x) m t
+    ensures truth { IfOk result (λ m. (x : ℕ → Bool) (t : List ℕ) →
+        truth (G.node_value gates.new x) m t
         ≡ (truth (G.node_value gates.old x) a.now t || truth (G.node_value gates.old x) b.now t)) }
 {
     merge(
@@ -217,7 +222,8 @@ pub fn intersection<G: Gates>(
     ensures keeps { Keeps G.belongs G.node_value gates.old gates.new }
     ensures belongs { IfOk result (λ m. AllBelong (G.belongs gates.new) m.entries) }
     ensures arity { IfOk result (λ m. m.arity ≡ a.now.arity) }
-    ensures truth { IfOk result (λ m. (x : ℕ → Bool) (t : List ℕ) → truth (G.node_value gates.new x) m t
+    ensures truth { IfOk result (λ m. (x : ℕ → Bool) (t : List ℕ) →
+        truth (G.node_value gates.new x) m t
         ≡ (truth (G.node_value gates.old x) a.now t && truth (G.node_value gates.old x) b.now t)) }
 {
     merge(
@@ -243,7 +249,8 @@ pub fn difference<G: Gates>(
     ensures keeps { Keeps G.belongs G.node_value gates.old gates.new }
     ensures belongs { IfOk result (λ m. AllBelong (G.belongs gates.new) m.entries) }
     ensures arity { IfOk result (λ m. m.arity ≡ a.now.arity) }
-    ensures truth { IfOk result (λ m. (x : ℕ → Bool) (t : List ℕ) → truth (G.node_value gates.new x) m t
+    ensures truth { IfOk result (λ m. (x : ℕ → Bool) (t : List ℕ) →
+        truth (G.node_value gates.new x) m t
         ≡ (truth (G.node_value gates.old x) a.now t && not (truth (G.node_value gates.old x) b.now t))) }
 {
     merge(

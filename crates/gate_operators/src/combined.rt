@@ -142,7 +142,8 @@ fn right_restricted<G: Gates>(
     requires fit { FitTogether RightRestrict a.now.arity b.now.arity }
     ensures keeps { Keeps G.belongs G.node_value gates.old gates.new }
     ensures belongs { IfOk result (λ m. AllBelong (G.belongs gates.new) m.entries) }
-    ensures columns { IfOk result (λ m. m.arity ≡ columns_of RightRestrict a.now.arity b.now.arity) }
+    ensures columns { IfOk result (λ m. m.arity ≡ columns_of RightRestrict a.now.arity
+        b.now.arity) }
     ensures means { IfOk result (λ m. (x : ℕ → Bool) → MeansSet (G.node_value gates.new x) m
         (combined_tuples RightRestrict (set_of (G.node_value gates.old x) a.now) (set_of (G.node_value gates.old x) b.now))) }
 {

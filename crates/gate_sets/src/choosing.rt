@@ -22,7 +22,8 @@ fn masked<G: Gates>(
     ensures keeps { Keeps G.belongs G.node_value gates.old gates.new }
     ensures belongs { IfOk result (λ m. AllBelong (G.belongs gates.new) m.entries) }
     ensures columns { IfOk result (λ m. m.arity ≡ matrix.now.arity) }
-    ensures truth { IfOk result (λ m. (x : ℕ → Bool) (t : List ℕ) → truth (G.node_value gates.new x) m t
+    ensures truth { IfOk result (λ m. (x : ℕ → Bool) (t : List ℕ) →
+        truth (G.node_value gates.new x) m t
         ≡ (G.node_value gates.old x node && truth (G.node_value gates.old x) matrix.now t)) }
 {
     let mut all = Vec::new(alloc);

@@ -81,7 +81,8 @@ fn put_atom<G: Gates>(
     requires { AllBelong (G.belongs gates.now) matrix.old.entries }
     ensures belongs { AllBelong (G.belongs gates.now) matrix.new.entries }
     ensures columns { OnOk result (matrix.new.arity ≡ matrix.old.arity) }
-    ensures truth { OnOk result ((x : ℕ → Bool) (t : List ℕ) → truth (G.node_value gates.now x) matrix.new t
+    ensures truth { OnOk result ((x : ℕ → Bool) (t : List ℕ) →
+        truth (G.node_value gates.now x) matrix.new t
         ≡ (is_same (atom ∷ []) t || truth (G.node_value gates.now x) matrix.old t)) }
 {
     let tuple = Tuple::of(alloc, &[atom])?;
@@ -98,7 +99,8 @@ pub fn atom_matrix<G: Gates>(
 ) -> Result<Matrix, AllocError>
     ensures belongs { IfOk result (λ m. AllBelong (G.belongs gates.now) m.entries) }
     ensures columns { IfOk result (λ m. m.arity ≡ 1) }
-    ensures means { IfOk result (λ m. (x : ℕ → Bool) → MeansSet (G.node_value gates.now x) m (one_atom atom)) }
+    ensures means { IfOk result (λ m. (x : ℕ → Bool) →
+        MeansSet (G.node_value gates.now x) m (one_atom atom)) }
 {
     let mut matrix = Matrix::empty(alloc, 1);
     match atom {
@@ -120,7 +122,8 @@ pub fn range_matrix<G: Gates>(
 ) -> Result<Matrix, AllocError>
     ensures belongs { IfOk result (λ m. AllBelong (G.belongs gates.now) m.entries) }
     ensures columns { IfOk result (λ m. m.arity ≡ 1) }
-    ensures means { IfOk result (λ m. (x : ℕ → Bool) → MeansSet (G.node_value gates.now x) m (from_to first end)) }
+    ensures means { IfOk result (λ m. (x : ℕ → Bool) →
+        MeansSet (G.node_value gates.now x) m (from_to first end)) }
 {
     let mut matrix = Matrix::empty(alloc, 1);
     if end <= first {

@@ -9,7 +9,8 @@ use gate_trait::{Gate, Node};
 /// Whether the first node is an `and` of the second and another.
 fn has_part(store: &CircuitStore, whole: Node, part: Node) -> bool
     requires { BelongsTo store.now whole }
-    ensures { IsTrue result → (x : ℕ → Bool) → value_in store.now x whole ≡ true → value_in store.now x part ≡ true }
+    ensures { IsTrue result → (x : ℕ → Bool) → value_in store.now x whole ≡ true →
+        value_in store.now x part ≡ true }
 {
     // for the proof: this call's clauses say what a store keeps
     let _count = store.gates();
@@ -27,7 +28,8 @@ fn has_part(store: &CircuitStore, whole: Node, part: Node) -> bool
 pub(crate) fn implies(store: &CircuitStore, a: Node, b: Node) -> bool
     requires a_belongs { BelongsTo store.now a }
     requires b_belongs { BelongsTo store.now b }
-    ensures { IsTrue result → (x : ℕ → Bool) → value_in store.now x a ≡ true → value_in store.now x b ≡ true }
+    ensures { IsTrue result → (x : ℕ → Bool) → value_in store.now x a ≡ true →
+        value_in store.now x b ≡ true }
 {
     // for the proof: this call's clauses say what a store keeps
     let _count = store.gates();
@@ -50,7 +52,8 @@ pub(crate) fn implies(store: &CircuitStore, a: Node, b: Node) -> bool
 pub(crate) fn excludes(store: &CircuitStore, a: Node, b: Node) -> bool
     requires a_belongs { BelongsTo store.now a }
     requires b_belongs { BelongsTo store.now b }
-    ensures { IsTrue result → (x : ℕ → Bool) → value_in store.now x a ≡ true → value_in store.now x b ≡ false }
+    ensures { IsTrue result → (x : ℕ → Bool) → value_in store.now x a ≡ true →
+        value_in store.now x b ≡ false }
 {
     implies(store, a, b.opposite())
 }
@@ -59,7 +62,8 @@ pub(crate) fn excludes(store: &CircuitStore, a: Node, b: Node) -> bool
 pub(crate) fn covers(store: &CircuitStore, a: Node, b: Node) -> bool
     requires a_belongs { BelongsTo store.now a }
     requires b_belongs { BelongsTo store.now b }
-    ensures { IsTrue result → (x : ℕ → Bool) → value_in store.now x a ≡ false → value_in store.now x b ≡ true }
+    ensures { IsTrue result → (x : ℕ → Bool) → value_in store.now x a ≡ false →
+        value_in store.now x b ≡ true }
 {
     implies(store, a.opposite(), b)
 }

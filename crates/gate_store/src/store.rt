@@ -60,7 +60,8 @@ fn add_new(
     ensures err { OnErr result (rest.new.items ≡ rest.old.items) }
     ensures err_found { OnErr result ((q : CircuitGate) → get ⟦<Gate as PartialEq>⟧.eq numbers.new q
         ≡ get ⟦<Gate as PartialEq>⟧.eq numbers.old q) }
-    ensures node { IfOk result (λ n. (number_of n ≡ length rest.old.items + 1) × (is_negated n ≡ false)) }
+    ensures node { IfOk result (λ n. (number_of n ≡ length rest.old.items + 1)
+        × (is_negated n ≡ false)) }
 {
     let number = rest.len() as u64 + 1;
     if number >= MOST_GATES - 1 {
@@ -109,7 +110,8 @@ impl CircuitStore {
     /// The number of the gate for an input variable, or None where none was asked for.
     pub fn input_number(&self, variable: u64) -> Option<u64>
         ensures found { IfSome result (λ k. slice_get self.now k ≡ Some (Input variable)) }
-        ensures absent { IfNone result ((k : ℕ) → slice_get self.now k ≡ Some (Input variable) → ⊥) }
+        ensures absent { IfNone result ((k : ℕ) → slice_get self.now k ≡ Some (Input variable) →
+            ⊥) }
     {
         match self.numbers.get(&Gate::Input(variable)) {
             Some(number) => Some(*number),
@@ -122,7 +124,8 @@ impl CircuitStore {
         requires lower { IsAbove (length self.old) gate }
         requires no_constant { is_constant gate ≡ false }
         ensures keeps { Keeps BelongsTo value_in self.old self.new }
-        ensures ok { IfOk result (λ n. Computes BelongsTo value_in self.new n (λ x. gate_value (values self.old x) x gate)) }
+        ensures ok { IfOk result (λ n. Computes BelongsTo value_in self.new n
+            (λ x. gate_value (values self.old x) x gate)) }
     {
         match self.numbers.get(&gate) {
             Some(number) => Ok(Node::of_gate(*number)),

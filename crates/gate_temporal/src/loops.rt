@@ -36,7 +36,8 @@ pub fn chosen<G: Gates>(
     requires lengths { length choices.now ≡ length values.now }
     ensures keeps { Keeps G.belongs G.node_value gates.old gates.new }
     ensures belongs { IfOk result (λ n. G.belongs gates.new n) }
-    ensures truth { IfOk result (λ n. (x : ℕ → Bool) (k : ℕ) → IsOnly (G.node_value gates.old x) choices.now k
+    ensures truth { IfOk result (λ n. (x : ℕ → Bool) (k : ℕ) →
+        IsOnly (G.node_value gates.old x) choices.now k
         → G.node_value gates.new x n ≡ row_value (G.node_value gates.old x) values.now k) }
 {
     let mut answer = gates.constant(false);

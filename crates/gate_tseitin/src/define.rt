@@ -20,7 +20,8 @@ fn literal(names: &Names, node: Node) -> i64
     requires there { number_of node < length names.now.list.items }
     ensures literal { IsLiteral result }
     ensures is { result ≡ literal_of names.now.list.items node }
-    ensures value { (v : ℕ → Bool) → literal_value v result ≡ value_among (named_values v names.now.list.items) node }
+    ensures value { (v : ℕ → Bool) → literal_value v result
+        ≡ value_among (named_values v names.now.list.items) node }
 {
     let name = names.list[node.number() as usize] as i64;
     if node.negated() { -name } else { name }
@@ -32,7 +33,8 @@ fn clause_of(alloc: Global, names: &Names, nodes: &[Node], most: u64) -> Result<
     requires there { All (λ n. number_of n < length names.now.list.items) nodes.now }
     ensures is { IfOk result (λ c. c ≡ map (literal_of names.now.list.items) nodes.now) }
     ensures within { IfOk result (λ c. IsWithin most c) }
-    ensures value { IfOk result (λ c. (v : ℕ → Bool) → clause_value v c ≡ any_node (named_values v names.now.list.items) nodes.now) }
+    ensures value { IfOk result (λ c. (v : ℕ → Bool) →
+        clause_value v c ≡ any_node (named_values v names.now.list.items) nodes.now) }
 {
     let mut clause = Clause::new(alloc);
     for node in nodes {
@@ -51,7 +53,8 @@ pub fn add_clause(
     requires room { names.now.count ≤ cnf.old.variables }
     requires there { All (λ n. number_of n < length names.now.list.items) nodes.now }
     ensures variables { OnOk result (cnf.new.variables ≡ cnf.old.variables) }
-    ensures is { OnOk result (cnf.new.clauses ≡ cnf.old.clauses ++ map (literal_of names.now.list.items) nodes.now ∷ []) }
+    ensures is { OnOk result (cnf.new.clauses ≡ cnf.old.clauses
+        ++ map (literal_of names.now.list.items) nodes.now ∷ []) }
     ensures value { OnOk result ((v : ℕ → Bool) → satisfied v cnf.new.clauses
         ≡ (satisfied v cnf.old.clauses && any_node (named_values v names.now.list.items) nodes.now)) }
 {
@@ -73,7 +76,8 @@ fn define_and(
     requires a_there { number_of a < length names.now.list.items }
     requires b_there { number_of b < length names.now.list.items }
     ensures variables { OnOk result (cnf.new.variables ≡ cnf.old.variables) }
-    ensures value { OnOk result ((v : ℕ → Bool) → satisfied v cnf.new.clauses ≡ (satisfied v cnf.old.clauses
+    ensures value { OnOk result ((v : ℕ → Bool) → satisfied v cnf.new.clauses
+        ≡ (satisfied v cnf.old.clauses
         && alike (value_among (named_values v names.now.list.items) output)
         (value_among (named_values v names.now.list.items) a && value_among (named_values v names.now.list.items) b))) }
 {
@@ -96,7 +100,8 @@ fn define_or(
     requires a_there { number_of a < length names.now.list.items }
     requires b_there { number_of b < length names.now.list.items }
     ensures variables { OnOk result (cnf.new.variables ≡ cnf.old.variables) }
-    ensures value { OnOk result ((v : ℕ → Bool) → satisfied v cnf.new.clauses ≡ (satisfied v cnf.old.clauses
+    ensures value { OnOk result ((v : ℕ → Bool) → satisfied v cnf.new.clauses
+        ≡ (satisfied v cnf.old.clauses
         && alike (value_among (named_values v names.now.list.items) output)
         ((value_among (named_values v names.now.list.items) a) || (value_among (named_values v names.now.list.items) b)))) }
 {
@@ -119,7 +124,8 @@ fn define_where(
     requires condition_there { number_of condition < length names.now.list.items }
     requires node_there { number_of node < length names.now.list.items }
     ensures variables { OnOk result (cnf.new.variables ≡ cnf.old.variables) }
-    ensures value { OnOk result ((v : ℕ → Bool) → satisfied v cnf.new.clauses ≡ (satisfied v cnf.old.clauses
+    ensures value { OnOk result ((v : ℕ → Bool) → satisfied v cnf.new.clauses
+        ≡ (satisfied v cnf.old.clauses
         && (not (value_among (named_values v names.now.list.items) condition)
         || alike (value_among (named_values v names.now.list.items) output) (value_among (named_values v names.now.list.items) node)))) }
 {
@@ -151,7 +157,8 @@ fn define_xor(
     requires a_there { number_of a < length names.now.list.items }
     requires b_there { number_of b < length names.now.list.items }
     ensures variables { OnOk result (cnf.new.variables ≡ cnf.old.variables) }
-    ensures value { OnOk result ((v : ℕ → Bool) → satisfied v cnf.new.clauses ≡ (satisfied v cnf.old.clauses
+    ensures value { OnOk result ((v : ℕ → Bool) → satisfied v cnf.new.clauses
+        ≡ (satisfied v cnf.old.clauses
         && alike (value_among (named_values v names.now.list.items) output)
         (xor (value_among (named_values v names.now.list.items) a) (value_among (named_values v names.now.list.items) b)))) }
 {
@@ -175,7 +182,8 @@ fn define_choose(
     requires a_there { number_of a < length names.now.list.items }
     requires b_there { number_of b < length names.now.list.items }
     ensures variables { OnOk result (cnf.new.variables ≡ cnf.old.variables) }
-    ensures value { OnOk result ((v : ℕ → Bool) → satisfied v cnf.new.clauses ≡ (satisfied v cnf.old.clauses
+    ensures value { OnOk result ((v : ℕ → Bool) → satisfied v cnf.new.clauses
+        ≡ (satisfied v cnf.old.clauses
         && alike (value_among (named_values v names.now.list.items) output)
         (if value_among (named_values v names.now.list.items) c
         then value_among (named_values v names.now.list.items) a
@@ -251,7 +259,8 @@ pub fn define_all(
     requires room { names.now.count ≤ cnf.old.variables }
     requires each { length names.now.list.items ≡ length store.now }
     requires marks_each { length marks.now ≡ length store.now }
-    requires named { (k : ℕ) (g : CircuitGate) → slice_get store.now k ≡ Some g → IsNamed names.now.list.items k g }
+    requires named { (k : ℕ) (g : CircuitGate) → slice_get store.now k ≡ Some g →
+        IsNamed names.now.list.items k g }
     ensures variables { OnOk result (cnf.new.variables ≡ cnf.old.variables) }
     ensures value { OnOk result ((v : ℕ → Bool) → satisfied v cnf.new.clauses
         ≡ (satisfied v cnf.old.clauses && all_defined v marks.now names.now.list.items 0 store.now)) }

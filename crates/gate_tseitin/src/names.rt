@@ -109,7 +109,8 @@ pub fn names_of(
     requires each { length marks.now ≡ length store.now }
     requires sure_there { BelongsTo store.now sure }
     requires sure_marked { HasMark marks.now sure }
-    ensures names { IfOk result (λ names. names.list.items ≡ names_from marks.now (input_count store.now + 1) 0 store.now) }
+    ensures names { IfOk result (λ names. names.list.items
+        ≡ names_from marks.now (input_count store.now + 1) 0 store.now) }
     ensures count { IfOk result (λ names. names.count ≡ variable_count marks.now store.now) }
 {
     let mut list = Vec::new(alloc);

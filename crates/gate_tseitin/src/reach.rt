@@ -59,7 +59,8 @@ fn mark_parts(marks: &mut [bool], gate: Gate)
 fn mark_below(marks: &mut [bool], number: u64, gate: Gate)
     requires there { number < length marks.old }
     requires above { IsAbove (length marks.old) gate }
-    ensures { marks.new ≡ (if marked marks.old number then with_parts marks.old gate else marks.old) }
+    ensures { marks.new ≡ (if marked marks.old number then with_parts marks.old gate else
+        marks.old) }
 {
     if is_marked(marks, number) {
         mark_parts(marks, gate);
@@ -71,7 +72,8 @@ fn mark_all(marks: &mut [bool], nodes: &[Node])
     requires { All (λ n. number_of n < length marks.old) nodes.now }
     ensures grows { Grows marks.old marks.new }
     ensures marked { All (λ n. HasMark marks.new n) nodes.now }
-    ensures fewest { (other : List Bool) → All (HasMark other) nodes.now → Grows marks.old other → Grows marks.new other }
+    ensures fewest { (other : List Bool) → All (HasMark other) nodes.now → Grows marks.old other →
+        Grows marks.new other }
 {
     for node in nodes {
         mark(marks, *node);
@@ -83,7 +85,8 @@ fn spread(marks: &mut [bool], store: &CircuitStore)
     requires { length marks.old ≡ length store.now }
     ensures grows { Grows marks.old marks.new }
     ensures closed { IsClosed marks.new store.now }
-    ensures fewest { (other : List Bool) → IsClosed other store.now → Grows marks.old other → Grows marks.new other }
+    ensures fewest { (other : List Bool) → IsClosed other store.now → Grows marks.old other →
+        Grows marks.new other }
 {
     let gates = store.gates();
     for step in 0..gates {
@@ -98,7 +101,8 @@ fn mark_reached(marks: &mut [bool], store: &CircuitStore, sure: Node, roots: &[N
     requires sure_there { BelongsTo store.now sure }
     requires roots_there { All (λ n. BelongsTo store.now n) roots.now }
     ensures reached { AreReached store.now sure roots.now marks.new }
-    ensures fewest { (other : List Bool) → AreReached store.now sure roots.now other → Grows marks.old other → Grows marks.new other }
+    ensures fewest { (other : List Bool) → AreReached store.now sure roots.now other →
+        Grows marks.old other → Grows marks.new other }
     ensures layered { IsLayered store.now }
 {
     // for the proof: this call's clauses say what a store keeps
@@ -118,7 +122,8 @@ pub fn reached(
     requires sure_there { BelongsTo store.now sure }
     requires roots_there { All (λ n. BelongsTo store.now n) roots.now }
     ensures reached { IfOk result (λ marks. AreReached store.now sure roots.now marks.items) }
-    ensures fewest { IfOk result (λ marks. (other : List Bool) → AreReached store.now sure roots.now other → Grows marks.items other) }
+    ensures fewest { IfOk result (λ marks. (other : List Bool) →
+        AreReached store.now sure roots.now other → Grows marks.items other) }
     ensures layered { IfOk result (λ _. IsLayered store.now) }
 {
     let mut marks = vec![in alloc; false; store.gates() as usize]?;

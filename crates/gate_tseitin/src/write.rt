@@ -20,7 +20,8 @@ fn add_units(alloc: Global, cnf: &mut Cnf, names: &Names, roots: &[Node]) -> Res
     requires room { names.now.count ≤ cnf.old.variables }
     requires there { All (λ n. number_of n < length names.now.list.items) roots.now }
     ensures variables { OnOk result (cnf.new.variables ≡ cnf.old.variables) }
-    ensures units { OnOk result (cnf.new.clauses ≡ cnf.old.clauses ++ map (unit_of names.now.list.items) roots.now) }
+    ensures units { OnOk result (cnf.new.clauses ≡ cnf.old.clauses
+        ++ map (unit_of names.now.list.items) roots.now) }
 {
     for root in roots {
         add_clause(alloc, cnf, names, &[*root])?;
@@ -38,14 +39,16 @@ fn clauses_with(
     sure: Node,
     roots: &[Node],
 ) -> Result<Cnf, AllocError>
-    requires named { names.now.list.items ≡ names_from marks.now (input_count store.now + 1) 0 store.now }
+    requires named { names.now.list.items ≡ names_from marks.now (input_count store.now + 1) 0
+        store.now }
     requires counted { names.now.count ≡ variable_count marks.now store.now }
     requires reached { AreReached store.now sure roots.now marks.now }
     requires layered { IsLayered store.now }
     requires sure_there { BelongsTo store.now sure }
     requires roots_there { All (λ n. BelongsTo store.now n) roots.now }
     requires inputs { AreNumbered store.now }
-    ensures written { IfOk result (λ cnf. IsWritten store.now sure roots.now cnf.variables cnf.clauses) }
+    ensures written { IfOk result (λ cnf. IsWritten store.now sure roots.now cnf.variables
+        cnf.clauses) }
     ensures variables { IfOk result (λ cnf. cnf.variables ≡ names.now.count) }
 {
     let mut cnf = Cnf {
@@ -76,8 +79,10 @@ pub fn write_clauses(
     requires sure_there { BelongsTo store.now sure }
     requires roots_there { All (λ n. BelongsTo store.now n) roots.now }
     requires inputs { AreNumbered store.now }
-    ensures written { IfOk result (λ cnf. IsWritten store.now sure roots.now cnf.variables cnf.clauses) }
-    ensures fewest { IfOk result (λ cnf. (marks : List Bool) → AreReached store.now sure roots.now marks
+    ensures written { IfOk result (λ cnf. IsWritten store.now sure roots.now cnf.variables
+        cnf.clauses) }
+    ensures fewest { IfOk result (λ cnf. (marks : List Bool) →
+        AreReached store.now sure roots.now marks
         → cnf.variables ≤ variable_count marks store.now) }
 {
     let nodes = roots.as_slice();

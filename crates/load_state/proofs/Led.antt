@@ -144,6 +144,12 @@ arguments_next instances texts number names arguments place next name argument b
     (λ m b x y. subst (λ (o : Option SigRef). P m o) (same_Some argument b (sym is_argument ∙ y)) (subst (λ (o : SigName). P o argument) (same_Some name m (sym is_name ∙ x)) right))
     is below (cases_eq k place) n a here there
 
+-- an open that leads where the asking of its place says
+pub led_here : (asked : List Asked) (root : List ℕ) (instances : List Instance) (texts : List Text) (number place : ℕ) (tree : Module) (opened : Opened) (right : Opening) → slice_get (openings_of tree) place ≡ Some right →
+    IsLed (IsAnswered asked root) instances texts number right opened → (o : Opening) → slice_get (openings_of tree) place ≡ Some o → IsLed (IsAnswered asked root) instances texts number o opened
+led_here asked root instances texts number place tree opened right here led o at =
+    subst (λ (x : Opening). IsLed (IsAnswered asked root) instances texts number x opened) (same_Some right o (sym here ∙ at)) led
+
 -- one open more
 pub led_next : (asked : List Asked) (root : List ℕ) (instances : List Instance) (texts : List Text) (number place next : ℕ) (tree : Module) (opens : List Opened) (opened : Opened) →
     ((k : ℕ) (o : Opening) → k < place → slice_get (openings_of tree) k ≡ Some o → (d : Opened) × (slice_get opens k ≡ Some d) × IsLed (IsAnswered asked root) instances texts number o d) →

@@ -1,5 +1,4 @@
 //! An argument of an open stands for a sig, or for `Int`.
-#![tactic(auto, using(crate::proofs::Faults::refusal_is_quiet, crate::proofs::Refusals::refused_argument))]
 
 ghost use Rattle.std.specs.Prelude.{IfErr, IfOk};
 ghost use Rattle.load_state.specs.Causes.{IsQuietFault};
@@ -49,6 +48,7 @@ impl Found {
 }
 
 /// The one sig for which an argument stands, or none where it is `Int`.
+#[tactic(auto, using(crate::proofs::Faults::refusal_is_quiet, crate::proofs::Refusals::refused_argument))]
 pub fn argument(
     alloc: Global,
     opener: Opener,

@@ -37,7 +37,8 @@ pub fn finished_model(
     root: &str,
 ) -> Result<Loaded, AllocError>
     ensures texts { IfOk result (λ m. m.texts ≡ map (λ s. s.text) loading.sources.items) }
-    ensures led { IfOk result (λ m. AllLed (IsAnswered loading.asked.items root.now) m.instances m.texts) }
+    ensures led { IfOk result (λ m. AllLed (IsAnswered loading.asked.items root.now) m.instances
+        m.texts) }
     ensures instances { IfOk result (λ m. pairs_of m.instances ≡ map pair_of loading.keys.items) }
 {
     let Loading {
@@ -97,7 +98,8 @@ fn led_instances(
     integer: Option<usize>,
 ) -> Result<InstanceList, AllocError>
     ensures pairs { IfOk result (λ instances. pairs_of instances ≡ map pair_of keys.items) }
-    ensures led { IfOk result (λ instances. AllLed (IsAnswered asked.now.items root.now) instances (texts_of sources.now.items)) }
+    ensures led { IfOk result (λ instances. AllLed (IsAnswered asked.now.items root.now) instances
+        (texts_of sources.now.items)) }
 {
     let instances = instances_of(alloc, keys, finished, integer)?;
     let led = all_led(alloc, asked, root, sources, instances.as_slice())?;
@@ -105,6 +107,14 @@ fn led_instances(
         return Err(AllocError);
     }
     Ok(instances)
+}
+
+/// The text of the instance of this number.
+fn text_of(keys: &[Key], instance: usize) -> Option<u32> {
+    match keys.get(instance) {
+        Some(key) => Some(key.text),
+        None => None,
+    }
 }
 
 /// The instances with their opens.
@@ -117,7 +127,7 @@ fn instances_of(
     ensures { IfOk result (λ instances. pairs_of instances ≡ map pair_of keys.items) }
 {
     let integer_text = match integer {
-        Some(instance) => keys.get(instance).map(|key| key.text),
+        Some(instance) => text_of(&keys, instance),
         None => None,
     };
     let mut instances = Items::new(alloc);

@@ -38,7 +38,8 @@ fn is_closed(texts: &[Text], sigs: &[usize], instances: &[Instance], instance: &
 
 /// Whether each argument is `Int` or a sig that is there.
 fn are_arguments(sigs: &[usize], instances: &[Instance], arguments: &[Option<SigRef>]) -> bool
-    ensures { (texts : List Text) → sigs.now ≡ map (λ t. sig_count t.tree) texts → result ≡ list_all (is_argument texts instances.now) arguments.now }
+    ensures { (texts : List Text) → sigs.now ≡ map (λ t. sig_count t.tree) texts →
+        result ≡ list_all (is_argument texts instances.now) arguments.now }
 {
     let mut all = true;
     for argument in arguments {
@@ -49,7 +50,8 @@ fn are_arguments(sigs: &[usize], instances: &[Instance], arguments: &[Option<Sig
 
 /// Whether the argument is `Int` or a sig that is there.
 fn is_argument(sigs: &[usize], instances: &[Instance], argument: Option<SigRef>) -> bool
-    ensures { (texts : List Text) → sigs.now ≡ map (λ t. sig_count t.tree) texts → result ≡ is_argument texts instances.now argument }
+    ensures { (texts : List Text) → sigs.now ≡ map (λ t. sig_count t.tree) texts →
+        result ≡ is_argument texts instances.now argument }
 {
     match argument {
         Some(sig) => is_sig(sigs, instances, sig),
@@ -60,7 +62,8 @@ fn is_argument(sigs: &[usize], instances: &[Instance], argument: Option<SigRef>)
 /// Whether the sig is there.
 #[tactic(auto, using(crate::proofs::Ranges::sig_is))]
 fn is_sig(sigs: &[usize], instances: &[Instance], sig: SigRef) -> bool
-    ensures { (texts : List Text) → sigs.now ≡ map (λ t. sig_count t.tree) texts → result ≡ is_sig texts instances.now sig }
+    ensures { (texts : List Text) → sigs.now ≡ map (λ t. sig_count t.tree) texts →
+        result ≡ is_sig texts instances.now sig }
 {
     match instances.get(sig.instance as usize) {
         Some(instance) => is_below(sig.sig, sigs.get(instance.text as usize).copied()),

@@ -82,7 +82,8 @@ fn field_names(sig: &Sig) -> Result<usize, AllocError>
 }
 
 fn parameter_names(parameters: &Option<Parameters>) -> Result<usize, AllocError>
-    ensures { IfOk result (λ n. MatchOption parameters.now (n ≡ 0) (λ p. n ≡ sum_by (λ d. length d.names) p.decls)) }
+    ensures { IfOk result (λ n. MatchOption parameters.now (n ≡ 0)
+        (λ p. n ≡ sum_by (λ d. length d.names) p.decls)) }
 {
     match parameters {
         Some(parameters) => decl_names(parameters.decls.as_slice()),

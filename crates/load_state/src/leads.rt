@@ -1,5 +1,4 @@
 //! Whether the opens of a model lead where they should.
-#![tactic(auto, using(crate::proofs::Led::near_answered, crate::proofs::Led::far_answered, crate::proofs::Led::leads_to, crate::proofs::Led::written_led, crate::proofs::Led::implied_led, crate::proofs::Led::ends_here, crate::proofs::Led::ends_after, crate::proofs::Led::integers_led, crate::proofs::Led::same_bytes, crate::proofs::Led::declared_by, crate::proofs::Led::text_of_source, crate::proofs::Led::sig_stands, crate::proofs::Led::parameter_stands, crate::proofs::Led::given_by, crate::proofs::Led::parameter_here, crate::proofs::Led::instance_led, crate::proofs::Opens::openings_counted))]
 
 ghost use Rattle.std.specs.Prelude.{◌≡◌, ◌∷◌, [], true, IfOk, IfSome, length, slice_get, Some};
 ghost use Rattle.load_state.specs.Keys.{texts_of};
@@ -18,6 +17,7 @@ use std::alloc::{AllocError, Global};
 use syntax_tree::{Header, Instance, Open, Opened, Parameter, QualName, SigName, SigRef};
 
 /// Whether this is the text of a path, by what was answered for its two names.
+#[tactic(auto, using(crate::proofs::Led::near_answered, crate::proofs::Led::far_answered))]
 fn is_answered(
     alloc: Global,
     asked: &[Asked],
@@ -50,6 +50,7 @@ fn is_text(answer: Option<Option<u32>>, text: u32) -> bool
 }
 
 /// The instance to which an open leads, where the open has this alias and the instance is one of the text of this path.
+#[tactic(auto, using(crate::proofs::Led::leads_to))]
 fn target_of<'a>(
     alloc: Global,
     asked: &[Asked],
@@ -59,7 +60,9 @@ fn target_of<'a>(
     alias: &str,
     path: &str,
 ) -> Result<Option<&'a Instance>, AllocError>
-    ensures { IfOk result (λ found. IfSome found (λ target. LeadsTo (IsAnswered asked.now root.now) instances.now alias.now path.now opened.now target.now)) }
+    ensures { IfOk result (λ found. IfSome found (λ target.
+        LeadsTo (IsAnswered asked.now root.now) instances.now alias.now path.now opened.now
+        target.now)) }
 {
     match instances.get(opened.instance as usize) {
         Some(target) => {
@@ -75,6 +78,7 @@ fn target_of<'a>(
 }
 
 /// Whether an open has this alias.
+#[tactic(auto, using(crate::proofs::Led::same_bytes))]
 fn is_alias(opened: &Opened, alias: &str) -> bool
     ensures { result ≡ true → opened.now.alias ≡ alias.now }
 {
@@ -82,6 +86,7 @@ fn is_alias(opened: &Opened, alias: &str) -> bool
 }
 
 /// Whether a text's sig of this number has this name, and may be seen where it is sought.
+#[tactic(auto, using(crate::proofs::Led::same_bytes, crate::proofs::Led::declared_by))]
 fn is_declared(source: &Source, number: u32, name: &str, harmless: bool) -> bool
     ensures { result ≡ true → IsDeclared source.now.text.tree number name.now (harmless ≡ true) }
 {
@@ -92,8 +97,10 @@ fn is_declared(source: &Source, number: u32, name: &str, harmless: bool) -> bool
 }
 
 /// The text of an instance.
+#[tactic(auto, using(crate::proofs::Led::text_of_source))]
 fn source_at<'a>(sources: &'a [Source], instance: &Instance) -> Option<&'a Source>
-    ensures { IfSome result (λ source. slice_get (texts_of sources.now) instance.now.text ≡ Some source.now.text) }
+    ensures { IfSome result (λ source. slice_get (texts_of sources.now) instance.now.text
+        ≡ Some source.now.text) }
 {
     sources.get(instance.text as usize)
 }
@@ -119,7 +126,8 @@ fn is_sig_named(
     written: &QualName,
     argument: Option<SigRef>,
 ) -> bool
-    ensures { result ≡ true → StandsFor instances.now (texts_of sources.now) number written.now argument }
+    ensures { result ≡ true → StandsFor instances.now (texts_of sources.now) number written.now
+        argument }
 {
     let name = last_part(written.parts.as_slice());
     match argument {
@@ -139,12 +147,14 @@ fn is_sig_named(
 
 /// The parameter of this place.
 fn parameter_at<'a>(header: &'a Header, place: usize) -> Option<&'a Parameter>
-    ensures { IfSome result (λ parameter. slice_get header.now.parameters place ≡ Some parameter.now) }
+    ensures { IfSome result (λ parameter. slice_get header.now.parameters place
+        ≡ Some parameter.now) }
 {
     header.parameters.as_slice().get(place)
 }
 
 /// Whether a parameter has this name.
+#[tactic(auto, using(crate::proofs::Led::same_bytes))]
 fn is_parameter_named(parameter: &Parameter, name: &Name) -> bool
     ensures { result ≡ true → parameter.now.name.name ≡ name.now }
 {
@@ -152,6 +162,7 @@ fn is_parameter_named(parameter: &Parameter, name: &Name) -> bool
 }
 
 /// Whether the parameter of this place has this name.
+#[tactic(auto, using(crate::proofs::Led::parameter_here))]
 fn has_parameter(header: &Option<Header>, place: usize, name: &Name) -> bool
     ensures { result ≡ true → slice_get (header_names header.now) place ≡ Some name.now }
 {
@@ -175,6 +186,7 @@ fn has_argument(arguments: &[Option<SigRef>], place: usize, argument: Option<Sig
 }
 
 /// Whether an instance of a text has this argument for its parameter of this name.
+#[tactic(auto, using(crate::proofs::Led::given_by))]
 fn is_given(
     source: &Source,
     arguments: &[Option<SigRef>],
@@ -210,7 +222,8 @@ fn is_parameter(
     written: &QualName,
     argument: Option<SigRef>,
 ) -> bool
-    ensures { result ≡ true → StandsFor instances.now (texts_of sources.now) number written.now argument }
+    ensures { result ≡ true → StandsFor instances.now (texts_of sources.now) number written.now
+        argument }
 {
     match only_part(written.parts.as_slice()) {
         Some(part) => match instance_at(instances, number) {
@@ -232,7 +245,8 @@ fn is_argument(
     written: &SigName,
     argument: Option<SigRef>,
 ) -> bool
-    ensures { result ≡ true → IsArgument instances.now (texts_of sources.now) number written.now argument }
+    ensures { result ≡ true → IsArgument instances.now (texts_of sources.now) number written.now
+        argument }
 {
     match written {
         SigName::Int(_) => argument.is_none(),
@@ -251,7 +265,8 @@ fn are_arguments(
     names: &[SigName],
     arguments: &[Option<SigRef>],
 ) -> bool
-    ensures { result ≡ true → AreArguments instances.now (texts_of sources.now) number names.now arguments.now }
+    ensures { result ≡ true → AreArguments instances.now (texts_of sources.now) number names.now
+        arguments.now }
 {
     if names.len() != arguments.len() {
         return false;
@@ -275,6 +290,7 @@ fn alias_of(asked: &Open) -> &str
 }
 
 /// Whether a written open leads where it should.
+#[tactic(auto, using(crate::proofs::Led::written_led))]
 fn is_written_led(
     alloc: Global,
     asked: &[Asked],
@@ -285,7 +301,8 @@ fn is_written_led(
     written: &Open,
     opened: &Opened,
 ) -> Result<bool, AllocError>
-    ensures { IfOk result (λ is. is ≡ true → IsLed (IsAnswered asked.now root.now) instances.now (texts_of sources.now) number (asks.written written.now) opened.now) }
+    ensures { IfOk result (λ is. is ≡ true → IsLed (IsAnswered asked.now root.now) instances.now
+        (texts_of sources.now) number (asks.written written.now) opened.now) }
 {
     let path = path_text(alloc, &written.path)?;
     match target_of(
@@ -309,6 +326,7 @@ fn is_written_led(
 }
 
 /// Whether the open that an enum implies leads where it should.
+#[tactic(auto, using(crate::proofs::Led::implied_led))]
 fn is_implied_led(
     alloc: Global,
     asked: &[Asked],
@@ -319,7 +337,8 @@ fn is_implied_led(
     enumerated: Enumerated,
     opened: &Opened,
 ) -> Result<bool, AllocError>
-    ensures { IfOk result (λ is. is ≡ true → IsLed (IsAnswered asked.now root.now) instances.now (texts_of sources.now) number (asks.implied enumerated) opened.now) }
+    ensures { IfOk result (λ is. is ≡ true → IsLed (IsAnswered asked.now root.now) instances.now
+        (texts_of sources.now) number (asks.implied enumerated) opened.now) }
 {
     match target_of(
         alloc,
@@ -337,7 +356,8 @@ fn is_implied_led(
 
 /// Whether the one argument is this sig of the instance of this number.
 fn is_sig(arguments: &[Option<SigRef>], instance: u32, sig: u32) -> bool
-    ensures { result ≡ true → arguments.now ≡ Some (record { instance = instance; sig = sig }) ∷ [] }
+    ensures { result ≡ true → arguments.now ≡ Some (record { instance = instance; sig = sig }) ∷
+        [] }
 {
     match arguments {
         [Some(given)] => given.instance == instance && given.sig == sig,
@@ -357,11 +377,14 @@ fn is_led(
     place: usize,
     opened: &Opened,
 ) -> Result<bool, AllocError>
-    ensures { IfOk result (λ is. is ≡ true → (o : asks.Opening) → slice_get (asks.openings_of source.now.text.tree) place ≡ Some o → IsLed (IsAnswered asked.now root.now) instances.now (texts_of sources.now) number o opened.now) }
+    ensures { IfOk result (λ is. is ≡ true → (o : asks.Opening) →
+        slice_get (asks.openings_of source.now.text.tree) place ≡ Some o →
+        IsLed (IsAnswered asked.now root.now) instances.now (texts_of sources.now) number o
+        opened.now) }
 {
     let written = source.text.tree.opens.as_slice();
     if place < written.len() {
-        return is_written_led(
+        let led = is_written_led(
             alloc,
             asked,
             root,
@@ -370,17 +393,22 @@ fn is_led(
             number,
             &written[place],
             opened,
-        );
+        )?;
+        return Ok(led);
     }
-    match source.table.enums().get(place - written.len()) {
-        Some(implied) => is_implied_led(
-            alloc, asked, root, sources, instances, number, *implied, opened,
-        ),
+    match source.table.enum_at(place - written.len()) {
+        Some(implied) => {
+            let led = is_implied_led(
+                alloc, asked, root, sources, instances, number, implied, opened,
+            )?;
+            Ok(led)
+        }
         None => Ok(false),
     }
 }
 
 /// Whether an open is that of the integers.
+#[tactic(auto, using(crate::proofs::Led::integers_led))]
 fn is_of_integers(
     alloc: Global,
     asked: &[Asked],
@@ -388,7 +416,8 @@ fn is_of_integers(
     instances: &[Instance],
     opened: &Opened,
 ) -> Result<bool, AllocError>
-    ensures { IfOk result (λ is. is ≡ true → IsOfIntegers (IsAnswered asked.now root.now) instances.now opened.now) }
+    ensures { IfOk result (λ is. is ≡ true → IsOfIntegers (IsAnswered asked.now root.now)
+        instances.now opened.now) }
 {
     match target_of(
         alloc,
@@ -405,6 +434,7 @@ fn is_of_integers(
 }
 
 /// Whether behind so many opens comes none, or the one of the integers.
+#[tactic(auto, using(crate::proofs::Led::ends_here))]
 fn is_end(
     alloc: Global,
     asked: &[Asked],
@@ -413,7 +443,8 @@ fn is_end(
     count: usize,
     opens: &[Opened],
 ) -> Result<bool, AllocError>
-    ensures { IfOk result (λ is. is ≡ true → IsEnd (IsAnswered asked.now root.now) instances.now count opens.now) }
+    ensures { IfOk result (λ is. is ≡ true → IsEnd (IsAnswered asked.now root.now) instances.now
+        count opens.now) }
 {
     if opens.len() == count {
         return Ok(true);
@@ -426,6 +457,7 @@ fn is_end(
 }
 
 /// How many opens a text has.
+#[tactic(auto, using(crate::proofs::Opens::openings_counted))]
 pub fn opening_count(source: &Source) -> Result<usize, AllocError>
     ensures { IfOk result (λ count. count ≡ length (asks.openings_of source.now.text.tree)) }
 {
@@ -444,7 +476,8 @@ fn are_led(
     source: &Source,
     opens: &[Opened],
 ) -> Result<bool, AllocError>
-    ensures { IfOk result (λ is. is ≡ true → AreLed (IsAnswered asked.now root.now) instances.now (texts_of sources.now) number source.now.text.tree opens.now) }
+    ensures { IfOk result (λ is. is ≡ true → AreLed (IsAnswered asked.now root.now) instances.now
+        (texts_of sources.now) number source.now.text.tree opens.now) }
 {
     let count = opening_count(source)?;
     if opens.len() < count {
@@ -474,6 +507,7 @@ fn are_led(
 }
 
 /// The same of an instance whose text is among these.
+#[tactic(auto, using(crate::proofs::Led::instance_led))]
 fn is_instance_led(
     alloc: Global,
     asked: &[Asked],
@@ -483,7 +517,8 @@ fn is_instance_led(
     number: u32,
     instance: &Instance,
 ) -> Result<bool, AllocError>
-    ensures { IfOk result (λ is. is ≡ true → IsInstanceLed (IsAnswered asked.now root.now) instances.now (texts_of sources.now) number instance.now) }
+    ensures { IfOk result (λ is. is ≡ true → IsInstanceLed (IsAnswered asked.now root.now)
+        instances.now (texts_of sources.now) number instance.now) }
 {
     match sources.get(instance.text as usize) {
         Some(source) => {
@@ -505,7 +540,8 @@ pub fn all_led(
     sources: &[Source],
     instances: &[Instance],
 ) -> Result<bool, AllocError>
-    ensures { IfOk result (λ is. is ≡ true → AllLed (IsAnswered asked.now root.now) instances.now (texts_of sources.now)) }
+    ensures { IfOk result (λ is. is ≡ true → AllLed (IsAnswered asked.now root.now) instances.now
+        (texts_of sources.now)) }
 {
     for place in 0..instances.len() {
         let number = small(place)?;

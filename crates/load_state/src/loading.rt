@@ -144,7 +144,8 @@ pub fn is_being_opened(keys: &[Key], finished: &[Finished], text: u32) -> bool
 
 /// The instance with this text and these arguments.
 pub fn instance_with(keys: &[Key], text: u32, arguments: &ArgumentList) -> Option<usize>
-    ensures { MatchOption result (Lacks keys.now (text, arguments.now)) (λ n. IsAt keys.now n (text, arguments.now)) }
+    ensures { MatchOption result (Lacks keys.now (text, arguments.now))
+        (λ n. IsAt keys.now n (text, arguments.now)) }
 {
     for instance in 0..keys.len() {
         if has_pair(&keys[instance], text, arguments.as_slice()) {
@@ -187,7 +188,8 @@ pub fn key_at(keys: &[Key], instance: usize) -> Result<&Key, AllocError>
 
 /// The text of the instance of this number.
 pub fn source_of(loading: &Loading, instance: usize) -> Result<&Source, AllocError>
-    ensures { IfOk result (λ source. text_at loading.now.keys.items (texts_of loading.now.sources.items) instance ≡ Some source.now.text) }
+    ensures { IfOk result (λ source. text_at loading.now.keys.items
+        (texts_of loading.now.sources.items) instance ≡ Some source.now.text) }
 {
     let key = key_at(&loading.keys, instance)?;
     loading.sources.get(key.text as usize).ok_or(AllocError)

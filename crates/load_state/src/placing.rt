@@ -1,5 +1,4 @@
 //! An open leads to an instance: one that was loaded before, or a new one.
-#![tactic(auto, using(crate::proofs::Faults::memory_is_quiet, crate::proofs::Faults::refusal_is_quiet, crate::proofs::Refusals::memory_in_text, crate::proofs::Refusals::refused_at, crate::proofs::Refusals::refused_written, crate::proofs::Opens::asked_written, crate::proofs::Opens::asked_implied, crate::proofs::Opens::opens_counted))]
 
 ghost use Rattle.std.specs.Prelude.{◌≡◌, ◌+◌, ◌<◌, ◌≤◌, true, false, IsTrue, IfErr, IfOk, OnOk, OnErr, length, map, [], ◌∷◌, ◌++◌};
 ghost use Rattle.load_state.specs.Causes.{IsQuietFault};
@@ -26,6 +25,7 @@ use std::collections::HashSet;
 use syntax_tree::Opened;
 
 /// Notes the answer for a name.
+#[tactic(auto, using(crate::proofs::Faults::memory_is_quiet))]
 pub fn note(
     alloc: Global,
     asked: &mut Vec<Asked>,
@@ -35,7 +35,8 @@ pub fn note(
     ensures quiet { IfErr result IsQuietFault }
     ensures memory { IfErr result (λ fault. fault ≡ Memory) }
     ensures same { IfOk result (λ answer. answer ≡ text) }
-    ensures noted { OnOk result (asked.new.items ≡ asked.old.items ++ record { name = name.now; text = text } ∷ []) }
+    ensures noted { OnOk result (asked.new.items ≡ asked.old.items
+        ++ record { name = name.now; text = text } ∷ []) }
 {
     let name = Name::copy(alloc, name)?;
     asked.push(Asked { name, text })?;
@@ -43,8 +44,10 @@ pub fn note(
 }
 
 /// How many opens an instance has, with those that enums imply.
+#[tactic(auto, using(crate::proofs::Opens::opens_counted))]
 pub fn open_count(loading: &Loading, instance: usize) -> Result<usize, AllocError>
-    ensures { IfOk result (IsOpenCount (text_at loading.now.keys.items (texts_of loading.now.sources.items) instance)) }
+    ensures { IfOk result (IsOpenCount (text_at loading.now.keys.items
+        (texts_of loading.now.sources.items) instance)) }
 {
     let source = source_of(loading, instance)?;
     let written = source.text.tree.opens.len();
@@ -52,6 +55,7 @@ pub fn open_count(loading: &Loading, instance: usize) -> Result<usize, AllocErro
 }
 
 /// What the open of this number asks for.
+#[tactic(auto, using(crate::proofs::Faults::memory_is_quiet, crate::proofs::Refusals::memory_in_text))]
 pub fn request_at(
     alloc: Global,
     loading: &Loading,
@@ -61,8 +65,10 @@ pub fn request_at(
     number: usize,
 ) -> Result<Request, LoadFault>
     ensures quiet { IfErr result IsQuietFault }
-    ensures refused { IfErr result (IsInText (text_at loading.now.keys.items (texts_of loading.now.sources.items) instance)) }
-    ensures asked { IfOk result (IsAsked (text_at loading.now.keys.items (texts_of loading.now.sources.items) instance) instance number) }
+    ensures refused { IfErr result (IsInText (text_at loading.now.keys.items
+        (texts_of loading.now.sources.items) instance)) }
+    ensures asked { IfOk result (IsAsked (text_at loading.now.keys.items
+        (texts_of loading.now.sources.items) instance) instance number) }
 {
     let key = key_at(&loading.keys, instance)?;
     let source = source_of(loading, instance)?;
@@ -94,6 +100,7 @@ pub struct Target {
 }
 
 /// The instance of a text to which an open leads, which is added where it isn't there yet.
+#[tactic(auto, using(crate::proofs::Faults::memory_is_quiet, crate::proofs::Refusals::memory_in_text))]
 pub fn placed(
     alloc: Global,
     loading: &mut Loading,
@@ -104,14 +111,21 @@ pub fn placed(
 ) -> Result<Target, LoadFault>
     ensures quiet { IfErr result IsQuietFault }
     ensures grows { length loading.old.keys.items ≤ length loading.new.keys.items }
-    ensures new { IfOk result (λ t. t.is_new ≡ true → (length loading.old.keys.items < length loading.new.keys.items) × (length loading.new.keys.items ≤ limit)) }
+    ensures new { IfOk result (λ t. t.is_new ≡ true →
+        (length loading.old.keys.items < length loading.new.keys.items)
+        × (length loading.new.keys.items ≤ limit)) }
     ensures texts { loading.new.sources.items ≡ loading.old.sources.items }
     ensures asked { loading.new.asked.items ≡ loading.old.asked.items }
     ensures finished { loading.new.finished.items ≡ loading.old.finished.items }
-    ensures refused { IsPlaceOf (text_at loading.old.keys.items (texts_of loading.old.sources.items) instance) request.now.place → IfErr result (IsInText (text_at loading.old.keys.items (texts_of loading.old.sources.items) instance)) }
-    ensures off_chain { IfOk result (λ t. is_open_from loading.old.finished.items text 0 loading.old.keys.items ≡ false) }
-    ensures reached { IfOk result (λ t. IsAt loading.new.keys.items t.instance (text, request.now.arguments)) }
-    ensures distinct { AreDistinct (map pair_of loading.old.keys.items) → AreDistinct (map pair_of loading.new.keys.items) }
+    ensures refused { IsPlaceOf (text_at loading.old.keys.items (texts_of loading.old.sources.items)
+        instance) request.now.place → IfErr result
+        (IsInText (text_at loading.old.keys.items (texts_of loading.old.sources.items) instance)) }
+    ensures off_chain { IfOk result (λ t. is_open_from loading.old.finished.items text 0
+        loading.old.keys.items ≡ false) }
+    ensures reached { IfOk result (λ t. IsAt loading.new.keys.items t.instance
+        (text, request.now.arguments)) }
+    ensures distinct { AreDistinct (map pair_of loading.old.keys.items) →
+        AreDistinct (map pair_of loading.new.keys.items) }
 {
     if is_being_opened(&loading.keys, &loading.finished, text) {
         return Err(refused_open(alloc, loading, instance, request, Rule::ModuleCycle));
@@ -136,6 +150,7 @@ pub fn placed(
 }
 
 /// The refusal of an open of an instance.
+#[tactic(auto, using(crate::proofs::Faults::memory_is_quiet, crate::proofs::Faults::refusal_is_quiet, crate::proofs::Refusals::memory_in_text, crate::proofs::Refusals::refused_at))]
 pub fn refused_open(
     alloc: Global,
     loading: &Loading,
@@ -145,7 +160,9 @@ pub fn refused_open(
 ) -> LoadFault
     requires { IsTrue (is_of_loading rule) }
     ensures quiet { IsQuietFault result }
-    ensures refused { IsPlaceOf (text_at loading.now.keys.items (texts_of loading.now.sources.items) instance) request.now.place → IsInText (text_at loading.now.keys.items (texts_of loading.now.sources.items) instance) result }
+    ensures refused { IsPlaceOf (text_at loading.now.keys.items (texts_of loading.now.sources.items)
+        instance) request.now.place → IsInText (text_at loading.now.keys.items
+        (texts_of loading.now.sources.items) instance) result }
 {
     match source_of(loading, instance) {
         Ok(source) => refused(alloc, rule, request.place, source.text.name.text()),
@@ -171,7 +188,8 @@ fn add_instance(
 ) -> Result<usize, AllocError>
     ensures grows { length keys.old.items ≤ length keys.new.items }
     ensures added { OnOk result (length keys.new.items ≡ length keys.old.items + 1) }
-    ensures pairs { OnOk result (map pair_of keys.new.items ≡ map pair_of keys.old.items ++ (text, request.now.arguments) ∷ []) }
+    ensures pairs { OnOk result (map pair_of keys.new.items ≡ map pair_of keys.old.items
+        ++ (text, request.now.arguments) ∷ []) }
     ensures number { IfOk result (λ n. n ≡ length keys.old.items) }
     ensures kept { OnErr result (keys.new.items ≡ keys.old.items) }
 {
@@ -194,7 +212,8 @@ pub fn finish(loading: &mut Loading, instance: usize, doors: Doors) -> Result<()
     ensures instances { loading.new.keys.items ≡ loading.old.keys.items }
     ensures texts { loading.new.sources.items ≡ loading.old.sources.items }
     ensures asked { loading.new.asked.items ≡ loading.old.asked.items }
-    ensures done { OnOk result (loading.new.finished.items ≡ loading.old.finished.items ++ record { instance = instance; doors = doors } ∷ []) }
+    ensures done { OnOk result (loading.new.finished.items ≡ loading.old.finished.items
+        ++ record { instance = instance; doors = doors } ∷ []) }
 {
     let instance = small(instance)?;
     loading.finished.push(Finished { instance, doors })?;
@@ -209,7 +228,8 @@ pub fn add_open(
     request: Request,
     target: usize,
 ) -> Result<(), AllocError>
-    ensures { OnOk result (doors.new.opens ≡ doors.old.opens ++ record { alias = request.alias; instance = target } ∷ []) }
+    ensures { OnOk result (doors.new.opens ≡ doors.old.opens
+        ++ record { alias = request.alias; instance = target } ∷ []) }
 {
     let opened = Opened {
         alias: request.alias,

@@ -45,5 +45,8 @@ pub fn start_of(text: u32) -> Position
 pub fn small(number: usize) -> Result<u32, AllocError>
     ensures { IfOk result (λ n. n ≡ number) }
 {
-    u32::try_from(number).map_err(|_| AllocError)
+    if number > u32::MAX as usize {
+        return Err(AllocError);
+    }
+    Ok(number as u32)
 }

@@ -1,5 +1,4 @@
 //! An open asks for a text with arguments, under an alias.
-#![tactic(auto, using(crate::proofs::Faults::refusal_is_quiet, crate::proofs::Faults::memory_is_quiet, crate::proofs::Refusals::memory_at_some, crate::proofs::Refusals::memory_at_open, crate::proofs::Refusals::refused_some, crate::proofs::Refusals::refused_given, crate::proofs::Refusals::refused_alias))]
 
 ghost use Rattle.std.specs.Prelude.{◌≡◌, ◌<◌, IfErr, IfOk, Some, length, slice_get};
 ghost use Rattle.syntax_tree.specs.declared.module.SigName.{SigName};
@@ -31,6 +30,7 @@ pub struct Request {
 }
 
 /// What a written open asks for. The aliases are those of the opens before it.
+#[tactic(auto, using(crate::proofs::Faults::memory_is_quiet, crate::proofs::Faults::refusal_is_quiet, crate::proofs::Refusals::memory_at_open, crate::proofs::Refusals::refused_given, crate::proofs::Refusals::refused_alias))]
 pub fn written_request(
     alloc: Global,
     opener: Opener,
@@ -62,6 +62,7 @@ pub fn written_request(
 }
 
 /// What the arguments of an open stand for, in their order.
+#[tactic(auto, using(crate::proofs::Faults::memory_is_quiet, crate::proofs::Refusals::memory_at_some))]
 fn arguments_of(alloc: Global, opener: Opener, names: &[SigName]) -> Result<ArgumentList, LoadFault>
     ensures quiet { IfErr result IsQuietFault }
     ensures refused { IfErr result (IsAtSome opener.entry.source.now.text.name names.now) }
@@ -84,7 +85,8 @@ fn argument_at(
     requires { place < length names.now }
     ensures quiet { IfErr result IsQuietFault }
     ensures refused { IfErr result (IsAtSome opener.entry.source.now.text.name names.now) }
-    ensures fits { IfOk result (λ found. (name : SigName) → slice_get names.now place ≡ Some name → opens.Fits name found) }
+    ensures fits { IfOk result (λ found. (name : SigName) → slice_get names.now place ≡ Some name →
+        opens.Fits name found) }
 {
     argument(alloc, opener, &names[place])
 }

@@ -1,5 +1,4 @@
 //! A table says what names stand for in a text: its sigs, enums and parameters.
-#![tactic(auto, using(crate::proofs::Opens::enums_next))]
 
 ghost use Rattle.std.specs.Prelude.{◌≡◌, ◌+◌, ◌++◌, ◌∷◌, [], IfOk, IfSome, OnOk, Some, length, map, slice_get};
 ghost use Rattle.std.specs.List.{list_any};
@@ -79,6 +78,7 @@ pub struct Table {
 
 impl Table {
     /// The table of a module.
+    #[tactic(auto, using(crate::proofs::Opens::enums_next))]
     pub fn new(alloc: Global, tree: &Module) -> Result<Table, AllocError>
         ensures enums { IfOk result (λ table. table.enums.items ≡ enums_of tree.now) }
         ensures declared { IfOk result (λ table. table.declared.items ≡ declares.sigs_of tree.now) }
@@ -138,8 +138,10 @@ impl Table {
     }
 
     fn add_paragraph(&mut self, alloc: Global, paragraph: &Paragraph) -> Result<(), AllocError>
-        ensures enums { OnOk result (self.new.enums.items ≡ self.old.enums.items ++ enum_in self.old.sigs paragraph.now) }
-        ensures declared { OnOk result (self.new.declared.items ≡ self.old.declared.items ++ declares.declared_in paragraph.now) }
+        ensures enums { OnOk result (self.new.enums.items ≡ self.old.enums.items
+            ++ enum_in self.old.sigs paragraph.now) }
+        ensures declared { OnOk result (self.new.declared.items ≡ self.old.declared.items
+            ++ declares.declared_in paragraph.now) }
         ensures sigs { OnOk result (self.new.sigs ≡ self.old.sigs + sigs_in paragraph.now) }
     {
         match paragraph {
@@ -166,7 +168,8 @@ impl Table {
         is_private: bool,
     ) -> Result<(), AllocError>
         ensures enums { self.new.enums.items ≡ self.old.enums.items }
-        ensures declared { OnOk result (self.new.declared.items ≡ self.old.declared.items ++ map (declares.declared_as is_private) names.now) }
+        ensures declared { OnOk result (self.new.declared.items ≡ self.old.declared.items
+            ++ map (declares.declared_as is_private) names.now) }
         ensures sigs { OnOk result (self.new.sigs ≡ self.old.sigs + length names.now) }
     {
         for named in names {
@@ -178,7 +181,8 @@ impl Table {
     /// Adds the next sig of the text.
     fn add_sig(&mut self, alloc: Global, named: &Named, is_private: bool) -> Result<(), AllocError>
         ensures enums { self.new.enums.items ≡ self.old.enums.items }
-        ensures declared { OnOk result (self.new.declared.items ≡ self.old.declared.items ++ declares.declared_as is_private named.now ∷ []) }
+        ensures declared { OnOk result (self.new.declared.items ≡ self.old.declared.items
+            ++ declares.declared_as is_private named.now ∷ []) }
         ensures sigs { OnOk result (self.new.sigs ≡ self.old.sigs + 1) }
     {
         let number = self.sigs;

@@ -27,7 +27,8 @@ fn right_parameter(
     parameter: &Parameter,
 ) -> Result<Option<Named>, AllocError>
     requires { shapes_in shape.now ≡ shapes_of model.now }
-    ensures { IfOk result (λ o. IfSome o (IsParameter model.now (shapes_in plain.now) names.now place parameter.now)) }
+    ensures { IfOk result (λ o. IfSome o (IsParameter model.now (shapes_in plain.now) names.now
+        place parameter.now)) }
 {
     match bound_columns(alloc, shape, None, names, &parameter.bound)? {
         None => Ok(None),
@@ -45,7 +46,8 @@ fn are_right_parameters(
 ) -> Result<bool, AllocError>
     requires plain { shapes_in plain.now ≡ plain_shapes model.now }
     requires shape { shapes_in shape.now ≡ shapes_of model.now }
-    ensures { IfOk result (λ b. IsTrue b → AreRightParameters model.now parameters.now 0 no_columns) }
+    ensures { IfOk result (λ b. IsTrue b → AreRightParameters model.now parameters.now 0
+        no_columns) }
 {
     let mut names = NameList::new(alloc);
     for place in 0..parameters.len() {
@@ -74,7 +76,8 @@ fn is_right_value(
     expr: &Expr,
     bound: &Bound,
 ) -> Result<bool, AllocError>
-    ensures { IfOk result (λ b. IsTrue b → HasColumns shape.now limits (names_of names.now) expr.now bound.now) }
+    ensures { IfOk result (λ b. IsTrue b → HasColumns shape.now limits (names_of names.now) expr.now
+        bound.now) }
 {
     let columns = columns_at(alloc, shape, limits, names, expr)?;
     match bound_columns(alloc, shape, None, names, bound)? {
@@ -93,7 +96,8 @@ fn is_right_form(
     form: &BodyForm,
 ) -> Result<bool, AllocError>
     requires { shapes_in shape.now ≡ shapes_of model.now }
-    ensures { IfOk result (λ b. IsTrue b → IsRightForm model.now rank form.now (names_of names.now)) }
+    ensures { IfOk result (λ b. IsTrue b → IsRightForm model.now rank form.now
+        (names_of names.now)) }
 {
     let limits = Limits {
         below: None,
@@ -114,7 +118,8 @@ fn names_of_body(
     body: &Body,
 ) -> Result<Option<NameList>, AllocError>
     requires { shapes_in plain.now ≡ plain_shapes model.now }
-    ensures { IfOk result (λ o. IfSome o (λ ns. names_of ns ≡ named_columns (parameters_of model.now body.now) 0)) }
+    ensures { IfOk result (λ o. IfSome o (λ ns. names_of ns
+        ≡ named_columns (parameters_of model.now body.now) 0)) }
 {
     match parameters_under(alloc, plain, body.parameters.as_slice())? {
         None => Ok(None),

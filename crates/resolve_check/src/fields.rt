@@ -64,7 +64,8 @@ fn is_right_bound(
 ) -> Result<bool, AllocError>
     requires shape { shapes_in shape.now ≡ shapes_of model.now }
     requires this { names_of this.now ≡ this_column }
-    ensures { IfOk result (λ b. IsTrue b → HasBound model.now (order_of shape.now) place columns declared.now) }
+    ensures { IfOk result (λ b. IsTrue b → HasBound model.now (order_of shape.now) place columns
+        declared.now) }
 {
     match bound_columns(alloc, shape, Some(place), this, &declared.bound)? {
         None => Ok(false),
@@ -83,7 +84,8 @@ fn has_right_bound(
 ) -> Result<bool, AllocError>
     requires shape { shapes_in shape.now ≡ shapes_of model.now }
     requires this { names_of this.now ≡ this_column }
-    ensures { IfOk result (λ b. IsTrue b → IfSome field.now.declared (HasBound model.now (order_of shape.now) place field.now.columns)) }
+    ensures { IfOk result (λ b. IsTrue b → IfSome field.now.declared
+        (HasBound model.now (order_of shape.now) place field.now.columns)) }
 {
     match &field.declared {
         None => Ok(true),
@@ -111,7 +113,8 @@ fn is_right_field(
 ) -> Result<bool, AllocError>
     requires shape { shapes_in shape.now ≡ shapes_of model.now }
     requires this { names_of this.now ≡ this_column }
-    ensures { IfOk result (λ b. IsTrue b → IsFieldButType model.now (order_of shape.now) place field.now) }
+    ensures { IfOk result (λ b. IsTrue b → IsFieldButType model.now (order_of shape.now) place
+        field.now) }
 {
     let sigs = model.sigs.len();
     let list = field.rows.as_slice();
@@ -131,7 +134,8 @@ pub fn are_right_fields(
 ) -> Result<bool, AllocError>
     requires shape { shapes_in shape.now ≡ shapes_of model.now }
     requires this { names_of this.now ≡ this_column }
-    ensures { IfOk result (λ b. IsTrue b → (k : ℕ) (f : Field) → slice_get model.now.fields k ≡ Some f → IsFieldButType model.now (order_of shape.now) k f) }
+    ensures { IfOk result (λ b. IsTrue b → (k : ℕ) (f : Field) →
+        slice_get model.now.fields k ≡ Some f → IsFieldButType model.now (order_of shape.now) k f) }
 {
     for place in 0..model.fields.len() {
         let field = model.fields.get(place);

@@ -28,7 +28,8 @@ pub fn is_right_formula(
     names: &NameList,
     formula: &Formula,
 ) -> Result<bool, AllocError>
-    ensures { IfOk result (λ b. IsTrue b → IsRightClaim (shapes_in shape.now) AnyField AnyBody (claim_of formula.now) (names_of names.now)) }
+    ensures { IfOk result (λ b. IsTrue b → IsRightClaim (shapes_in shape.now) AnyField AnyBody
+        (claim_of formula.now) (names_of names.now)) }
 {
     let limits = Limits {
         below: None,
@@ -45,7 +46,8 @@ pub fn is_right_term(
     names: &NameList,
     expr: &Expr,
 ) -> Result<bool, AllocError>
-    ensures { IfOk result (λ b. IsTrue b → IsRightTerm (shapes_in shape.now) AnyField AnyBody (term_of expr.now) (names_of names.now)) }
+    ensures { IfOk result (λ b. IsTrue b → IsRightTerm (shapes_in shape.now) AnyField AnyBody
+        (term_of expr.now) (names_of names.now)) }
 {
     let limits = Limits {
         below: None,
@@ -64,7 +66,8 @@ pub fn bound_columns(
     names: &NameList,
     bound: &Bound,
 ) -> Result<Option<u32>, AllocError>
-    ensures { IfOk result (λ o. o ≡ bounded bound.now.multiplicity (columns_at shape.now (bound_limits below) (term_of bound.now.expr) (names_of names.now))) }
+    ensures { IfOk result (λ o. o ≡ bounded bound.now.multiplicity
+        (columns_at shape.now (bound_limits below) (term_of bound.now.expr) (names_of names.now))) }
 {
     let limits = Limits {
         below,

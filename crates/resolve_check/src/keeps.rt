@@ -32,7 +32,8 @@ fn is_right_closed(
     formula: &Formula,
 ) -> Result<bool, AllocError>
     requires { shapes_in shape.now ≡ shapes_of model.now }
-    ensures { IfOk result (λ b. IsTrue b → IsRightFormula model.now (claim_of formula.now) no_columns) }
+    ensures { IfOk result (λ b. IsTrue b → IsRightFormula model.now (claim_of formula.now)
+        no_columns) }
 {
     is_right_formula(alloc, shape, &NameList::new(alloc), formula)
 }
@@ -58,7 +59,8 @@ fn are_right_facts(
     facts: &[Fact],
 ) -> Result<bool, AllocError>
     requires { shapes_in shape.now ≡ shapes_of model.now }
-    ensures { IfOk result (λ b. IsTrue b → All (λ (f : Fact). IsRightFormula model.now (claim_of f.formula) no_columns) facts.now) }
+    ensures { IfOk result (λ b. IsTrue b → All (λ (f : Fact).
+        IsRightFormula model.now (claim_of f.formula) no_columns) facts.now) }
 {
     for fact in facts {
         if !is_right_closed(alloc, model, shape, &fact.formula)? {
@@ -76,7 +78,8 @@ fn are_right_asserts(
     asserts: &[Assert],
 ) -> Result<bool, AllocError>
     requires { shapes_in shape.now ≡ shapes_of model.now }
-    ensures { IfOk result (λ b. IsTrue b → All (λ (a : Assert). IsRightFormula model.now (claim_of a.formula) no_columns) asserts.now) }
+    ensures { IfOk result (λ b. IsTrue b → All (λ (a : Assert).
+        IsRightFormula model.now (claim_of a.formula) no_columns) asserts.now) }
 {
     for assertion in asserts {
         if !is_right_closed(alloc, model, shape, &assertion.formula)? {
@@ -133,7 +136,8 @@ fn is_right_where(
     formula: &Formula,
 ) -> Result<bool, AllocError>
     requires { shapes_in shape.now ≡ shapes_of model.now }
-    ensures { IfOk result (λ b. IsTrue b → IsTrue asked → IsRightFormula model.now (claim_of formula.now) no_columns) }
+    ensures { IfOk result (λ b. IsTrue b → IsTrue asked →
+        IsRightFormula model.now (claim_of formula.now) no_columns) }
 {
     if asked {
         is_right_closed(alloc, model, shape, formula)

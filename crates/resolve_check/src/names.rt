@@ -51,7 +51,8 @@ pub fn names_under(
     names: &NameList,
     list: &[Variable],
 ) -> Result<NameList, AllocError>
-    ensures { IfOk result (λ all. names_of all ≡ names_after (variable_list (map variable_of list.now)) (names_of names.now)) }
+    ensures { IfOk result (λ all. names_of all ≡ names_after
+        (variable_list (map variable_of list.now)) (names_of names.now)) }
 {
     let mut all = copied(alloc, names)?;
     for variable in list {

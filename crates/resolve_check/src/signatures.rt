@@ -24,7 +24,8 @@ fn plain_columns(
     names: &NameList,
     expr: &Expr,
 ) -> Result<Option<u32>, AllocError>
-    ensures { IfOk result (λ o. IfSome o (λ n. n ≡ columns_in (shapes_in plain.now) (term_of expr.now) (names_of names.now))) }
+    ensures { IfOk result (λ o. IfSome o (λ n. n ≡ columns_in (shapes_in plain.now)
+        (term_of expr.now) (names_of names.now))) }
 {
     let limits = Limits {
         below: None,
@@ -42,7 +43,8 @@ pub fn next_parameter(
     place: usize,
     parameter: &Parameter,
 ) -> Result<Option<Named>, AllocError>
-    ensures { IfOk result (λ o. IfSome o (λ m. m ≡ named_next (shapes_in plain.now) names.now place parameter.now)) }
+    ensures { IfOk result (λ o. IfSome o (λ m. m ≡ named_next (shapes_in plain.now) names.now place
+        parameter.now)) }
 {
     match plain_columns(alloc, plain, names, &parameter.bound.expr)? {
         None => Ok(None),
@@ -59,7 +61,8 @@ pub fn parameters_under(
     plain: &Shape,
     parameters: &[Parameter],
 ) -> Result<Option<NameList>, AllocError>
-    ensures { IfOk result (λ o. IfSome o (λ ns. ns ≡ named_after (shapes_in plain.now) parameters.now 0 [])) }
+    ensures { IfOk result (λ o. IfSome o (λ ns. ns
+        ≡ named_after (shapes_in plain.now) parameters.now 0 [])) }
 {
     let mut names = NameList::new(alloc);
     for place in 0..parameters.len() {
@@ -90,7 +93,8 @@ fn result_columns(
     names: &NameList,
     form: &BodyForm,
 ) -> Result<Option<Option<u32>>, AllocError>
-    ensures { IfOk result (λ o. IfSome o (λ r. r ≡ result_under (shapes_in plain.now) form.now (names_of names.now))) }
+    ensures { IfOk result (λ o. IfSome o (λ r. r ≡ result_under (shapes_in plain.now) form.now
+        (names_of names.now))) }
 {
     match form {
         BodyForm::Test(_) => Ok(Some(None)),
@@ -111,7 +115,8 @@ fn shape_under(
     body: &Body,
 ) -> Result<Option<BodyShape>, AllocError>
     requires { names.now ≡ named_after (shapes_in plain.now) body.now.parameters 0 [] }
-    ensures { IfOk result (λ o. IfSome o (λ s. signature_in s ≡ signature_under (shapes_in plain.now) body.now)) }
+    ensures { IfOk result (λ o. IfSome o (λ s. signature_in s
+        ≡ signature_under (shapes_in plain.now) body.now)) }
 {
     let parameters = columns_of_names(alloc, names)?;
     match result_columns(alloc, plain, names, &body.form)? {
@@ -126,7 +131,8 @@ fn shape_under(
 
 /// What a call sees of a body.
 fn body_shape(alloc: Global, plain: &Shape, body: &Body) -> Result<Option<BodyShape>, AllocError>
-    ensures { IfOk result (λ o. IfSome o (λ s. signature_in s ≡ signature_under (shapes_in plain.now) body.now)) }
+    ensures { IfOk result (λ o. IfSome o (λ s. signature_in s
+        ≡ signature_under (shapes_in plain.now) body.now)) }
 {
     match parameters_under(alloc, plain, body.parameters.as_slice())? {
         None => Ok(None),
@@ -140,7 +146,8 @@ fn body_shapes(
     plain: &Shape,
     bodies: &[Body],
 ) -> Result<Option<ItemList<BodyShape>>, AllocError>
-    ensures { IfOk result (λ o. IfSome o (λ all. map signature_in all ≡ map (signature_under (shapes_in plain.now)) bodies.now)) }
+    ensures { IfOk result (λ o. IfSome o (λ all. map signature_in all
+        ≡ map (signature_under (shapes_in plain.now)) bodies.now)) }
 {
     let mut all = ItemList::new(alloc);
     for body in bodies {

@@ -56,7 +56,9 @@ fn is_right_appended(
     this: &NameList,
     appended: &Option<Formula>,
 ) -> Result<bool, AllocError>
-    ensures { IfOk result (λ b. IsTrue b → IfSome appended.now (λ f. IsRightClaim (shapes_in shape.now) AnyField AnyBody (claim_of f) (names_of this.now))) }
+    ensures { IfOk result (λ b. IsTrue b → IfSome appended.now
+        (λ f. IsRightClaim (shapes_in shape.now) AnyField AnyBody (claim_of f)
+        (names_of this.now))) }
 {
     match appended {
         None => Ok(true),

@@ -25,7 +25,8 @@ pub fn columns_at(
     names: &NameList,
     expr: &Expr,
 ) -> Result<Option<u32>, AllocError>
-    ensures { IfOk result (λ o. o ≡ fits.columns_at shape.now limits (term_of expr.now) (names_of names.now)) }
+    ensures { IfOk result (λ o. o ≡ fits.columns_at shape.now limits (term_of expr.now)
+        (names_of names.now)) }
 {
     match expr {
         Expr::Sig(sig) => Ok(sig_columns(shape, *sig)),
@@ -116,7 +117,8 @@ fn is_right_inside(
     names: &NameList,
     formula: &Formula,
 ) -> Result<bool, AllocError>
-    ensures { IfOk result (λ b. b ≡ fits.seen limits.look (fits.is_right shape.now limits (claim_of formula.now) (names_of names.now))) }
+    ensures { IfOk result (λ b. b ≡ fits.seen limits.look
+        (fits.is_right shape.now limits (claim_of formula.now) (names_of names.now))) }
 {
     if limits.look {
         is_right(alloc, shape, limits, names, formula)
@@ -135,7 +137,8 @@ fn are_right_variables(
     names: &NameList,
     list: &[Variable],
 ) -> Result<bool, AllocError>
-    ensures { IfOk result (λ b. b ≡ fits.are_right_variables shape.now limits (variable_list (map variable_of list.now)) (names_of names.now)) }
+    ensures { IfOk result (λ b. b ≡ fits.are_right_variables shape.now limits
+        (variable_list (map variable_of list.now)) (names_of names.now)) }
 {
     let mut inner = copied(alloc, names)?;
     let mut right = true;
@@ -160,7 +163,8 @@ fn are_right_arguments(
     list: &[Expr],
     parameters: &[u32],
 ) -> Result<bool, AllocError>
-    ensures { IfOk result (λ b. b ≡ fits.are_right_arguments shape.now limits (term_list (map term_of list.now)) (names_of names.now) parameters.now) }
+    ensures { IfOk result (λ b. b ≡ fits.are_right_arguments shape.now limits
+        (term_list (map term_of list.now)) (names_of names.now) parameters.now) }
 {
     if list.len() != parameters.len() {
         return Ok(false);
@@ -182,7 +186,8 @@ pub fn is_right(
     names: &NameList,
     formula: &Formula,
 ) -> Result<bool, AllocError>
-    ensures { IfOk result (λ b. b ≡ fits.is_right shape.now limits (claim_of formula.now) (names_of names.now)) }
+    ensures { IfOk result (λ b. b ≡ fits.is_right shape.now limits (claim_of formula.now)
+        (names_of names.now)) }
 {
     match formula {
         Formula::Inside(a, b) => Ok(is_there(same_columns(
@@ -259,7 +264,8 @@ fn are_right(
     names: &NameList,
     list: &[Formula],
 ) -> Result<bool, AllocError>
-    ensures { IfOk result (λ b. b ≡ fits.are_right shape.now limits (claim_list (map claim_of list.now)) (names_of names.now)) }
+    ensures { IfOk result (λ b. b ≡ fits.are_right shape.now limits
+        (claim_list (map claim_of list.now)) (names_of names.now)) }
 {
     let mut right = true;
     for formula in list {

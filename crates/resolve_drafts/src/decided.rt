@@ -53,6 +53,7 @@ fn meaning_under(
 ) -> Result<Option<Meaning>, AllocError> {
     let fixed = fixed(alloc, part, choice)?;
     let all = found(alloc, typing, &fixed)?;
+    fixed.put_away();
     first(alloc, all.as_slice())
 }
 

@@ -49,3 +49,31 @@ pub enum Draft {
     /// `let`, with the number of its name and the value.
     Let(u32, Expr, Box<Draft>),
 }
+
+/// The first operand; the rest of the draft is dropped.
+fn first_operand(draft: Draft) -> Option<Draft> {
+    match draft {
+        Draft::Name(_, _) | Draft::Known(_, _) => None,
+        Draft::Single(_, inner) => Some(Box::into_inner(inner)),
+        Draft::Let(_, _, inner) => Some(Box::into_inner(inner)),
+        Draft::Pair(_, left, _) => Some(Box::into_inner(left)),
+        Draft::Arrow(_, _, _, left, _) => Some(Box::into_inner(left)),
+        Draft::Arithmetic(_, left, _) => Some(Box::into_inner(left)),
+        Draft::Compare(_, left, _) => Some(Box::into_inner(left)),
+        Draft::Choose(_, left, _) => Some(Box::into_inner(left)),
+    }
+}
+
+impl Draft {
+    /// Drops the draft from the top. A drop by itself takes stack for each level, and a row of
+    /// operators is as deep as it is long.
+    pub fn put_away(self) {
+        let mut rest = self;
+        for _turn in 0..usize::MAX {
+            match first_operand(rest) {
+                Some(operand) => rest = operand,
+                None => return,
+            }
+        }
+    }
+}

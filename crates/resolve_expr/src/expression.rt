@@ -73,7 +73,7 @@ pub fn prepare(
     }
 }
 
-/// What has no parts.
+/// What has no parts, as a piece.
 fn leaf(
     alloc: Global,
     setting: &Setting<'_>,
@@ -81,16 +81,27 @@ fn leaf(
     root: &mut Root,
     tree: &Tree,
 ) -> Result<Piece, AllocError> {
-    let draft = match tree {
-        Tree::Name(name) => name_draft(alloc, setting, state, root, name)?,
-        Tree::At(_, name) => field_draft(alloc, setting, state, root, name)?,
-        Tree::Constant(place, word) => constant_draft(alloc, setting, state, root, *place, *word)?,
-        Tree::Number(place, number) => number_draft(alloc, root, *place, i64::from(*number))?,
-        Tree::Negative(place, number) => number_draft(alloc, root, *place, below_zero(*number))?,
-        Tree::Literal(place, text) => literal_draft(alloc, setting, state, root, *place, text)?,
-        _ => Draft::Known(formula_meaning(false), Expr::Empty),
-    };
+    let draft = leaf_draft(alloc, setting, state, root, tree)?;
     Ok(Piece::Part(draft))
+}
+
+/// What has no parts.
+fn leaf_draft(
+    alloc: Global,
+    setting: &Setting<'_>,
+    state: &mut State,
+    root: &mut Root,
+    tree: &Tree,
+) -> Result<Draft, AllocError> {
+    match tree {
+        Tree::Name(name) => name_draft(alloc, setting, state, root, name),
+        Tree::At(_, name) => field_draft(alloc, setting, state, root, name),
+        Tree::Constant(place, word) => constant_draft(alloc, setting, state, root, *place, *word),
+        Tree::Number(place, number) => number_draft(alloc, root, *place, i64::from(*number)),
+        Tree::Negative(place, number) => number_draft(alloc, root, *place, below_zero(*number)),
+        Tree::Literal(place, text) => literal_draft(alloc, setting, state, root, *place, text),
+        _ => Ok(Draft::Known(formula_meaning(false), Expr::Empty)),
+    }
 }
 
 /// A formula with its own roots; none where something in it was refused.

@@ -92,6 +92,51 @@ fn is_unjudged(root: &Root, place: RootPlace) -> bool {
     root.is_spoilt || root.is_spoilt_formula && matches!(place, RootPlace::Formula)
 }
 
+/// What becomes of a root in its place.
+fn outcome_of(
+    alloc: Global,
+    setting: &Setting<'_>,
+    draft: Draft,
+    place: RootPlace,
+) -> Result<Settled, AllocError> {
+    let draft = single(alloc, Unary::Fits(place), draft)?;
+    let part = part_of(alloc, &draft)?;
+    let outcome = settle(alloc, &setting.known.typing, &draft, &part)?;
+    part.put_away();
+    draft.put_away();
+    Ok(outcome)
+}
+
+/// The reading in an outcome, with its calls added.
+fn read(
+    setting: &Setting<'_>,
+    state: &mut State,
+    at: Position,
+    reading: Reading,
+    more: u32,
+) -> Result<Option<(Built, Meaning)>, AllocError> {
+    add_calls(setting, state, reading.calls.as_slice())?;
+    Ok(taken(setting, state, at, reading, more))
+}
+
+/// The reading in an outcome; the refusal is noted where there is none.
+fn noted(
+    setting: &Setting<'_>,
+    state: &mut State,
+    at: Position,
+    outcome: Settled,
+    more: u32,
+) -> Result<Option<(Built, Meaning)>, AllocError> {
+    let broken = match outcome {
+        Settled::Read(reading) => return read(setting, state, at, reading, more),
+        Settled::NoReading => Broken::NoReading,
+        Settled::Ambiguous => Broken::Ambiguous,
+        Settled::TooMany => Broken::TooManyReadings,
+    };
+    note_at(setting, state, at, broken);
+    Ok(None)
+}
+
 /// The reading of a root in its place; the refusal is noted where it has none. A root in which something
 /// was refused is refused itself only where it has too many readings. Where it is a field's bound, the field
 /// has one column more.
@@ -113,30 +158,11 @@ fn settled(
         note_at(setting, state, at, Broken::NoReading);
         return Ok(None);
     }
-    let draft = single(alloc, Unary::Fits(place), draft)?;
-    let part = part_of(alloc, &draft)?;
-    let outcome = settle(alloc, &setting.known.typing, &draft, &part)?;
+    let outcome = outcome_of(alloc, setting, draft, place)?;
     if is_unjudged(&root, place) && !matches!(outcome, Settled::TooMany) {
         return Ok(None);
     }
-    match outcome {
-        Settled::Read(reading) => {
-            add_calls(setting, state, reading.calls.as_slice())?;
-            Ok(taken(setting, state, at, reading, more))
-        }
-        Settled::NoReading => {
-            note_at(setting, state, at, Broken::NoReading);
-            Ok(None)
-        }
-        Settled::Ambiguous => {
-            note_at(setting, state, at, Broken::Ambiguous);
-            Ok(None)
-        }
-        Settled::TooMany => {
-            note_at(setting, state, at, Broken::TooManyReadings);
-            Ok(None)
-        }
-    }
+    noted(setting, state, at, outcome, more)
 }
 
 /// The expression of a reading, with its type; none where it is none.

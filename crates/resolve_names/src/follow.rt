@@ -97,7 +97,8 @@ fn follow_one(
     before: &[bool],
 ) -> Result<Vec<bool>, AllocError>
     requires { IsLinked scopes.now }
-    ensures { IfOk result (λ m. AreFollowed scopes.now from alias.now before.now (length scopes.now) m.items) }
+    ensures { IfOk result (λ m. AreFollowed scopes.now from alias.now before.now (length scopes.now)
+        m.items) }
 {
     let mut marks = no_marks(alloc, scopes.len())?;
     for number in 0..scopes.len() {

@@ -50,7 +50,8 @@ fn add_seen(
     name: &str,
     all: &mut Vec<Decl>,
 ) -> Result<(), AllocError>
-    ensures { OnOk result (all.new.items ≡ all.old.items ++ filter_map (seen_in is_own name.now) declared.now) }
+    ensures { OnOk result (all.new.items ≡ all.old.items
+        ++ filter_map (seen_in is_own name.now) declared.now) }
 {
     for one in declared {
         add_some(all, seen_one(one, is_own, name))?;
@@ -67,7 +68,8 @@ fn add_scope(
     scope: &Namespace,
     all: &mut Vec<Decl>,
 ) -> Result<(), AllocError>
-    ensures { OnOk result (all.new.items ≡ all.old.items ++ seen_of (slice_get marks.now number) (number == from) name.now scope.now.declared) }
+    ensures { OnOk result (all.new.items ≡ all.old.items
+        ++ seen_of (slice_get marks.now number) (number == from) name.now scope.now.declared) }
 {
     if !is_marked(marks, number) {
         return Ok(());
@@ -107,7 +109,8 @@ impl Names {
         name: &QualName,
     ) -> Result<Vec<Decl>, AllocError>
         requires { instance < length self.now.scopes }
-        ensures { IfOk result (λ found. AreCandidates self.now.scopes instance name.now found.items) }
+        ensures { IfOk result (λ found. AreCandidates self.now.scopes instance name.now
+            found.items) }
     {
         let from = instance as usize;
         let parts = name.parts.as_slice();
@@ -134,7 +137,8 @@ impl Names {
         name: &QualName,
     ) -> Result<Vec<bool>, AllocError>
         requires { instance < length self.now.scopes }
-        ensures { IfOk result (λ m. AreLed self.now.scopes instance name.now.is_own (path_of name.now.parts) m.items) }
+        ensures { IfOk result (λ m. AreLed self.now.scopes instance name.now.is_own
+            (path_of name.now.parts) m.items) }
     {
         let path = path_before(name.parts.as_slice());
         let marks = led(alloc, self, instance as usize, name.is_own, path)?;

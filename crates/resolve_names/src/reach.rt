@@ -31,8 +31,10 @@ pub fn is_marked(marks: &[bool], instance: usize) -> bool
 
 /// An instance without a mark to which an open of the list leads that isn't private.
 fn free_open(opens: &[Link], marks: &[bool]) -> Option<usize>
-    ensures some { IfSome result (λ t. (o : Link) × Contains opens.now o × (o.is_private ≡ false) × (o.instance ≡ t) × (slice_get marks.now t ≡ Some false)) }
-    ensures none { IfNone result (All (λ o. o.is_private ≡ false → slice_get marks.now o.instance ≡ Some false → ⊥) opens.now) }
+    ensures some { IfSome result (λ t. (o : Link) × Contains opens.now o × (o.is_private ≡ false)
+        × (o.instance ≡ t) × (slice_get marks.now t ≡ Some false)) }
+    ensures none { IfNone result (All (λ o. o.is_private ≡ false →
+        slice_get marks.now o.instance ≡ Some false → ⊥) opens.now) }
 {
     for open in opens {
         if !open.is_private && is_free(marks, open.instance as usize) {

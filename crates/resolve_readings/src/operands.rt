@@ -66,7 +66,8 @@ pub fn plain(
     left: &Meaning,
     right: &Meaning,
 ) -> Result<Meaning, AllocError>
-    ensures { IfOk result (λ m. m ≡ of_both (whats.Set (distinct set.now)) false relevant set.now.count left.now right.now) }
+    ensures { IfOk result (λ m. m ≡ of_both (whats.Set (distinct set.now)) false relevant
+        set.now.count left.now right.now) }
 {
     let made = set.distinct(alloc)?;
     Ok(both(What::Set(made), false, relevant, set.count, left, right))

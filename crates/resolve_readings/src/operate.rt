@@ -24,7 +24,8 @@ fn united(
     left: &Meaning,
     right: &Meaning,
 ) -> Result<Option<Meaning>, AllocError>
-    ensures { IfOk result (λ m. m ≡ plain_pair (a.now.count == b.now.count) (union_of a.now b.now) true left.now right.now) }
+    ensures { IfOk result (λ m. m ≡ plain_pair (a.now.count == b.now.count) (union_of a.now b.now)
+        true left.now right.now) }
 {
     if !are_plain(same_count(a, b), left, right) {
         return Ok(None);
@@ -41,7 +42,8 @@ fn lessened(
     left: &Meaning,
     right: &Meaning,
 ) -> Result<Option<Meaning>, AllocError>
-    ensures { IfOk result (λ m. m ≡ plain_pair (a.now.count == b.now.count) a.now true left.now right.now) }
+    ensures { IfOk result (λ m. m ≡ plain_pair (a.now.count == b.now.count) a.now true left.now
+        right.now) }
 {
     if !are_plain(same_count(a, b), left, right) {
         return Ok(None);
@@ -58,7 +60,9 @@ fn met(
     left: &Meaning,
     right: &Meaning,
 ) -> Result<Option<Meaning>, AllocError>
-    ensures { IfOk result (λ m. m ≡ plain_pair (a.now.count == b.now.count) (meets_of typing.now.lines a.now b.now) (agrees a.now b.now (meets_of typing.now.lines a.now b.now)) left.now right.now) }
+    ensures { IfOk result (λ m. m ≡ plain_pair (a.now.count == b.now.count)
+        (meets_of typing.now.lines a.now b.now) (agrees a.now b.now
+        (meets_of typing.now.lines a.now b.now)) left.now right.now) }
 {
     if !are_plain(same_count(a, b), left, right) {
         return Ok(None);
@@ -78,7 +82,8 @@ fn crossed(
     left: &Meaning,
     right: &Meaning,
 ) -> Result<Option<Meaning>, AllocError>
-    ensures { IfOk result (λ m. m ≡ of_sets typing.now (binaries.Arrow marked) a.now b.now left.now right.now) }
+    ensures { IfOk result (λ m. m ≡ of_sets typing.now (binaries.Arrow marked) a.now b.now left.now
+        right.now) }
 {
     let set = a.product(alloc, &typing.lines, b)?;
     let count = set.count;
@@ -95,7 +100,8 @@ fn left_restricted(
     left: &Meaning,
     right: &Meaning,
 ) -> Result<Option<Meaning>, AllocError>
-    ensures { IfOk result (λ m. m ≡ of_sets typing.now binaries.LeftRestrict a.now b.now left.now right.now) }
+    ensures { IfOk result (λ m. m ≡ of_sets typing.now binaries.LeftRestrict a.now b.now left.now
+        right.now) }
 {
     if !are_plain(has_count(a, 1), left, right) {
         return Ok(None);
@@ -114,7 +120,8 @@ fn right_restricted(
     left: &Meaning,
     right: &Meaning,
 ) -> Result<Option<Meaning>, AllocError>
-    ensures { IfOk result (λ m. m ≡ of_sets typing.now binaries.RightRestrict a.now b.now left.now right.now) }
+    ensures { IfOk result (λ m. m ≡ of_sets typing.now binaries.RightRestrict a.now b.now left.now
+        right.now) }
 {
     if !are_plain(has_count(b, 1), left, right) {
         return Ok(None);
@@ -132,7 +139,8 @@ fn computed(
     left: &Meaning,
     right: &Meaning,
 ) -> Result<Option<Meaning>, AllocError>
-    ensures { IfOk result (λ m. m ≡ plain_pair (a.now.count == 1 && (b.now.count == 1)) integers_of true left.now right.now) }
+    ensures { IfOk result (λ m. m ≡ plain_pair (a.now.count == 1 && (b.now.count == 1)) integers_of
+        true left.now right.now) }
 {
     if !are_plain(has_count(a, 1) && has_count(b, 1), left, right) {
         return Ok(None);
@@ -230,7 +238,8 @@ fn give_first(
     columns: &Columns,
     argument: &Meaning,
 ) -> Result<Option<Meaning>, AllocError>
-    ensures { IfOk result (λ m. m ≡ given typing.now first.now rest.now value.now body.now columns.now argument.now) }
+    ensures { IfOk result (λ m. m ≡ given typing.now first.now rest.now value.now body.now
+        columns.now argument.now) }
 {
     if !is_plain(same_count(columns, first), argument) {
         return Ok(None);
@@ -252,7 +261,8 @@ fn give(
     columns: &Columns,
     argument: &Meaning,
 ) -> Result<Option<Meaning>, AllocError>
-    ensures { IfOk result (λ m. m ≡ given_next typing.now parameters.now value.now body.now columns.now argument.now) }
+    ensures { IfOk result (λ m. m ≡ given_next typing.now parameters.now value.now body.now
+        columns.now argument.now) }
 {
     match parameters {
         [] => Ok(None),
@@ -318,7 +328,8 @@ fn closed_with_same(
     a: &Columns,
     part: &Meaning,
 ) -> Result<Option<Meaning>, AllocError>
-    ensures { IfOk result (λ m. m ≡ of_pairs a.now (distinct (union_of (closure_of typing.now.lines a.now) typing.now.iden)) part.now) }
+    ensures { IfOk result (λ m. m ≡ of_pairs a.now
+        (distinct (union_of (closure_of typing.now.lines a.now) typing.now.iden)) part.now) }
 {
     if !is_plain(has_count(a, 2), part) {
         return Ok(None);
@@ -331,7 +342,8 @@ fn closed_with_same(
 
 /// `'` and the body of a `let`: a set with the type of its operand.
 fn kept(alloc: Global, a: &Columns, part: &Meaning) -> Result<Option<Meaning>, AllocError>
-    ensures { IfOk result (λ m. m ≡ when (not part.now.marked) (of_one (whats.Set a.now) a.now.count part.now)) }
+    ensures { IfOk result (λ m. m ≡ when (not part.now.marked)
+        (of_one (whats.Set a.now) a.now.count part.now)) }
 {
     if part.marked {
         return Ok(None);
@@ -342,7 +354,8 @@ fn kept(alloc: Global, a: &Columns, part: &Meaning) -> Result<Option<Meaning>, A
 
 /// `#`
 fn counted(alloc: Global, part: &Meaning) -> Result<Option<Meaning>, AllocError>
-    ensures { IfOk result (λ m. m ≡ when (not part.now.marked) (of_one (whats.Set integers_of) 1 part.now)) }
+    ensures { IfOk result (λ m. m ≡ when (not part.now.marked)
+        (of_one (whats.Set integers_of) 1 part.now)) }
 {
     if part.marked {
         return Ok(None);

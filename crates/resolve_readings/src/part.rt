@@ -94,6 +94,29 @@ pub enum Part {
     Pair(Binary, Box<Part>, Box<Part>),
 }
 
+/// The first operand; the rest of the part is dropped.
+fn first_operand(part: Part) -> Option<Part> {
+    match part {
+        Part::Name(_) | Part::Known(_) => None,
+        Part::Single(_, inner) => Some(Box::into_inner(inner)),
+        Part::Pair(_, left, _) => Some(Box::into_inner(left)),
+    }
+}
+
+impl Part {
+    /// Drops the part from the top. A drop by itself takes stack for each level, and a row of
+    /// operators is as deep as it is long.
+    pub fn put_away(self) {
+        let mut rest = self;
+        for _turn in 0..usize::MAX {
+            match first_operand(rest) {
+                Some(operand) => rest = operand,
+                None => return,
+            }
+        }
+    }
+}
+
 /// A choice under which a part is right: for each name in turn the number of its candidate; and what the part is then.
 #[derive(Drop)]
 pub struct Found {

@@ -44,7 +44,8 @@ fn does_pass(one: &Found, relevant: bool, plain: bool) -> bool
 
 /// The first that passes, and those after it.
 fn next(all: &[Found], relevant: bool, plain: bool) -> Option<(&Found, &[Found])>
-    ensures { MatchOption result (passing relevant plain all.now ≡ []) (λ r. passing relevant plain all.now ≡ r.0.now ∷ passing relevant plain r.1.now) }
+    ensures { MatchOption result (passing relevant plain all.now ≡ [])
+        (λ r. passing relevant plain all.now ≡ r.0.now ∷ passing relevant plain r.1.now) }
 {
     let mut rest = all;
     while let [first, more @ ..] = rest {

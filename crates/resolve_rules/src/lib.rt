@@ -15,7 +15,8 @@ use resolve_readings::Outcome;
 
 /// The rule that a root breaks of which this was decided; None where it has a reading.
 pub fn rule_of(outcome: &Outcome) -> Option<Rule>
-    ensures { (typing : Typing) (root : Part) → Decides typing root outcome.now → IsWithin (count_choices root) outcome.now → IfSome result (λ r. IsBroken typing root r) }
+    ensures { (typing : Typing) (root : Part) → Decides typing root outcome.now →
+        IsWithin (count_choices root) outcome.now → IfSome result (λ r. IsBroken typing root r) }
 {
     match outcome {
         Outcome::Read(_) => None,

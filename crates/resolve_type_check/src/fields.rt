@@ -22,7 +22,8 @@ fn rows_of_declaration(
     bound: &Expr,
 ) -> Result<Option<RowList>, AllocError>
     requires { length model.now.sigs < 2 ^ 32 }
-    ensures { IfOk result (λ o. IfSome o (λ l. SameRows l (declared_rows model.now owner (term_of bound.now)))) }
+    ensures { IfOk result (λ o. IfSome o (λ l. SameRows l
+        (declared_rows model.now owner (term_of bound.now)))) }
 {
     let sigs = model.sigs.as_slice();
     let own = rows_of_sig(alloc, sigs, owner)?;
@@ -47,7 +48,8 @@ fn has_rows(
     field: &Field,
 ) -> Result<bool, AllocError>
     requires { length model.now.sigs < 2 ^ 32 }
-    ensures { IfOk result (λ b. IsTrue b → SameRows field.now.rows (declared_rows model.now owner (term_of bound.now))) }
+    ensures { IfOk result (λ b. IsTrue b → SameRows field.now.rows
+        (declared_rows model.now owner (term_of bound.now))) }
 {
     match rows_of_declaration(alloc, model, owner, bound)? {
         None => Ok(false),

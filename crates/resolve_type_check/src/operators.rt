@@ -91,7 +91,8 @@ fn one_step_more(
     base: &[Row],
     walks: &[Row],
 ) -> Result<RowList, AllocError>
-    ensures { IfOk result (λ all. SameRows all (base.now ++ each_pair (row_join sigs.now) base.now walks.now)) }
+    ensures { IfOk result (λ all. SameRows all (base.now
+        ++ each_pair (row_join sigs.now) base.now walks.now)) }
 {
     let joined = pairs_of(alloc, sigs, Way::Join, base, walks)?;
     either_type(alloc, base, joined.as_slice())

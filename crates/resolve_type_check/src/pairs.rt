@@ -148,7 +148,8 @@ fn last_row(
     turned: &[Column],
     only: &[Column],
 ) -> Result<Option<Row>, AllocError>
-    ensures { IfOk result (λ o. option_rows itself o ≡ map (λ x. reverse x) (first_meets sigs.now only.now turned.now)) }
+    ensures { IfOk result (λ o. option_rows itself o
+        ≡ map (λ x. reverse x) (first_meets sigs.now only.now turned.now)) }
 {
     match first_row(alloc, sigs, only, turned)? {
         None => Ok(None),
@@ -196,7 +197,8 @@ fn add_pairs(
     others: &[Row],
     all: &mut RowList,
 ) -> Result<(), AllocError>
-    ensures { OnOk result (all.new ≡ all.old ++ flat_map (rows_by sigs.now way row.now) others.now) }
+    ensures { OnOk result (all.new ≡ all.old ++ flat_map (rows_by sigs.now way row.now)
+        others.now) }
 {
     let turned = turned_row(alloc, row)?;
     for other in others {

@@ -168,7 +168,8 @@ fn add_parents(
     parents: &[Column],
     all: &mut RowList,
 ) -> Result<(), AllocError>
-    ensures { OnOk result (all.new ≡ all.old ++ flat_map (parent_rows (sig_rows sigs.now steps)) parents.now) }
+    ensures { OnOk result (all.new ≡ all.old ++ flat_map (parent_rows (sig_rows sigs.now steps))
+        parents.now) }
 {
     for parent in parents {
         add_parent(alloc, sigs, steps, *parent, all)?;
@@ -210,7 +211,8 @@ fn typed_as(sigs: &[Sig], sig: u32) -> u32
 
 /// The rows of a sig that an expression names.
 pub fn rows_of_named(alloc: Global, sigs: &[Sig], sig: u32) -> Result<RowList, AllocError>
-    ensures { IfOk result (λ all. all ≡ sig_rows sigs.now (length sigs.now) (typed_as sigs.now sig)) }
+    ensures { IfOk result (λ all. all ≡ sig_rows sigs.now (length sigs.now)
+        (typed_as sigs.now sig)) }
 {
     rows_of_sig(alloc, sigs, typed_as(sigs, sig))
 }

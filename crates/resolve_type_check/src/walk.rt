@@ -32,7 +32,8 @@ pub fn type_of(
     expr: &Expr,
 ) -> Result<Option<RowList>, AllocError>
     requires { length model.now.sigs < 2 ^ 32 }
-    ensures { IfOk result (λ o. IfSome o (IsTypeOf model.now (term_of expr.now) (names_of names.now))) }
+    ensures { IfOk result (λ o. IfSome o (IsTypeOf model.now (term_of expr.now)
+        (names_of names.now))) }
 {
     let sigs = model.sigs.as_slice();
     match expr {
@@ -91,7 +92,8 @@ fn type_of_variables(
     list: &[Variable],
 ) -> Result<Option<RowList>, AllocError>
     requires { length model.now.sigs < 2 ^ 32 }
-    ensures { IfOk result (λ o. IfSome o (IsTypeOfVariables model.now (variable_list (map variable_of list.now)) (names_of names.now))) }
+    ensures { IfOk result (λ o. IfSome o (IsTypeOfVariables model.now
+        (variable_list (map variable_of list.now)) (names_of names.now))) }
 {
     let sigs = model.sigs.as_slice();
     let mut inner = names_copy(alloc, names)?;

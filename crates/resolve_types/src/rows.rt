@@ -205,7 +205,8 @@ fn add_pairs(
     others: &[Items<Member>],
     all: &mut Items<Items<Member>>,
 ) -> Result<(), AllocError>
-    ensures { OnOk result (all.new ≡ all.old ++ filter_map (row_of lines.now way row.now) others.now) }
+    ensures { OnOk result (all.new ≡ all.old ++ filter_map (row_of lines.now way row.now)
+        others.now) }
 {
     for other in others {
         all.push_some(row_by(alloc, lines, way, row, other.as_slice())?)?;

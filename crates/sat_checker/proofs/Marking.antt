@@ -1,11 +1,9 @@
 -- How marks change, and what a clause has beside false literals.
-use Rattle.std.proofs.Common.{◌≡◌, ◌≢◌, ℕ, zero, suc, neg_ℤ, Option, ◌<◌, ◌≤◌, ℤ, pos, negsuc, Bool, true, false, cond, ◌||◌, List, length, set, refl, sym, ap, ◌∙◌, subst, arith, eqb, eq-eqb, ◌⊎◌, inl, inr}
+use Rattle.std.proofs.Common.{◌≡◌, ◌≢◌, ℕ, zero, suc, neg_ℤ, ◌<◌, ◌≤◌, ℤ, pos, negsuc, Bool, true, false, ◌||◌, List, length, set, refl, sym, ap, ◌∙◌, subst, arith, eqb, eq-eqb, ◌⊎◌, inl, inr}
 use Rattle.std.specs.Ordering.{int_eq}
 use Rattle.std.specs.Cmp.{signed_Decides}
 use Rattle.std.proofs.lemmas.List.{get_or-set_other, get_or-set_same}
-use Rattle.sat_lrat.specs.declared.line.Rest.{Rest}
-use Rattle.sat_lrat.specs.declared.line.Rest.TheVariants.{Nothing, One, Several}
-use Rattle.sat_lrat.specs.Step.{beside, with_literal, walk}
+use Rattle.sat_lrat.specs.Step.{beside, with_literal}
 use Rattle.sat_checker.specs.Marks.{slot_of, fails_by, HasMarks}
 
 -- two literals with one slot are one
@@ -48,22 +46,6 @@ fails_by-set stamp marks y x h = elim (int_eq-cases y x) [
   | inr w ↦ ap (λ n. eqb n stamp) (get_or-set_other marks (slot_of y) (slot_of x) stamp 0 (λ e. w.1 (slot_of-injective y x (sym e)))) ∙ sym (ap (λ b. b || fails_by stamp marks x) w.0)
 ]
 
-pub beside_twice : (x : ℤ) (rest : Rest) → beside x (beside x rest) ≡ beside x rest
-beside_twice x Nothing = ap (λ b. cond b (One x) Several) (int_eq-same x)
-beside_twice x (One other) = elim (int_eq x other) as (λ b. beside x (cond b (One x) Several) ≡ cond b (One x) Several) [
-  | true ↦ ap (λ b. cond b (One x) Several) (int_eq-same x)
-  | false ↦ refl
-]
-beside_twice x Several = refl
-
-pub beside_other : (x y : ℤ) (rest : Rest) → int_eq x y ≡ false → beside x (beside y rest) ≡ Several
-beside_other x y Nothing e = ap (λ b. cond b (One x) Several) e
-beside_other x y (One other) e = elim (int_eq y other) as (λ b. beside x (cond b (One y) Several) ≡ Several) [
-  | true ↦ ap (λ b. cond b (One x) Several) e
-  | false ↦ refl
-]
-beside_other x y Several e = refl
-
 -- the marks after a literal was marked
 pub marked_there : (stamp : ℕ) (marks : List ℕ) (y x : ℤ) → slot_of y < length marks → fails_by stamp (set marks (slot_of y) stamp) x ≡ (fails_by stamp marks x || int_eq y x)
 marked_there stamp marks y x room = fails_by-set stamp marks y x room ∙ or_comm (int_eq y x) (fails_by stamp marks x)
@@ -76,10 +58,6 @@ unmarked_there stamp marks y x none room =
 -- one more mark, as a set of false literals
 pub fails_by_set_all : (stamp : ℕ) (marks : List ℕ) (y : ℤ) → slot_of y < length marks → fails_by stamp (set marks (slot_of y) stamp) ≡ with_literal y (fails_by stamp marks)
 fails_by_set_all stamp marks y h = λ i x. fails_by-set stamp marks y x h i
-
-pub walk_on : (stamp : ℕ) (marks : List ℕ) (y : ℤ) (clause_of : ℕ → Option (List ℤ)) (hints : List ℕ) → slot_of y < length marks
-    → walk clause_of (fails_by stamp (set marks (slot_of y) stamp)) hints ≡ walk clause_of (with_literal y (fails_by stamp marks)) hints
-walk_on stamp marks y clause_of hints h = ap (λ fails. walk clause_of fails hints) (fails_by_set_all stamp marks y h)
 
 -- a literal has marks where its negation has
 pub negated : (n : ℕ) (literal : ℤ) → HasMarks n literal → HasMarks n (neg_ℤ literal)

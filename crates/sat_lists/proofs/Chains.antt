@@ -195,12 +195,6 @@ add_here heads next loose c first h l f =
     let longer : length next + 1 ≡ length (next ++ get_or heads c 0 ∷ []) = omega (arith, length-append next (get_or heads c 0 ∷ [])) in
     rw (f', longer) (view-Links _ _ _ _ _ (Links-add heads next loose (lists_of heads next) (nodes_at next loose) c l' (Links-IsLinked heads next loose h)))
 
-pub add_step : (heads next : List ℕ) (loose c first : ℕ) (v : Lists) (next' : List ℕ) (size : ℕ) (same : size ≡ length next') (len : ℕ) → IsLinked heads next loose → linked heads next loose ≡ v → c < length v.lists → first ≡ get_or heads c first → next' ≡ next ++ first ∷ [] → len ≡ size → IsView (set heads c len) next' loose (added v c)
-add_step heads next loose c first v next' size same len h e l f n m =
-    let m' : len ≡ suc (length next) = omega (arith, m, same, ap length n, length-append next (first ∷ [])) in
-    rw (m', n) (subst (λ (w : Lists). c < length w.lists → IsView (set heads c (suc (length next))) (next ++ first ∷ []) loose (added w c)) e
-    (λ l. add_here heads next loose c first h l f) l)
-
 settle_here : (heads next : List ℕ) (loose c first rest k : ℕ) (ks : List ℕ) → IsLinked heads next loose → c < length (lists_of heads next) → nodes_at next loose ≡ k ∷ ks → rest ≡ get_or next (loose - 1) rest → first ≡ get_or heads c first → IsView (set heads c (loose - 1 + 1)) (set next (loose - 1) first) rest (settled (linked heads next loose) c)
 settle_here heads next loose c first rest k ks h l some r f =
     let l' : c < length heads = omega (arith, lists-length heads next) in

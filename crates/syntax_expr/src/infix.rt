@@ -234,7 +234,8 @@ impl<F: Fn(Global, &mut Cursor<'_>, u32, u8, Setting) -> Result<Part, ParseFault
 
     fn link(&self, cursor: &mut Cursor<'_>, level: u8) -> Result<(Infix, Part), ParseFault>
         requires { Nests self.now.depth (F.pre self.now.expr) (F.post self.now.expr) }
-        ensures { Reads (λ found. infix_words found.0 ++ spelling found.1.tree) cursor.old result cursor.new }
+        ensures { Reads (λ found. infix_words found.0 ++ spelling found.1.tree) cursor.old result
+            cursor.new }
     {
         let operator = self.operator(cursor, level)?;
         let operand = self.operand(cursor, level.saturating_add(1))?;
@@ -272,7 +273,8 @@ impl<F: Fn(Global, &mut Cursor<'_>, u32, u8, Setting) -> Result<Part, ParseFault
     /// The arguments after the opening bracket of a box, and the greatest depth among them.
     fn arguments(&self, cursor: &mut Cursor<'_>) -> Result<(Items<Expr>, u32), ParseFault>
         requires { Nests self.now.depth (F.pre self.now.expr) (F.post self.now.expr) }
-        ensures { IfOk result (λ found. kinds cursor.old ≡ separated s.Comma (map spelling found.0) ++ kinds cursor.new) }
+        ensures { IfOk result (λ found. kinds cursor.old ≡ separated s.Comma (map spelling found.0)
+            ++ kinds cursor.new) }
     {
         let mut found = Items::new(self.alloc);
         let first = self.whole(cursor, Setting::Argument)?;
@@ -292,7 +294,8 @@ impl<F: Fn(Global, &mut Cursor<'_>, u32, u8, Setting) -> Result<Part, ParseFault
     /// A box with its arguments.
     fn bracket(&self, cursor: &mut Cursor<'_>) -> Result<(Access<Expr>, bool, u32), ParseFault>
         requires { Nests self.now.depth (F.pre self.now.expr) (F.post self.now.expr) }
-        ensures { Reads (λ found. access_words (spelled_access found.0)) cursor.old result cursor.new }
+        ensures { Reads (λ found. access_words (spelled_access found.0)) cursor.old result
+            cursor.new }
     {
         cursor.expect(Symbol::OpenBracket)?;
         if cursor.eat(Symbol::CloseBracket) {
@@ -306,7 +309,8 @@ impl<F: Fn(Global, &mut Cursor<'_>, u32, u8, Setting) -> Result<Part, ParseFault
     /// A step of a join, whether it is open, and its depth.
     fn access(&self, cursor: &mut Cursor<'_>) -> Result<(Access<Expr>, bool, u32), ParseFault>
         requires { Nests self.now.depth (F.pre self.now.expr) (F.post self.now.expr) }
-        ensures { Reads (λ found. access_words (spelled_access found.0)) cursor.old result cursor.new }
+        ensures { Reads (λ found. access_words (spelled_access found.0)) cursor.old result
+            cursor.new }
     {
         if !cursor.eat(Symbol::Dot) {
             return self.bracket(cursor);
@@ -405,7 +409,8 @@ impl<F: Fn(Global, &mut Cursor<'_>, u32, u8, Setting) -> Result<Part, ParseFault
     /// What stands after `else`, where it may and does.
     fn other(&self, cursor: &mut Cursor<'_>, after: After) -> Result<Other, ParseFault>
         requires { Nests self.now.depth (F.pre self.now.expr) (F.post self.now.expr) }
-        ensures { Reads (λ other. else_words (spelled_other other.tree)) cursor.old result cursor.new }
+        ensures { Reads (λ other. else_words (spelled_other other.tree)) cursor.old result
+            cursor.new }
     {
         if !after.may_go_on || !cursor.eat_word(Word::Else) {
             return Ok(Other {

@@ -20,7 +20,8 @@ pub fn names(
     mark: Symbol,
 ) -> Result<Items<Name>, ParseFault>
     ensures some { IfOk result (λ names. 0 < length names) }
-    ensures reads { Reads (λ names. separated mark (map one_name names)) cursor.old result cursor.new }
+    ensures reads { Reads (λ names. separated mark (map one_name names)) cursor.old result
+        cursor.new }
 {
     let mut found = Items::new(alloc);
     found.push(cursor.name(alloc)?)?;
@@ -36,7 +37,8 @@ pub fn names(
 /// One or more names that are declared here, with commas between them.
 pub fn declared_names(alloc: Global, cursor: &mut Cursor<'_>) -> Result<Items<Named>, ParseFault>
     ensures some { IfOk result (λ names. 0 < length names) }
-    ensures reads { Reads (λ names. separated s.Comma (map declared_name names)) cursor.old result cursor.new }
+    ensures reads { Reads (λ names. separated s.Comma (map declared_name names)) cursor.old result
+        cursor.new }
 {
     let mut found = Items::new(alloc);
     found.push(cursor.named(alloc)?)?;

@@ -205,8 +205,10 @@ pub fn parse_expr(alloc: Global, tokens: &[Token], from: usize) -> Result<Parsed
 pub fn parse_bound(alloc: Global, tokens: &[Token], from: usize) -> Result<ParsedBound, ParseFault>
     requires ends { EndsWell tokens.now }
     requires in_range { from < length tokens.now }
-    ensures spells { IfOk result (λ p. Spells tokens.now from p.next (multiplicity_words p.word ++ spelling p.tree)) }
-    ensures right { IfOk result (λ p. IsTrue (levels.is_bound p.tree && nat_le (depth_of p.tree) TREE_DEPTH)) }
+    ensures spells { IfOk result (λ p. Spells tokens.now from p.next
+        (multiplicity_words p.word ++ spelling p.tree)) }
+    ensures right { IfOk result (λ p. IsTrue (levels.is_bound p.tree && nat_le (depth_of p.tree)
+        TREE_DEPTH)) }
 {
     let mut cursor = cursor_at(tokens, from);
     let bound = bound_at(alloc, &mut cursor)?;

@@ -91,7 +91,8 @@ impl<F: Fn(Global, &mut Cursor<'_>, u32, u8, Setting) -> Result<Part, ParseFault
     /// A block's items after its opening brace, up to the closing one, and the greatest depth among them.
     fn items(&self, cursor: &mut Cursor<'_>) -> Result<(Items<Expr>, u32), ParseFault>
         requires { Nests self.now.depth (F.pre self.now.expr) (F.post self.now.expr) }
-        ensures { IfOk result (λ found. kinds cursor.old ≡ joined (map spelling found.0) ++ symbol s.CloseBrace ∷ kinds cursor.new) }
+        ensures { IfOk result (λ found. kinds cursor.old ≡ joined (map spelling found.0)
+            ++ symbol s.CloseBrace ∷ kinds cursor.new) }
     {
         let mut found = Items::new(self.alloc);
         let mut depth = 0;

@@ -133,7 +133,8 @@ impl<F: Fn(Global, &mut Cursor<'_>, u32, u8, Setting) -> Result<Part, ParseFault
 
     fn binding(&self, cursor: &mut Cursor<'_>) -> Result<(Binding<Expr>, u32), ParseFault>
         requires { Nests self.now.depth (F.pre self.now.expr) (F.post self.now.expr) }
-        ensures { Reads (λ found. binding_words (spelled_binding found.0)) cursor.old result cursor.new }
+        ensures { Reads (λ found. binding_words (spelled_binding found.0)) cursor.old result
+            cursor.new }
     {
         let place = cursor.place();
         let name = cursor.name(self.alloc)?;

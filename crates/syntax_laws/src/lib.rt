@@ -16,11 +16,13 @@ ghost use Rattle.syntax_laws.specs.Division.{IsDivided, start_of};
 ///
 /// A division cuts the text into pieces that are blanks, whole comments, or each the longest token that begins at its place.
 pub fn tokens_are_the_one_division()
-    ensures is_divided { (text : ℕ) (z : List ℕ) (tokens : List Token) → tokens_of text z ≡ Ok tokens →
+    ensures is_divided { (text : ℕ) (z : List ℕ) (tokens : List Token) →
+        tokens_of text z ≡ Ok tokens →
         (lengths : List ℕ) × IsDivided (start_of text) z lengths tokens }
     ensures is_one { (text : ℕ) (z : List ℕ) (ns ms : List ℕ) (tokens others : List Token) →
         IsDivided (start_of text) z ns tokens → IsDivided (start_of text) z ms others → (ns ≡ ms) × (tokens ≡ others) }
-    ensures refused { (text : ℕ) (z : List ℕ) (refusal : Refusal) (ns : List ℕ) (tokens : List Token) →
+    ensures refused { (text : ℕ) (z : List ℕ) (refusal : Refusal) (ns : List ℕ)
+        (tokens : List Token) →
         tokens_of text z ≡ Err refusal → IsDivided (start_of text) z ns tokens → ⊥ }
 {}
 
@@ -37,6 +39,7 @@ ghost use Rattle.syntax_places.specs.ModulePieces.{module_pieces};
 /// A law: the tokens of which a tree keeps places are those that spell it.
 pub fn pieces_say_the_spelling()
     ensures trees { (e : Expr) → said (pieces e) ≡ spelling e }
-    ensures bounds { (word : Option Multiplicity) (e : Expr) → said (worded_pieces word e) ≡ multiplicity_words word ++ spelling e }
+    ensures bounds { (word : Option Multiplicity) (e : Expr) →
+        said (worded_pieces word e) ≡ multiplicity_words word ++ spelling e }
     ensures modules { (m : Module) → said (module_pieces m) ≡ module_words m }
 {}

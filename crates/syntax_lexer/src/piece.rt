@@ -242,7 +242,8 @@ fn literal(alloc: Global, inside: &[u8]) -> Result<Piece, AllocError>
 /// A reserved word or a name.
 fn word_piece(alloc: Global, z: &[u8]) -> Result<Piece, AllocError>
     requires { spec.is_letter (slice_index z.now 0) ≡ true }
-    ensures value { IfOk result (λ p. p ≡ Piece.Token (spec.word_kind (take (spec.name_len z.now) z.now)) (spec.name_len z.now)) }
+    ensures value { IfOk result (λ p. p ≡ Piece.Token
+        (spec.word_kind (take (spec.name_len z.now) z.now)) (spec.name_len z.now)) }
     ensures within { IfOk result (λ p. spec.IsWithin p (length z.now)) }
 {
     let len = name_len(z);

@@ -11,7 +11,7 @@ ghost use Rattle.syntax_expr.specs.Reads.{Reads};
 
 use crate::sig::block;
 use crate::sig_name::sig_name;
-use crate::word::{expect_word, numeral, sees_label};
+use crate::word::{expect_word, numeral, sees_label, sees_name};
 use base_lists::Items;
 use base_types::limits::TREE_DEPTH;
 use std::alloc::Global;
@@ -142,7 +142,7 @@ fn subject(alloc: Global, cursor: &mut Cursor<'_>) -> Result<Subject, ParseFault
 fn label(alloc: Global, cursor: &mut Cursor<'_>) -> Result<Option<Named>, ParseFault>
     ensures { Reads label_words cursor.old result cursor.new }
 {
-    if !matches!(cursor.kind(), TokenKind::Name(_)) {
+    if !sees_name(cursor) {
         return Ok(None);
     }
     let name = cursor.named(alloc)?;
@@ -152,7 +152,8 @@ fn label(alloc: Global, cursor: &mut Cursor<'_>) -> Result<Option<Named>, ParseF
 
 /// `run` or `check`, and whether it is the second.
 fn keyword(cursor: &mut Cursor<'_>) -> Result<bool, ParseFault>
-    ensures { IfOk result (λ is_check. kinds cursor.old ≡ word (keyword_of is_check) ∷ kinds cursor.new) }
+    ensures { IfOk result (λ is_check. kinds cursor.old
+        ≡ word (keyword_of is_check) ∷ kinds cursor.new) }
 {
     if cursor.eat_word(Word::Check) {
         return Ok(true);

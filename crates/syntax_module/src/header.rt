@@ -27,7 +27,8 @@ fn parameter(alloc: Global, cursor: &mut Cursor<'_>) -> Result<Parameter, ParseF
 
 fn parameter_list(alloc: Global, cursor: &mut Cursor<'_>) -> Result<Items<Parameter>, ParseFault>
     ensures some { IfOk result (λ found. 0 < length found) }
-    ensures reads { Reads (λ found. separated s.Comma (map parameter_words found)) cursor.old result cursor.new }
+    ensures reads { Reads (λ found. separated s.Comma (map parameter_words found)) cursor.old result
+        cursor.new }
 {
     let mut found = Items::new(alloc);
     let first = parameter(alloc, cursor)?;
@@ -43,7 +44,8 @@ fn parameter_list(alloc: Global, cursor: &mut Cursor<'_>) -> Result<Items<Parame
 }
 
 fn parameters(alloc: Global, cursor: &mut Cursor<'_>) -> Result<Items<Parameter>, ParseFault>
-    ensures { Reads (λ found. in_brackets (map parameter_words found)) cursor.old result cursor.new }
+    ensures { Reads (λ found. in_brackets (map parameter_words found)) cursor.old result
+        cursor.new }
 {
     if !cursor.eat(Symbol::OpenBracket) {
         return Ok(Items::new(alloc));
@@ -73,7 +75,8 @@ pub fn header(alloc: Global, cursor: &mut Cursor<'_>) -> Result<Option<Header>, 
 
 fn arguments(alloc: Global, cursor: &mut Cursor<'_>) -> Result<Items<SigName>, ParseFault>
     ensures right { IfOk result (λ found. IsTrue (every sig_name_right found)) }
-    ensures reads { Reads (λ found. in_brackets (map sig_name_words found)) cursor.old result cursor.new }
+    ensures reads { Reads (λ found. in_brackets (map sig_name_words found)) cursor.old result
+        cursor.new }
 {
     if !cursor.eat(Symbol::OpenBracket) {
         return Ok(Items::new(alloc));

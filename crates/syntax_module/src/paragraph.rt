@@ -47,7 +47,8 @@ fn paragraph(alloc: Global, cursor: &mut Cursor<'_>) -> Result<Paragraph, ParseF
 /// The paragraphs up to the end of the text.
 pub fn paragraphs(alloc: Global, cursor: &mut Cursor<'_>) -> Result<Items<Paragraph>, ParseFault>
     ensures right { IfOk result (λ found. IsTrue (every (paragraph_right TREE_DEPTH) found)) }
-    ensures reads { Reads (λ found. joined (map paragraph_words found)) cursor.old result cursor.new }
+    ensures reads { Reads (λ found. joined (map paragraph_words found)) cursor.old result
+        cursor.new }
 {
     let mut found = Items::new(alloc);
     for _turn in 0..cursor.left() {

@@ -83,7 +83,8 @@ fn qualifier_at(cursor: &mut Cursor<'_>) -> Option<Qualifier>
 /// The words before `sig`.
 fn qualifiers(alloc: Global, cursor: &mut Cursor<'_>) -> Result<Items<Qualifier>, ParseFault>
     ensures right { IfOk result (λ found. IsTrue (qualifiers_right found)) }
-    ensures reads { Reads (λ found. joined (map qualifier_words found)) cursor.old result cursor.new }
+    ensures reads { Reads (λ found. joined (map qualifier_words found)) cursor.old result
+        cursor.new }
 {
     let mut found = Items::new(alloc);
     for _turn in 0..cursor.left() {
@@ -156,7 +157,8 @@ fn field(alloc: Global, cursor: &mut Cursor<'_>) -> Result<Field, ParseFault>
 fn field_list(alloc: Global, cursor: &mut Cursor<'_>) -> Result<(Items<Field>, bool), ParseFault>
     ensures some { IfOk result (λ found. 0 < length found.0) }
     ensures right { IfOk result (λ found. IsTrue (every (field_right TREE_DEPTH) found.0)) }
-    ensures reads { Reads (λ found. separated s.Comma (map field_words found.0) ++ optional found.1 (symbol s.Comma)) cursor.old result cursor.new }
+    ensures reads { Reads (λ found. separated s.Comma (map field_words found.0)
+        ++ optional found.1 (symbol s.Comma)) cursor.old result cursor.new }
 {
     let mut found = Items::new(alloc);
     let first = field(alloc, cursor)?;
@@ -178,7 +180,8 @@ fn field_list(alloc: Global, cursor: &mut Cursor<'_>) -> Result<(Items<Field>, b
 fn fields(alloc: Global, cursor: &mut Cursor<'_>) -> Result<(Items<Field>, bool), ParseFault>
     ensures comma { IfOk result (λ found. IsTrue (comma_right found.0 found.1)) }
     ensures right { IfOk result (λ found. IsTrue (every (field_right TREE_DEPTH) found.0)) }
-    ensures reads { Reads (λ found. in_braces (map field_words found.0) found.1) cursor.old result cursor.new }
+    ensures reads { Reads (λ found. in_braces (map field_words found.0) found.1) cursor.old result
+        cursor.new }
 {
     cursor.expect(Symbol::OpenBrace)?;
     if cursor.eat(Symbol::CloseBrace) {
@@ -239,7 +242,8 @@ pub fn sig(alloc: Global, cursor: &mut Cursor<'_>) -> Result<Sig, ParseFault>
 /// One or more members, and whether a comma stands after the last one.
 fn member_list(alloc: Global, cursor: &mut Cursor<'_>) -> Result<(Items<Named>, bool), ParseFault>
     ensures some { IfOk result (λ found. 0 < length found.0) }
-    ensures reads { Reads (λ found. separated s.Comma (map declared_name found.0) ++ optional found.1 (symbol s.Comma)) cursor.old result cursor.new }
+    ensures reads { Reads (λ found. separated s.Comma (map declared_name found.0)
+        ++ optional found.1 (symbol s.Comma)) cursor.old result cursor.new }
 {
     let mut found = Items::new(alloc);
     let first = cursor.named(alloc)?;

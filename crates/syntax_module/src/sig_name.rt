@@ -33,7 +33,8 @@ pub fn sig_names(
 ) -> Result<Items<SigName>, ParseFault>
     ensures some { IfOk result (λ found. 0 < length found) }
     ensures right { IfOk result (λ found. IsTrue (every sig_name_right found)) }
-    ensures reads { Reads (λ names. separated mark (map sig_name_words names)) cursor.old result cursor.new }
+    ensures reads { Reads (λ names. separated mark (map sig_name_words names)) cursor.old result
+        cursor.new }
 {
     let mut found = Items::new(alloc);
     let first = sig_name(alloc, cursor)?;

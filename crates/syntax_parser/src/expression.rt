@@ -23,7 +23,8 @@ fn placed(tokens: &[Token], from: usize, parsed: Parsed) -> Result<Parsed, Parse
     requires order { from ≤ parsed.next }
     requires within { parsed.next < length tokens.now }
     ensures same { IfOk result (λ p. p ≡ parsed) }
-    ensures placed { IfOk result (λ p. IsTrue (at_places (pieces p.tree) (take (p.next - from) (drop from tokens.now)))) }
+    ensures placed { IfOk result (λ p. IsTrue (at_places (pieces p.tree)
+        (take (p.next - from) (drop from tokens.now)))) }
     ensures refused { IfErr result (λ e. IsOfTokens (drop from tokens.now) e) }
 {
     if !has_places(&parsed.tree, &tokens[from..parsed.next]) {
@@ -41,7 +42,8 @@ fn placed_bound(
     requires order { from ≤ parsed.next }
     requires within { parsed.next < length tokens.now }
     ensures same { IfOk result (λ p. p ≡ parsed) }
-    ensures placed { IfOk result (λ p. IsTrue (at_places (worded_pieces p.word p.tree) (take (p.next - from) (drop from tokens.now)))) }
+    ensures placed { IfOk result (λ p. IsTrue (at_places (worded_pieces p.word p.tree)
+        (take (p.next - from) (drop from tokens.now)))) }
     ensures refused { IfErr result (λ e. IsOfTokens (drop from tokens.now) e) }
 {
     if !has_bound_places(parsed.word, &parsed.tree, &tokens[from..parsed.next]) {
@@ -59,7 +61,8 @@ pub fn parse_expr(alloc: Global, tokens: &[Token], from: usize) -> Result<Parsed
     requires ends { EndsWell tokens.now }
     requires in_range { from < length tokens.now }
     ensures spells { IfOk result (λ p. Spells tokens.now from p.next (spelling p.tree)) }
-    ensures placed { IfOk result (λ p. IsTrue (at_places (pieces p.tree) (take (p.next - from) (drop from tokens.now)))) }
+    ensures placed { IfOk result (λ p. IsTrue (at_places (pieces p.tree)
+        (take (p.next - from) (drop from tokens.now)))) }
     ensures right { IfOk result (λ p. IsTrue (value_right TREE_DEPTH p.tree)) }
     ensures refused { IfErr result (λ e. IsOfTokens (drop from tokens.now) e) }
 {
@@ -77,9 +80,12 @@ pub fn parse_expr(alloc: Global, tokens: &[Token], from: usize) -> Result<Parsed
 pub fn parse_bound(alloc: Global, tokens: &[Token], from: usize) -> Result<ParsedBound, ParseFault>
     requires ends { EndsWell tokens.now }
     requires in_range { from < length tokens.now }
-    ensures spells { IfOk result (λ p. Spells tokens.now from p.next (multiplicity_words p.word ++ spelling p.tree)) }
-    ensures placed { IfOk result (λ p. IsTrue (at_places (worded_pieces p.word p.tree) (take (p.next - from) (drop from tokens.now)))) }
-    ensures right { IfOk result (λ p. IsTrue (levels.is_bound p.tree && nat_le (depth_of p.tree) TREE_DEPTH)) }
+    ensures spells { IfOk result (λ p. Spells tokens.now from p.next
+        (multiplicity_words p.word ++ spelling p.tree)) }
+    ensures placed { IfOk result (λ p. IsTrue (at_places (worded_pieces p.word p.tree)
+        (take (p.next - from) (drop from tokens.now)))) }
+    ensures right { IfOk result (λ p. IsTrue (levels.is_bound p.tree && nat_le (depth_of p.tree)
+        TREE_DEPTH)) }
     ensures refused { IfErr result (λ e. IsOfTokens (drop from tokens.now) e) }
 {
     match syntax_expr::parse_bound(alloc, tokens, from) {
@@ -97,7 +103,8 @@ pub fn parse_block(alloc: Global, tokens: &[Token], from: usize) -> Result<Parse
     requires ends { EndsWell tokens.now }
     requires in_range { from < length tokens.now }
     ensures spells { IfOk result (λ p. Spells tokens.now from p.next (spelling p.tree)) }
-    ensures placed { IfOk result (λ p. IsTrue (at_places (pieces p.tree) (take (p.next - from) (drop from tokens.now)))) }
+    ensures placed { IfOk result (λ p. IsTrue (at_places (pieces p.tree)
+        (take (p.next - from) (drop from tokens.now)))) }
     ensures right { IfOk result (λ p. IsTrue (block_right TREE_DEPTH p.tree)) }
     ensures refused { IfErr result (λ e. IsOfTokens (drop from tokens.now) e) }
 {

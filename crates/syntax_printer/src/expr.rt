@@ -133,7 +133,8 @@ fn alternative(
 /// Expressions one after another.
 #[cycle(spelled)]
 fn exprs(alloc: Global, items: &[Expr], words: &mut Vec<TokenKind>) -> Result<(), AllocError>
-    ensures { OnOk result (words.new.items ≡ words.old.items ++ s.joined (map s.spelling items.now)) }
+    ensures { OnOk result (words.new.items ≡ words.old.items
+        ++ s.joined (map s.spelling items.now)) }
 {
     for item in items {
         expr(alloc, item, words)?;
@@ -149,7 +150,8 @@ pub fn decls(
     decls: &[Decl<Expr>],
     words: &mut Vec<TokenKind>,
 ) -> Result<(), AllocError>
-    ensures { OnOk result (words.new.items ≡ words.old.items ++ s.separated sym.Comma (map (λ d. s.decl_words (s.spelled_decl d)) decls.now)) }
+    ensures { OnOk result (words.new.items ≡ words.old.items
+        ++ s.separated sym.Comma (map (λ d. s.decl_words (s.spelled_decl d)) decls.now)) }
 {
     let mut is_first = true;
     for one in decls {
@@ -179,7 +181,8 @@ fn bindings(
     bindings: &[Binding<Expr>],
     words: &mut Vec<TokenKind>,
 ) -> Result<(), AllocError>
-    ensures { OnOk result (words.new.items ≡ words.old.items ++ s.separated sym.Comma (map (λ b. s.binding_words (s.spelled_binding b)) bindings.now)) }
+    ensures { OnOk result (words.new.items ≡ words.old.items
+        ++ s.separated sym.Comma (map (λ b. s.binding_words (s.spelled_binding b)) bindings.now)) }
 {
     let mut is_first = true;
     for one in bindings {
@@ -210,7 +213,8 @@ fn links(
     links: &[(Infix, Expr)],
     words: &mut Vec<TokenKind>,
 ) -> Result<(), AllocError>
-    ensures { OnOk result (words.new.items ≡ words.old.items ++ s.joined (map (λ l. s.link_words (s.spelled_link l)) links.now)) }
+    ensures { OnOk result (words.new.items ≡ words.old.items
+        ++ s.joined (map (λ l. s.link_words (s.spelled_link l)) links.now)) }
 {
     for link in links {
         infix(alloc, link.0, words)?;
@@ -226,7 +230,8 @@ fn steps(
     steps: &[Access<Expr>],
     words: &mut Vec<TokenKind>,
 ) -> Result<(), AllocError>
-    ensures { OnOk result (words.new.items ≡ words.old.items ++ s.joined (map (λ a. s.access_words (s.spelled_access a)) steps.now)) }
+    ensures { OnOk result (words.new.items ≡ words.old.items
+        ++ s.joined (map (λ a. s.access_words (s.spelled_access a)) steps.now)) }
 {
     for one in steps {
         match one {

@@ -51,7 +51,8 @@ fn in_brackets<T: Part>(
     parts: &[T],
     words: &mut Vec<TokenKind>,
 ) -> Result<(), AllocError>
-    ensures { OnOk result (words.new.items ≡ words.old.items ++ m.in_brackets (map T.spelled parts.now)) }
+    ensures { OnOk result (words.new.items ≡ words.old.items
+        ++ m.in_brackets (map T.spelled parts.now)) }
 {
     match parts {
         [] => Ok(()),
@@ -70,7 +71,8 @@ fn in_braces<T: Part>(
     has_comma: bool,
     words: &mut Vec<TokenKind>,
 ) -> Result<(), AllocError>
-    ensures { OnOk result (words.new.items ≡ words.old.items ++ m.in_braces (map T.spelled parts.now) has_comma) }
+    ensures { OnOk result (words.new.items ≡ words.old.items
+        ++ m.in_braces (map T.spelled parts.now) has_comma) }
 {
     symbol(Symbol::OpenBrace, words)?;
     separated(alloc, Symbol::Comma, parts, words)?;

@@ -26,7 +26,8 @@ pub fn joined<T: Part>(
     parts: &[T],
     words: &mut Vec<TokenKind>,
 ) -> Result<(), AllocError>
-    ensures { OnOk result (words.new.items ≡ words.old.items ++ s.joined (map T.spelled parts.now)) }
+    ensures { OnOk result (words.new.items ≡ words.old.items
+        ++ s.joined (map T.spelled parts.now)) }
 {
     for part in parts {
         part.spell(alloc, words)?;
@@ -41,7 +42,8 @@ pub fn separated<T: Part>(
     parts: &[T],
     words: &mut Vec<TokenKind>,
 ) -> Result<(), AllocError>
-    ensures { OnOk result (words.new.items ≡ words.old.items ++ s.separated mark (map T.spelled parts.now)) }
+    ensures { OnOk result (words.new.items ≡ words.old.items
+        ++ s.separated mark (map T.spelled parts.now)) }
 {
     let mut is_first = true;
     for part in parts {

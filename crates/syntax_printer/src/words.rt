@@ -163,7 +163,8 @@ fn arrow(
     after: Option<Multiplicity>,
     words: &mut Vec<TokenKind>,
 ) -> Result<(), AllocError>
-    ensures { OnOk result (words.new.items ≡ words.old.items ++ (w.multiplicity_words before ++ w.symbol sym.Arrow ∷ w.multiplicity_words after)) }
+    ensures { OnOk result (words.new.items ≡ words.old.items
+        ++ (w.multiplicity_words before ++ w.symbol sym.Arrow ∷ w.multiplicity_words after)) }
 {
     multiplicity(before, words)?;
     symbol(Symbol::Arrow, words)?;

@@ -134,8 +134,11 @@ fn push_negation(clause: &mut Clause, literal: &i64) -> Result<(), AllocError>
 /// The least variable that has no value.
 pub(crate) fn least_free(path: &Path) -> Option<u64>
     requires { IsPath path.now }
-    ensures free { IfSome result (λ variable. (0 < variable) × (variable ≤ length path.now.values.items) × (value_by (steps_of path.now) variable ≡ None)) }
-    ensures none { IfNone result ((variable : ℕ) → 0 < variable → variable ≤ length path.now.values.items → value_by (steps_of path.now) variable ≢ None) }
+    ensures free { IfSome result (λ variable. (0 < variable)
+        × (variable ≤ length path.now.values.items)
+        × (value_by (steps_of path.now) variable ≡ None)) }
+    ensures none { IfNone result ((variable : ℕ) → 0 < variable →
+        variable ≤ length path.now.values.items → value_by (steps_of path.now) variable ≢ None) }
 {
     for (place, value) in path.values.iter().enumerate() {
         if value.is_none() {

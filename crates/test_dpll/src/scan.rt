@@ -30,7 +30,8 @@ pub(crate) enum Status {
 #[inline]
 fn with_free(found: Status, literal: i64) -> Status
     requires { found ≢ Status.True }
-    ensures rest { (rest : Rest) → together (rest_from result) rest ≡ together (rest_from found) (beside literal rest) }
+    ensures rest { (rest : Rest) → together (rest_from result) rest
+        ≡ together (rest_from found) (beside literal rest) }
     ensures free { (path : Path) → IsFree path literal → IfFree path found → IfFree path result }
     ensures kind { result ≢ Status.True }
 {

@@ -129,7 +129,8 @@ fn go_back(
 ) -> Result<Turn, AllocError>
     requires kept { IsSearch cnf.now.clauses log.old path.old }
     requires conflict { IsFalse log.old.checker (steps_of path.old) number }
-    ensures { IfOk result (IsTurn cnf.now.clauses (length path.old.values.items) path.old log.new path.new) }
+    ensures { IfOk result (IsTurn cnf.now.clauses (length path.old.values.items) path.old log.new
+        path.new) }
 {
     let mut first = number;
     let mut second = None;
@@ -151,7 +152,8 @@ fn turn_round(path: &mut Path, literal: &i64, number: u64) -> Result<(), AllocEr
     requires path { IsPath path.old }
     requires free { IsFree path.old literal.now }
     ensures path { OnOk result (IsPath path.new) }
-    ensures steps { OnOk result ((step : Step) × (step.literal ≡ neg_ℤ literal.now) × (step.reason ≡ Some number) × (steps_of path.new ≡ step ∷ steps_of path.old)) }
+    ensures steps { OnOk result ((step : Step) × (step.literal ≡ neg_ℤ literal.now)
+        × (step.reason ≡ Some number) × (steps_of path.new ≡ step ∷ steps_of path.old)) }
     ensures size { OnOk result (length path.new.values.items ≡ length path.old.values.items) }
 {
     let step = Step {
@@ -166,7 +168,8 @@ fn try_least(path: &mut Path) -> Result<(), AllocError>
     requires path { IsPath path.old }
     requires free { (literal : ℤ) × IsFree path.old literal }
     ensures path { OnOk result (IsPath path.new) }
-    ensures steps { OnOk result ((step : Step) × (step.reason ≡ None) × (steps_of path.new ≡ step ∷ steps_of path.old)) }
+    ensures steps { OnOk result ((step : Step) × (step.reason ≡ None)
+        × (steps_of path.new ≡ step ∷ steps_of path.old)) }
     ensures size { OnOk result (length path.new.values.items ≡ length path.old.values.items) }
 {
     let Some(variable) = least_free(path) else {
@@ -184,7 +187,8 @@ fn push_forced(path: &mut Path, literal: &i64, number: u64) -> Result<(), AllocE
     requires path { IsPath path.old }
     requires free { IsFree path.old literal.now }
     ensures path { OnOk result (IsPath path.new) }
-    ensures steps { OnOk result ((step : Step) × (step.literal ≡ literal.now) × (step.reason ≡ Some number) × (steps_of path.new ≡ step ∷ steps_of path.old)) }
+    ensures steps { OnOk result ((step : Step) × (step.literal ≡ literal.now)
+        × (step.reason ≡ Some number) × (steps_of path.new ≡ step ∷ steps_of path.old)) }
     ensures size { OnOk result (length path.new.values.items ≡ length path.old.values.items) }
 {
     let step = Step {
@@ -204,7 +208,8 @@ fn take_unit(
 ) -> Result<Turn, AllocError>
     requires kept { IsSearch _cnf.now.clauses _log.now path.old }
     requires unit { IsUnitAt path.old _cnf.now.clauses number literal.now }
-    ensures { IfOk result (IsTurn _cnf.now.clauses (length path.old.values.items) path.old _log.now path.new) }
+    ensures { IfOk result (IsTurn _cnf.now.clauses (length path.old.values.items) path.old _log.now
+        path.new) }
 {
     push_forced(path, literal, number)?;
     Ok(Turn::On)
@@ -214,7 +219,8 @@ fn take_unit(
 fn take_least(_cnf: &Cnf, _log: &LemmaLog, path: &mut Path) -> Result<Turn, AllocError>
     requires kept { IsSearch _cnf.now.clauses _log.now path.old }
     requires free { (literal : ℤ) × IsFree path.old literal }
-    ensures { IfOk result (IsTurn _cnf.now.clauses (length path.old.values.items) path.old _log.now path.new) }
+    ensures { IfOk result (IsTurn _cnf.now.clauses (length path.old.values.items) path.old _log.now
+        path.new) }
 {
     try_least(path)?;
     Ok(Turn::On)
@@ -229,7 +235,8 @@ fn take_turn(
 ) -> Result<Turn, AllocError>
     requires kept { IsSearch cnf.now.clauses log.old path.old }
     requires size { length path.old.values.items ≡ cnf.now.variables }
-    ensures { IfOk result (IsTurn cnf.now.clauses (length path.old.values.items) path.old log.new path.new) }
+    ensures { IfOk result (IsTurn cnf.now.clauses (length path.old.values.items) path.old log.new
+        path.new) }
 {
     match find(path, cnf.clauses.clauses()) {
         Found::True => Ok(Turn::Full),

@@ -44,8 +44,7 @@ returns-in-Unknown g c =
     let limits : AreLimitsOf c.args.model.now c.args.target.now.scopes over = record { uppers = before.uppers; fixed = before.fixed; table = before.table } in
     let said : SayOver c.args.model.now c.args.target.now states c.in-Unknown.proof.cnf.clauses = record { bounds = over; limits = limits; count = refl; says = says } in
     let low : c.in-Unknown.proof.states ≤ c.args.target.now.scopes.states = omega (arith, count, c.loop-fewer-test.true) in
-    let below : 1 < states → IsRuledOutOver c.args.model.now c.args.target.now (states - 1) = ruled_below c.args.model.now c.args.target.now states c.loop-fewer.below c.loop-fewer.invariant.below in
-    (
+    let below : 1 < states → IsRuledOutOver c.args.model.now c.args.target.now (states - 1) = ruled_below c.args.model.now c.args.target.now states c.loop-fewer.below c.loop-fewer.invariant.below in (
       omega (arith, count),
       low,
       (refl, spent.1),

@@ -1,0 +1,10 @@
+use Rattle.std.proofs.Common.{[], ◌∷◌, sym, ap, ◌∙◌}
+use Rattle.syntax_tree.specs.declared.token.Symbol.TheVariants as s
+use Rattle.syntax_tree.specs.Words.{symbol}
+use Rattle.syntax_tree.specs.Spelling.{kinds, decls_spelling}
+use Rattle.syntax_expr.proofs.Chains.{then_read}
+use Rattle.syntax_module.proofs.bodies.square_parameters.Goals as goal
+
+pub returns-clause-reads : goal.returns-clause-reads
+returns-clause-reads c = c.in_ok-expect.ensures ∙ ap (λ w. symbol s.OpenBracket ∷ w) (ap kinds (sym c.if-eat.ensures.kept)
+    ∙ then_read (decls_spelling c.in_ok-decls.decls) (symbol s.CloseBracket ∷ []) (kinds c.expect-2.new.self) c.in_ok-decls.ensures.reads c.in_ok-expect-2.ensures)

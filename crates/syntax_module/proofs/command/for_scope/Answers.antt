@@ -1,0 +1,17 @@
+use Rattle.std.proofs.Common.{refl, ◌∷◌, sym, ap, ◌∙◌}
+use Rattle.syntax_tree.specs.declared.token.Word.TheVariants as w
+use Rattle.syntax_tree.specs.Words.{word}
+use Rattle.syntax_tree.specs.Spelling.{kinds}
+use Rattle.syntax_module.proofs.command.for_scope.Goals as goal
+
+pub returns-then-not-eat_word-clause-right : goal.returns-then-not-eat_word-clause-right
+returns-then-not-eat_word-clause-right c = refl
+
+pub returns-then-not-eat_word-clause-reads : goal.returns-then-not-eat_word-clause-reads
+returns-then-not-eat_word-clause-reads c = ap kinds (sym c.if-not-eat_word.ensures.kept)
+
+pub returns-clause-right : goal.returns-clause-right
+returns-clause-right c = c.in_ok-scope.ensures.right
+
+pub returns-clause-reads : goal.returns-clause-reads
+returns-clause-reads c = c.if-not-eat_word.ensures.found ∙ ap (λ v. word w.For ∷ v) c.in_ok-scope.ensures.reads
