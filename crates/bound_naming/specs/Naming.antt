@@ -1,14 +1,9 @@
 -- The naming. What atoms are called is no part of a model's meaning, so of the lassos that differ in it alone it is enough to
 -- look for one: for a canonical one, which uses the atoms of a sig in turn as far as pairs of tuples tell.
 use Rattle.std.specs.Prelude.{◌≡◌, ◌↔◌, ◌⊎◌, ◌<◌, ◌≤◌, ◌+◌, ℕ, Bool, true, false, ◌&&◌, List, [], ◌∷◌, length, map, take, All, Contains, IsSome, Some, None, slice_get}
-use Rattle.core_tree.specs.declared.model.Model.{Model}
-use Rattle.core_tree.specs.declared.model.Sig.{Sig}
-use Rattle.core_meaning.specs.declared.scopes.SigScope.{SigScope}
-use Rattle.core_meaning.specs.declared.scopes.Scopes.{Scopes}
+use Rattle.core_tuples.specs.Sets.{In}
 use Rattle.core_meaning.specs.Sequence.{LassoValue}
 use Rattle.core_renaming.specs.Composed.{exchanged}
-use Rattle.core_renaming.specs.Sigs.{IsOwnAtom}
-use Rattle.bound_owners.specs.Own.{owner_of}
 use Rattle.bound_uppers.specs.declared.table.Bound.{Bound}
 use Rattle.bound_uppers.specs.declared.table.Bounds.{Bounds}
 use Rattle.bound_uppers.specs.Table.{IsRow, variable_of}
@@ -66,23 +61,20 @@ favours_all x (pairs ∷ rest) = favours x pairs && favours_all x rest
 abbrev pub DoesHold : Bounds → LassoValue → ℕ → Type 0
 DoesHold bounds lasso v = (s r : ℕ) × (t : List ℕ) × IsCell bounds s r t v × InState lasso s r t
 
--- neighbours: two atoms that follow one another, of one top-level sig but `String`, and of which neither is an own atom
-pub record AreNeighbours (model : Model) (scopes : Scopes) (s a b : ℕ) : Type 0 where
-  pub next : b ≡ a + 1
-  pub sig : (d : Sig) × (slice_get model.sigs s ≡ Some d) × IsSome d.origin
-  pub atoms : (e : SigScope) × (slice_get scopes.numbers s ≡ Some e) × (e.top ≡ true) × IsOwnAtom scopes.numbers s e a × IsOwnAtom scopes.numbers s e b
-  pub first : owner_of model.sigs scopes.numbers s a ≡ None
-  pub second : owner_of model.sigs scopes.numbers s b ≡ None
+-- two atoms of sigs that follow one another, and that the bounds don't tell apart: their exchange carries each upper bound into itself
+pub record AreInterchangeable (bounds : Bounds) (atoms a : ℕ) : Type 0 where
+  pub within : a + 1 < atoms
+  pub closed : (r : ℕ) (b : Bound) (t : List ℕ) → slice_get bounds.relations r ≡ Some b → In t b.upper → In (map (exchanged a (a + 1)) t) b.upper
 
--- the pairs of some neighbours
-abbrev pub AreSomePairs : Model → Scopes → Bounds → ℕ → List Pair → Type 0
-AreSomePairs model scopes bounds most pairs = (s a b : ℕ) × AreNeighbours model scopes s a b × ArePairs bounds most a b pairs
+-- the pairs of two such atoms
+abbrev pub AreSomePairs : Bounds → ℕ → ℕ → List Pair → Type 0
+AreSomePairs bounds atoms most pairs = (a : ℕ) × AreInterchangeable bounds atoms a × ArePairs bounds most a (a + 1) pairs
 
--- the pairs of all neighbours, a list for each two of them
-pub record AreAllPairs (model : Model) (scopes : Scopes) (bounds : Bounds) (most : ℕ) (all : List (List Pair)) : Type 0 where
-  pub only : All (AreSomePairs model scopes bounds most) all
-  pub every : (s a b : ℕ) → AreNeighbours model scopes s a b → (pairs : List Pair) × Contains all pairs × ArePairs bounds most a b pairs
+-- the pairs of all such atoms, a list for each two of them
+pub record AreAllPairs (bounds : Bounds) (atoms most : ℕ) (all : List (List Pair)) : Type 0 where
+  pub only : All (AreSomePairs bounds atoms most) all
+  pub every : (a : ℕ) → AreInterchangeable bounds atoms a → (pairs : List Pair) × Contains all pairs × ArePairs bounds most a (a + 1) pairs
 
--- a lasso is canonical: of no two neighbours does a pair ask for their exchange
+-- a lasso is canonical: no pair asks for an exchange
 abbrev pub IsCanonical : Bounds → List (List Pair) → LassoValue → Type 0
 IsCanonical bounds all lasso = All (Favours (DoesHold bounds lasso)) all
