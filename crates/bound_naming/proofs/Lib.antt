@@ -1,0 +1,4 @@
+mod Indexing
+mod Finding
+mod Matching
+mod Listing

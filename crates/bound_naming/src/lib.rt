@@ -6,6 +6,9 @@
 //! neighbours, at the first pair on which it differs, it has the earlier tuple.
 #![tactic(auto)]
 
+pub mod listing;
 pub mod pairs;
+pub mod partners;
+pub mod spots;
 
 pub use pairs::{Pair, PairList};
