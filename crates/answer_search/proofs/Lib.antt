@@ -1,3 +1,4 @@
 mod ClausesLaw
+mod NamedLaw
 mod NoneLaw
 mod SayLaw

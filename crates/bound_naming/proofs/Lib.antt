@@ -2,3 +2,4 @@ mod Indexing
 mod Finding
 mod Matching
 mod Listing
+mod Neighbours

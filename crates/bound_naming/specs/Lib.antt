@@ -1,2 +1,3 @@
+pub mod Exchanged
 pub mod Naming
 pub mod Reckoned

@@ -42,7 +42,7 @@ fn exchanged(a: u32, b: u32, number: u32) -> u32
 
 /// What the exchange of two atoms makes of a tuple.
 #[tactic(auto, using(bound_uppers::proofs::Sizes::map_more))]
-fn exchange(alloc: Global, a: u32, b: u32, numbers: &[u32]) -> Result<Tuple, AllocError>
+pub(crate) fn exchange(alloc: Global, a: u32, b: u32, numbers: &[u32]) -> Result<Tuple, AllocError>
     ensures { IfOk result (λ t. t ≡ map (exchanged a b) numbers.now) }
 {
     let mut tuple = Tuple::new(alloc);
