@@ -2,3 +2,6 @@ mod Indexing
 mod Finding
 mod Matching
 mod Listing
+mod Spots
+mod Partners
+mod States

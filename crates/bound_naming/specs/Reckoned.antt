@@ -1,13 +1,18 @@
 -- The pairs as they are reckoned: an index of the tuples by their atoms, partners in the upper bounds, and then state by state.
-use Rattle.std.specs.Prelude.{◌≡◌, ◌⊎◌, ◌<◌, ◌+◌, ◌*◌, ◌-◌, ℕ, zero, suc, Bool, true, false, not, ◌&&◌, if◌then◌else◌, eqb, nat_lt, List, [], ◌∷◌, ◌++◌, length, map, take, filter, get_or, set, All, Contains, Option, Some, None, slice_get}
+use Rattle.std.specs.Prelude.{◌≡◌, ◌⊎◌, ◌<◌, ◌≤◌, ◌+◌, ◌*◌, ◌-◌, ℕ, zero, suc, Bool, true, false, not, ◌&&◌, if◌then◌else◌, eqb, nat_lt, List, [], ◌∷◌, ◌++◌, length, map, take, filter, get_or, set, All, Contains, Option, Some, None, slice_get}
 use Rattle.std.specs.List.{list_any}
 use Rattle.core_tuples.specs.Sets.{is_same}
 use Rattle.core_renaming.specs.Composed.{exchanged}
+use Rattle.core_tree.specs.declared.model.Model.{Model}
+use Rattle.core_meaning.specs.declared.scopes.Scopes.{Scopes}
 use Rattle.bound_uppers.specs.declared.table.Bound.{Bound}
+use Rattle.bound_uppers.specs.declared.table.Bounds.{Bounds}
 use Rattle.bound_uppers.specs.declared.places.Cells.{Cells}
 use Rattle.bound_uppers.specs.declared.places.Layout.{Layout}
-use Rattle.bound_uppers.specs.Table.{keep, cell_at}
+use Rattle.bound_uppers.specs.Table.{IsTable, IsLayout, keep, cell_at}
+use Rattle.bound_uppers.specs.Candidates.{HasSets}
 use Rattle.bound_naming.specs.declared.pairs.Pair.{Pair}
+use Rattle.bound_naming.specs.Naming.{ArePairs, AreNeighbours, AreSomePairs}
 use Rattle.bound_naming.specs.declared.spots.Spot.{Spot}
 use Rattle.bound_naming.specs.declared.partners.Match.{Match}
 
@@ -115,3 +120,31 @@ state_pairs table all rest (suc s) = map (pair_in table (suc s)) rest
 abbrev pub pairs_to : Layout → List Match → ℕ → List Pair
 pairs_to table all zero = []
 pairs_to table all (suc n) = pairs_to table all n ++ state_pairs table all (moving all) n
+
+-- ---- neighbours
+
+-- what the pairs are reckoned from
+pub record IsReady (bounds : Bounds) (table : Layout) (lists : List (List Spot)) : Type 0 where
+  pub placed : IsTable bounds
+  pub laid : IsLayout bounds table
+  pub index : IsIndex bounds.relations (length lists) (length bounds.relations) lists
+  pub sets : HasSets bounds
+
+-- of so many atoms of a sig, the first of which are owned, one that has a neighbour behind it, neither of them owned
+abbrev pub IsFree : ℕ → ℕ → ℕ → Type 0
+IsFree owned count place = (owned ≤ place) × (place + 1 < count)
+
+-- the pairs of one of the first atoms and of its neighbour
+abbrev pub AreFreePairs : Bounds → ℕ → ℕ → ℕ → ℕ → ℕ → List Pair → Type 0
+AreFreePairs bounds most first owned count k pairs = (place : ℕ) × (place < k) × IsFree owned count place × ArePairs bounds most (first + place) (first + place + 1) pairs
+
+-- the pairs of the first atoms and their neighbours are added
+pub record AddsPairs (bounds : Bounds) (most first owned count k : ℕ) (old new : List (List Pair)) : Type 0 where
+  pub kept : (pairs : List Pair) → Contains old pairs → Contains new pairs
+  pub only : (pairs : List Pair) → Contains new pairs → Contains old pairs ⊎ AreFreePairs bounds most first owned count k pairs
+  pub every : (place : ℕ) → place < k → IsFree owned count place → (pairs : List Pair) × Contains new pairs × ArePairs bounds most (first + place) (first + place + 1) pairs
+
+-- the pairs of the neighbours of the first sigs
+pub record AreSigPairs (model : Model) (scopes : Scopes) (bounds : Bounds) (most n : ℕ) (all : List (List Pair)) : Type 0 where
+  pub only : (pairs : List Pair) → Contains all pairs → AreSomePairs model scopes bounds most pairs
+  pub every : (s a b : ℕ) → s < n → AreNeighbours model scopes s a b → (pairs : List Pair) × Contains all pairs × ArePairs bounds most a b pairs
