@@ -5,3 +5,4 @@ mod Listing
 mod Spots
 mod Partners
 mod States
+mod Neighbours

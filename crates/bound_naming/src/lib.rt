@@ -7,8 +7,10 @@
 #![tactic(auto)]
 
 pub mod listing;
+pub mod neighbours;
 pub mod pairs;
 pub mod partners;
 pub mod spots;
 
+pub use neighbours::neighbour_pairs;
 pub use pairs::{Pair, PairList};

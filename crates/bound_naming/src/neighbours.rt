@@ -1,9 +1,12 @@
 //! The pairs of all neighbours: of each two atoms that follow one another in a top-level sig but
 //! `String`, and of which neither is an own atom.
 
-ghost use Rattle.std.specs.Prelude.{◌≡◌, ◌⊎◌, ◌&&◌, ◌≤◌, ◌<◌, ◌+◌, ◌++◌, ◌∷◌, [], ℕ, List, is_some, length, slice_get, Some, IfOk, OnOk};
-ghost use Rattle.core_meaning.specs.Kept.{first_atom};
+ghost use Rattle.std.specs.Prelude.{◌≡◌, ◌⊎◌, ◌&&◌, ◌≤◌, ◌<◌, ◌+◌, ◌++◌, ◌∷◌, [], ℕ, List, is_some, length, get_or, slice_get, Some, IfOk, OnOk};
+ghost use Rattle.core_tuples.specs.Sets.{IsTupleSet};
+ghost use Rattle.bound_owners.specs.Owned.{AreConstantsOf};
+ghost use Rattle.bound_uppers.specs.declared.table.Bound.{Bound as BoundTree};
 ghost use Rattle.bound_uppers.specs.Table.{IsTable};
+ghost use Rattle.bound_uppers.specs.Kinds.{no_span, HasSpans};
 ghost use Rattle.bound_naming.specs.declared.pairs.Pair.{Pair as PairTree};
 ghost use Rattle.bound_naming.specs.Naming.{ArePairs, AreAllPairs};
 ghost use Rattle.bound_naming.specs.Reckoned.{IsReady, IsFree, AddsPairs, AreSigPairs};
@@ -14,7 +17,7 @@ use crate::spots::{SpotList, index_of};
 use bound_owners::own::{Constants, constants_of, owners_of};
 use bound_owners::tops::tops;
 use bound_uppers::numbers::{AtomRange, AtomRanges, spans_of};
-use bound_uppers::{Bounds, Layout, layout};
+use bound_uppers::{Bound, Bounds, Layout, layout, rows_rise};
 use core_meaning::{Scopes, SigScope};
 use core_tree::{Model, Sig};
 use std::alloc::{AllocError, Global};
@@ -32,6 +35,7 @@ fn next_pairs(
     ensures { IsReady bounds.now table.now lists.now → IfOk result (λ ps.
         ArePairs bounds.now most atom (atom + 1) ps) }
 {
+    rows_rise();
     let relations = bounds.relations.as_slice();
     let pairs = pairs_of(alloc, relations, table, lists, atom, atom + 1, bounds.states, most)?;
     Ok(pairs)
@@ -68,6 +72,7 @@ fn add_place(
 }
 
 /// Adds the pairs of the neighbours among the atoms of a sig, the first of which are owned.
+#[tactic(auto, using(crate::proofs::Neighbours::atoms_none, crate::proofs::Neighbours::atoms_more, crate::proofs::Neighbours::atoms_all))]
 fn add_atoms(
     alloc: Global,
     bounds: &Bounds,
@@ -93,4 +98,117 @@ fn is_named(sig: &Sig, scope: &SigScope) -> bool
     ensures { result ≡ is_some sig.now.origin && scope.now.top }
 {
     sig.origin.is_some() && scope.top
+}
+
+/// The numbers of a sig.
+fn span_of(spans: &AtomRanges, sig: usize) -> AtomRange
+    ensures { result ≡ get_or spans.now.sigs.items sig no_span }
+{
+    if sig < spans.sigs.len() {
+        spans.sigs[sig]
+    } else {
+        AtomRange { first: 0, count: 0 }
+    }
+}
+
+/// Adds the pairs of the neighbours among the atoms of a sig, if they may change places.
+fn add_sig(
+    alloc: Global,
+    model: &Model,
+    scopes: &Scopes,
+    bounds: &Bounds,
+    table: &Layout,
+    lists: &[SpotList],
+    spans: &AtomRanges,
+    constants: &Constants,
+    sig: u32,
+    most: usize,
+    all: &mut Vec<PairList>,
+) -> Result<(), AllocError>
+    requires spans { HasSpans scopes.now spans.now }
+    requires constants { AreConstantsOf model.now.sigs constants.now }
+    requires counted { length scopes.now.numbers ≡ length model.now.sigs }
+    requires within { sig < length model.now.sigs }
+    ensures { IsReady bounds.now table.now lists.now →
+        AreSigPairs model.now scopes.now bounds.now most sig all.old.items →
+        OnOk result (AreSigPairs model.now scopes.now bounds.now most (sig + 1) all.new.items) }
+{
+    let sigs = model.sigs.as_slice();
+    let numbers = scopes.numbers.as_slice();
+    let place = sig as usize;
+    if !is_named(&sigs[place], &numbers[place]) {
+        return Ok(());
+    }
+    let owned = owners_of(constants, numbers, sig).len();
+    let span = span_of(spans, place);
+    add_atoms(alloc, bounds, table, lists, span, owned, most, all)?;
+    Ok(())
+}
+
+/// The upper bounds are sets of tuples.
+#[tactic(auto, using(bound_uppers::proofs::Sizes::sets_more, bound_uppers::proofs::Sizes::sets_all))]
+fn upper_sets(relations: &[Bound])
+    ensures { (r : ℕ) (b : BoundTree) → slice_get relations.now r ≡ Some b → IsTupleSet b.upper }
+{
+    for bound in relations {
+        // for the proof: this call's clause says that the bound is a set of tuples
+        let _count = bound.upper.len();
+    }
+}
+
+/// The pairs of all neighbours, where the constants are known: a list for each two neighbours.
+fn all_pairs(
+    alloc: Global,
+    model: &Model,
+    scopes: &Scopes,
+    bounds: &Bounds,
+    spans: &AtomRanges,
+    constants: &Constants,
+    most: usize,
+) -> Result<Vec<PairList>, AllocError>
+    requires spans { HasSpans scopes.now spans.now }
+    requires constants { AreConstantsOf model.now.sigs constants.now }
+    requires counted { length scopes.now.numbers ≡ length model.now.sigs }
+    ensures { IsTable bounds.now → IfOk result (λ v.
+        AreAllPairs model.now scopes.now bounds.now most v.items) }
+{
+    upper_sets(bounds.relations.as_slice());
+    let table = layout(alloc, bounds)?;
+    let lists = index_of(alloc, bounds, spans.integers.first as usize)?;
+    let mut all = Vec::new(alloc);
+    let mut number = 0u32;
+    for _sig in model.sigs.as_slice() {
+        add_sig(
+            alloc, model, scopes, bounds, &table, &lists, spans, constants, number, most, &mut all,
+        )?;
+        if number == u32::MAX {
+            return Err(AllocError);
+        }
+        number += 1;
+    }
+    Ok(all)
+}
+
+/// The pairs of all neighbours, a list for each two: of their partners the first so many. Scopes of
+/// other sigs than the model's, or of more numbers than a universe has, are answered as if memory
+/// were wanting.
+pub fn neighbour_pairs(
+    alloc: Global,
+    model: &Model,
+    scopes: &Scopes,
+    bounds: &Bounds,
+    most: usize,
+) -> Result<Vec<PairList>, AllocError>
+    ensures { IsTable bounds.now → IfOk result (λ v.
+        AreAllPairs model.now scopes.now bounds.now most v.items) }
+{
+    let sigs = model.sigs.as_slice();
+    if scopes.numbers.len() != sigs.len() {
+        return Err(AllocError);
+    }
+    let spans = spans_of(alloc, scopes)?;
+    let ups = tops(alloc, sigs)?;
+    let constants = constants_of(alloc, sigs, &ups)?;
+    let all = all_pairs(alloc, model, scopes, bounds, &spans, &constants, most)?;
+    Ok(all)
 }
