@@ -1,5 +1,9 @@
 mod Indexing
 mod Finding
 mod Matching
-mod Listing
-mod Neighbours
+mod StateLists
+mod IndexLaws
+mod PartnerLaws
+mod States
+mod NeighbourLaws
+mod Deciding

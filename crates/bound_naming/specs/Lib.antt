@@ -1,3 +1,3 @@
-pub mod Exchanged
 pub mod Naming
+pub mod Decided
 pub mod Reckoned

@@ -1,13 +1,16 @@
 -- The pairs as they are reckoned: an index of the tuples by their atoms, partners in the upper bounds, and then state by state.
-use Rattle.std.specs.Prelude.{◌≡◌, ◌⊎◌, ◌<◌, ◌+◌, ◌*◌, ◌-◌, ℕ, zero, suc, Bool, true, false, not, ◌&&◌, if◌then◌else◌, eqb, nat_lt, List, [], ◌∷◌, ◌++◌, length, map, take, filter, get_or, set, All, Contains, Option, Some, None, slice_get}
+use Rattle.std.specs.Prelude.{◌≡◌, ◌⊎◌, ◌<◌, ◌≤◌, ◌+◌, ◌*◌, ◌-◌, ℕ, zero, suc, Bool, true, false, not, ◌&&◌, if◌then◌else◌, eqb, nat_lt, List, [], ◌∷◌, ◌++◌, length, map, take, filter, get_or, set, All, Contains, Option, Some, None, slice_get}
 use Rattle.std.specs.List.{list_any}
-use Rattle.core_tuples.specs.Sets.{is_same}
+use Rattle.core_tuples.specs.Sets.{In, is_same}
 use Rattle.core_renaming.specs.Composed.{exchanged}
 use Rattle.bound_uppers.specs.declared.table.Bound.{Bound}
+use Rattle.bound_uppers.specs.declared.table.Bounds.{Bounds}
 use Rattle.bound_uppers.specs.declared.places.Cells.{Cells}
 use Rattle.bound_uppers.specs.declared.places.Layout.{Layout}
-use Rattle.bound_uppers.specs.Table.{keep, cell_at}
+use Rattle.bound_uppers.specs.Table.{IsTable, IsLayout, keep, cell_at}
+use Rattle.bound_uppers.specs.Candidates.{HasSets}
 use Rattle.bound_naming.specs.declared.pairs.Pair.{Pair}
+use Rattle.bound_naming.specs.Naming.{ArePairs, AreInterchangeable, AreSomePairs}
 use Rattle.bound_naming.specs.declared.spots.Spot.{Spot}
 use Rattle.bound_naming.specs.declared.partners.Match.{Match}
 
@@ -115,3 +118,25 @@ state_pairs table all rest (suc s) = map (pair_in table (suc s)) rest
 abbrev pub pairs_to : Layout → List Match → ℕ → List Pair
 pairs_to table all zero = []
 pairs_to table all (suc n) = pairs_to table all n ++ state_pairs table all (moving all) n
+
+-- ---- neighbours
+
+-- what the pairs are reckoned from
+pub record IsReady (bounds : Bounds) (table : Layout) (lists : List (List Spot)) : Type 0 where
+  pub placed : IsTable bounds
+  pub laid : IsLayout bounds table
+  pub index : IsIndex bounds.relations (length lists) (length bounds.relations) lists
+  pub sets : HasSets bounds
+
+-- the exchange of a and b carries a tuple of an upper bound into that bound
+abbrev pub Stays : List Bound → ℕ → ℕ → Spot → Type 0
+Stays bs a b s = (c : Bound) (t : List ℕ) → slice_get bs s.relation ≡ Some c → slice_get c.upper.tuples s.place ≡ Some t → In (map (exchanged a b) t) c.upper
+
+-- and so each tuple that has a or the next atom
+abbrev pub AllStay : List Bound → List (List Spot) → ℕ → Type 0
+AllStay bs lists a = All (Stays bs a (a + 1)) (get_or lists a []) × All (Stays bs a (a + 1)) (get_or lists (a + 1) [])
+
+-- the pairs of the first so many atoms, each with the next, as far as the bounds don't tell them apart
+pub record ArePairsTo (bounds : Bounds) (atoms most n : ℕ) (all : List (List Pair)) : Type 0 where
+  pub only : All (AreSomePairs bounds atoms most) all
+  pub every : (a : ℕ) → a < n → AreInterchangeable bounds atoms a → (pairs : List Pair) × Contains all pairs × ArePairs bounds most a (a + 1) pairs

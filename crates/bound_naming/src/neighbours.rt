@@ -1,21 +1,40 @@
-//! Which atoms the upper bounds don't tell apart, and the pairs of all of them.
+//! The pairs of all neighbours: of each two atoms that follow one another, and that the upper bounds
+//! don't tell apart.
 
-ghost use Rattle.std.specs.Prelude.{◌≡◌, ◌↔◌, ◌+◌, ◌<◌, ◌≤◌, ℕ, All, IfOk, OnOk, IsTrue, length};
+ghost use Rattle.std.specs.Prelude.{◌≡◌, ◌↔◌, ◌<◌, ◌^◌, ◌+◌, ℕ, All, length, IfOk, OnOk, IsTrue};
 ghost use Rattle.bound_uppers.specs.Candidates.{HasSets};
 ghost use Rattle.bound_uppers.specs.Table.{IsTable, IsLayout};
-ghost use Rattle.bound_naming.specs.Exchanged.{Stays, AllStay, ArePairsTo};
 ghost use Rattle.bound_naming.specs.Naming.{ArePairs, AreAllPairs};
-ghost use Rattle.bound_naming.specs.Reckoned.{IsIndex};
+ghost use Rattle.bound_naming.specs.Reckoned.{IsReady, Stays, AllStay, ArePairsTo};
 
 use crate::listing::pairs_of;
 use crate::pairs::PairList;
 use crate::partners::exchange;
 use crate::spots::{Spot, SpotList, index_of};
-use bound_uppers::{Bound, Bounds, Layout};
+use bound_uppers::{Bound, Bounds, Layout, rows_rise};
 use std::alloc::{AllocError, Global};
 
 /// How many pairs of two atoms are listed at most.
 pub const NAMED_PAIRS: usize = 40;
+
+/// The first pairs of an atom and the next one.
+fn next_pairs(
+    alloc: Global,
+    bounds: &Bounds,
+    table: &Layout,
+    lists: &[SpotList],
+    atom: u32,
+) -> Result<PairList, AllocError>
+    requires { atom + 1 < 2 ^ 32 }
+    ensures { IsReady bounds.now table.now lists.now → IfOk result (λ ps.
+        ArePairs bounds.now NAMED_PAIRS atom (atom + 1) ps) }
+{
+    rows_rise();
+    let relations = bounds.relations.as_slice();
+    let states = bounds.states;
+    let pairs = pairs_of(alloc, relations, table, lists, atom, atom + 1, states, NAMED_PAIRS)?;
+    Ok(pairs)
+}
 
 /// Whether the exchange of two atoms carries a tuple of an upper bound into that bound.
 fn stays(
@@ -38,7 +57,7 @@ fn stays(
     Ok(upper.contains(&other))
 }
 
-/// Whether it does so with each of these tuples.
+/// Whether it carries each of these tuples into its bound.
 fn all_stay(
     alloc: Global,
     relations: &[Bound],
@@ -57,75 +76,66 @@ fn all_stay(
     Ok(true)
 }
 
-/// Whether the exchange of an atom and the next carries into their bounds the tuples that have one of the two. A
-/// number that isn't an atom with a next one is answered as if memory were wanting.
+/// Whether the exchange of an atom and the next one carries into their bounds the tuples that have one
+/// of the two. A number that isn't an atom with a next one is answered as if memory were wanting.
 fn are_alike(
     alloc: Global,
     relations: &[Bound],
     lists: &[SpotList],
-    a: u32,
+    atom: u32,
 ) -> Result<bool, AllocError>
-    requires { a + 1 < 2 ^ 32 }
-    ensures within { OnOk result (a + 1 < length lists.now) }
-    ensures stay { IfOk result (λ r. IsTrue r ↔ AllStay relations.now lists.now a) }
+    requires { atom + 1 < 2 ^ 32 }
+    ensures within { OnOk result (atom + 1 < length lists.now) }
+    ensures stay { IfOk result (λ r. IsTrue r ↔ AllStay relations.now lists.now atom) }
 {
-    let b = a + 1;
-    if b as usize >= lists.len() {
+    let next = atom + 1;
+    if next as usize >= lists.len() {
         return Err(AllocError);
     }
-    let is_first = all_stay(alloc, relations, a, b, lists[a as usize].as_slice())?;
+    let is_first = all_stay(alloc, relations, atom, next, lists[atom as usize].as_slice())?;
     if !is_first {
         return Ok(false);
     }
-    let is_second = all_stay(alloc, relations, a, b, lists[b as usize].as_slice())?;
+    let is_second = all_stay(alloc, relations, atom, next, lists[next as usize].as_slice())?;
     Ok(is_second)
 }
 
-/// The first pairs of an atom and the next.
-fn next_pairs(
+/// Adds the pairs of an atom and the next one, if the bounds don't tell them apart.
+fn add_atom(
     alloc: Global,
     bounds: &Bounds,
     table: &Layout,
     lists: &[SpotList],
-    a: u32,
-) -> Result<PairList, AllocError>
-    requires { a + 1 < 2 ^ 32 }
-    ensures { (atoms : ℕ) → IsTable bounds.now → IsLayout bounds.now table.now →
-        IsIndex bounds.now.relations atoms (length bounds.now.relations) lists.now →
-        IfOk result (ArePairs bounds.now NAMED_PAIRS a (a + 1)) }
-{
-    let relations = bounds.relations.as_slice();
-    let states = bounds.states;
-    let pairs = pairs_of(alloc, relations, table, lists, a, a + 1, states, NAMED_PAIRS)?;
-    Ok(pairs)
-}
-
-/// Adds the pairs of an atom and the next, if the bounds don't tell them apart.
-fn add_next(
-    alloc: Global,
+    atom: u32,
     all: &mut Vec<PairList>,
-    bounds: &Bounds,
-    table: &Layout,
-    lists: &[SpotList],
-    a: u32,
 ) -> Result<(), AllocError>
-    requires { a + 1 < 2 ^ 32 }
-    ensures { (atoms : ℕ) → IsTable bounds.now → IsLayout bounds.now table.now →
-        IsIndex bounds.now.relations atoms (length bounds.now.relations) lists.now →
-        ArePairsTo bounds.now atoms NAMED_PAIRS a all.old.items →
-        OnOk result (ArePairsTo bounds.now atoms NAMED_PAIRS (a + 1) all.new.items) }
+    requires { atom + 1 < 2 ^ 32 }
+    ensures { IsReady bounds.now table.now lists.now →
+        ArePairsTo bounds.now (length lists.now) NAMED_PAIRS atom all.old.items → OnOk result
+        (ArePairsTo bounds.now (length lists.now) NAMED_PAIRS (atom + 1) all.new.items) }
 {
-    let relations = bounds.relations.as_slice();
-    let is_alike = are_alike(alloc, relations, lists, a)?;
+    let is_alike = are_alike(alloc, bounds.relations.as_slice(), lists, atom)?;
     if !is_alike {
         return Ok(());
     }
-    let pairs = next_pairs(alloc, bounds, table, lists, a)?;
+    let pairs = next_pairs(alloc, bounds, table, lists, atom)?;
     all.push(pairs)?;
     Ok(())
 }
 
-/// The pairs of all atoms that the bounds don't tell from the next atom.
+/// The upper bounds are sets of tuples.
+#[tactic(auto, using(bound_uppers::proofs::Sizes::sets_more, bound_uppers::proofs::Sizes::sets_all))]
+pub fn have_sets(bounds: &Bounds)
+    ensures { HasSets bounds.now }
+{
+    for bound in bounds.relations.as_slice() {
+        // for the proof: this call's clause says that the bound is a set of tuples
+        let _count = bound.upper.len();
+    }
+}
+
+/// The pairs of all neighbours, a list for each two: of their partners the first so many. Each
+/// two atoms that follow one another are tried by the tuples that have one of them.
 pub fn all_pairs(
     alloc: Global,
     bounds: &Bounds,
@@ -135,20 +145,11 @@ pub fn all_pairs(
     ensures { IsTable bounds.now → IsLayout bounds.now table.now →
         IfOk result (λ all. AreAllPairs bounds.now atoms NAMED_PAIRS all.items) }
 {
+    have_sets(bounds);
     let lists = index_of(alloc, bounds, atoms as usize)?;
     let mut all = Vec::new(alloc);
-    for a in 0..atoms.saturating_sub(1) {
-        add_next(alloc, &mut all, bounds, table, &lists, a)?;
+    for atom in 0..atoms.saturating_sub(1) {
+        add_atom(alloc, bounds, table, &lists, atom, &mut all)?;
     }
     Ok(all)
-}
-
-/// The upper bounds are sets of tuples.
-pub fn have_sets(bounds: &Bounds)
-    ensures { HasSets bounds.now }
-{
-    let relations = bounds.relations.as_slice();
-    for place in 0..relations.len() {
-        let _count = relations[place].upper.len();
-    }
 }

@@ -153,7 +153,7 @@ pub fn matches_of(
 
 /// Adds one, unless its relation is the same in all states.
 fn add_moving(all: &mut MatchList, found: Match) -> Result<(), AllocError>
-    ensures { OnOk result (all.new ≡ all.old ++ if not found.fixed then found ∷ [] else []) }
+    ensures { OnOk result (all.new ≡ all.old ++ (if not found.fixed then found ∷ [] else [])) }
 {
     if found.fixed {
         return Ok(());

@@ -1,7 +1,7 @@
 use Rattle.std.proofs.Common.{length}
-use Rattle.bound_uppers.specs.Table.{IsTable, IsLayout}
-use Rattle.bound_naming.specs.Exchanged.{ArePairsTo}
+use Rattle.bound_naming.specs.declared.neighbours.TheConstants.{NAMED_PAIRS}
+use Rattle.bound_naming.specs.Reckoned.{IsReady, ArePairsTo}
 use Rattle.bound_naming.proofs.neighbours.all_pairs.Given as goal
 
-abbrev pub invariant-loop-a : goal.invariant-loop-a
-invariant-loop-a l = IsTable l.bounds → IsLayout l.bounds l.table → ArePairsTo l.bounds l.atoms 40 l.a l.all.items
+abbrev pub invariant-loop-atom : goal.invariant-loop-atom
+invariant-loop-atom l = IsReady l.bounds l.table l.lists.items → ArePairsTo l.bounds (length l.lists.items) NAMED_PAIRS l.atom l.all.items

@@ -1,18 +1,32 @@
--- Which atoms the bounds don't tell apart: as far as tuples go that have one of the two, the index has them.
-use Rattle.std.proofs.Common.{◌≡◌, ◌⊎◌, inl, inr, ℕ, zero, suc, ◌+◌, ◌-◌, ◌<◌, ◌≤◌, eqb, Bool, true, false, ◌||◌, List, [], ◌∷◌, ◌++◌, map, length, get_or, slice_get, Some, All, Contains, refl, ap, sym, ◌∙◌, subst, arith}
-use Rattle.std.proofs.lemmas.Bool.{cases_eq, cases_lt, eq-eqb, or_parts}
+-- Which atoms the bounds don't tell apart, and their pairs. As far as tuples go that have one of two atoms, the index has them.
+use Rattle.std.proofs.Common.{◌≡◌, ◌⊎◌, inl, inr, ℕ, ◌+◌, ◌-◌, ◌<◌, ◌≤◌, eqb, Bool, true, false, ◌||◌, List, [], ◌∷◌, ◌++◌, map, length, take, get_or, slice_get, Some, All, Contains, refl, ap, sym, ◌∙◌, subst, arith}
+use Rattle.std.proofs.lemmas.Bool.{cases_lt, eq-eqb, or_parts}
 use Rattle.std.proofs.lemmas.List.Elements.{All-nil, All-push, All-contains, Contains-push, Contains-append_left}
 use Rattle.std.proofs.lemmas.Option.{slice_get-get_or, get_or_from_slice_get, slice_get_within}
 use Rattle.core_tuples.specs.Sets.{In}
 use Rattle.core_renaming.specs.Composed.{exchanged, exchanged_other}
 use Rattle.bound_uppers.specs.declared.table.Bound.{Bound}
 use Rattle.bound_uppers.specs.declared.table.Bounds.{Bounds}
-use Rattle.bound_uppers.specs.Table.{IsTable}
+use Rattle.bound_uppers.specs.declared.places.Layout.{Layout}
+use Rattle.bound_uppers.specs.Table.{IsTable, AreInOrder}
 use Rattle.bound_naming.specs.declared.pairs.Pair.{Pair}
 use Rattle.bound_naming.specs.declared.spots.Spot.{Spot}
 use Rattle.bound_naming.specs.Naming.{ArePairs, AreInterchangeable, AreSomePairs, AreAllPairs}
-use Rattle.bound_naming.specs.Reckoned.{has_atom, AreSpots, IsIndex}
-use Rattle.bound_naming.specs.Exchanged.{Stays, AllStay, ArePairsTo}
+use Rattle.bound_naming.specs.Reckoned.{has_atom, AreSpots, IsIndex, matches_of, pairs_to, IsReady, Stays, AllStay, ArePairsTo}
+use Rattle.bound_naming.proofs.PartnerLaws.{matches_are}
+use Rattle.bound_naming.proofs.States.{pairs_are_first}
+
+-- ---- two atoms
+
+pub next_are : (bounds : Bounds) (bs : List Bound) (table : Layout) (lists : List (List Spot)) (a b most : ℕ) (ps : List Pair) → AreInOrder bounds → bs ≡ bounds.relations → b ≡ a + 1 → a < length lists → ps ≡ take most (pairs_to table (matches_of bs a b (get_or lists a [])) bounds.states) → IsReady bounds table lists → ArePairs bounds most a (a + 1) ps
+next_are bounds bs table lists a b most ps order are next lt e ready =
+    let placed = ready.placed in
+    let step : ps ≡ take most (pairs_to table (matches_of bounds.relations a (a + 1) (get_or lists a [])) bounds.states) =
+        e ∙ (ap (λ (xs : List Bound). take most (pairs_to table (matches_of xs a b (get_or lists a [])) bounds.states)) are
+        ∙ ap (λ (n : ℕ). take most (pairs_to table (matches_of bounds.relations a n (get_or lists a [])) bounds.states)) next) in
+    subst (λ (qs : List Pair). ArePairs bounds most a (a + 1) qs) (sym step)
+    (pairs_are_first bounds table a (a + 1) most (matches_of bounds.relations a (a + 1) (get_or lists a [])) placed order ready.laid
+    (matches_are bounds a (a + 1) (get_or lists a []) ready.sets (omega arith) (ready.index.each a lt) (λ r c at. placed.placed r c at)))
 
 -- ---- a tuple that has neither of two atoms
 
