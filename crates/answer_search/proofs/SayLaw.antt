@@ -1,5 +1,5 @@
 -- The clauses of a circuit that encodes a target say what the target asks.
-use Rattle.std.proofs.Common.{◌≡◌, ℕ, zero, suc, ◌+◌, ◌<◌, ◌≤◌, ℤ, Bool, true, List, [], ◌∷◌, length, get_or, All, IsTrue, Some, slice_get, refl, sym, ap, ◌∙◌, subst, arith}
+use Rattle.std.proofs.Common.{◌≡◌, ◌↔◌, ℕ, zero, suc, ◌+◌, ◌<◌, ◌≤◌, ℤ, Bool, true, List, [], ◌∷◌, length, get_or, All, IsTrue, Some, slice_get, refl, sym, ap, ◌∙◌, subst, arith}
 use Rattle.std.proofs.lemmas.Option.{slice_get-get_or, slice_get_within}
 use Rattle.gate_trait.specs.declared.node.Node.{Node}
 use Rattle.gate_trait.specs.declared.gate.Gate.{Gate}
@@ -17,12 +17,13 @@ use Rattle.bound_uppers.specs.Candidates.{HasSets}
 use Rattle.bound_naming.specs.declared.neighbours.TheConstants.{NAMED_PAIRS}
 use Rattle.bound_naming.specs.declared.pairs.Pair.{Pair}
 use Rattle.bound_naming.specs.Naming.{favours_all, AreAllPairs, IsCanonical}
+use Rattle.bound_naming.specs.Decided.{NamingIsDecided}
 use Rattle.bmc_leaves.specs.Table.{Decodes}
 use Rattle.bmc_encoder.specs.Encodes.{IsEncoded}
 use Rattle.answer_search.specs.Circuit.{IsCircuit}
 use Rattle.answer_search.specs.Clauses.{IsCovered, HoldsFirst, Meets, MeetsCovered, SayTarget}
 use Rattle.answer_search.proofs.ClausesLaw.{clauses_tell, clauses_told}
-use Rattle.answer_search.proofs.NamedLaw.{canonical_by, by_canonical}
+use Rattle.answer_search.proofs.NamedLaw.{decoded_tells}
 
 -- an item at a place below the length
 there : {X : Type 0} (xs : List X) (k : ℕ) → k < length xs → (x : X) × (slice_get xs k ≡ Some x)
@@ -37,7 +38,7 @@ of_all P (y ∷ xs) zero x all e = let is : y ≡ x = cc in subst P is (all zero
 of_all P (y ∷ xs) (suc k) x all e = of_all P xs k x (λ j d lt. all (suc j) d (omega arith)) e
 
 -- The clauses are those of a circuit of the target.
-module _ (target : Target) (bounds : Bounds) (gates : List Gate) (sure : Node) (all_roots : List Node) (n : ℕ) (clauses : List (List ℤ)) (written : IsWritten gates sure all_roots n clauses) (numbered : AreNumbered gates) (circuit : IsCircuit target bounds (value_in gates) sure all_roots) (sets : HasSets bounds) where
+module _ (target : Target) (bounds : Bounds) (gates : List Gate) (sure : Node) (all_roots : List Node) (n : ℕ) (clauses : List (List ℤ)) (written : IsWritten gates sure all_roots n clauses) (numbered : AreNumbered gates) (circuit : IsCircuit target bounds (value_in gates) sure all_roots) (sets : HasSets bounds) (decided : NamingIsDecided) where
   abbrev all : List (List Pair)
   all = circuit.all
 
@@ -65,8 +66,11 @@ module _ (target : Target) (bounds : Bounds) (gates : List Gate) (sure : Node) (
   paired : IsTable bounds → AreAllPairs bounds (atom_count target.scopes.numbers) NAMED_PAIRS all
   paired = circuit.paired
 
-  canonical : (v : ℕ → Bool) (lasso : LassoValue) → Decodes bounds table v lasso → value_in gates v name ≡ true → IsTable bounds → IsCanonical bounds all lasso
-  canonical v lasso decodes on is = canonical_by bounds table (encoded.laid is) sets v lasso decodes (atom_count target.scopes.numbers) NAMED_PAIRS all (paired is).only (sym (named v) ∙ on)
+  -- the naming's node is true just where the lasso is canonical
+  canonical : (v : ℕ → Bool) (lasso : LassoValue) → IsTable bounds → Decodes bounds table v lasso → (value_in gates v name ≡ true) ↔ IsCanonical bounds all lasso
+  canonical v lasso is decodes =
+      let both = decided bounds (atom_count target.scopes.numbers) NAMED_PAIRS all v lasso (paired is) (decoded_tells bounds table (encoded.laid is) sets v lasso decodes) in
+      (λ on. both.0 (sym (named v) ∙ on), λ names. named v ∙ both.1 names)
 
   sound : (v : ℕ → Bool) → Satisfies v clauses → (lasso : LassoValue) × Decodes bounds table v lasso × MeetsCovered target lasso × (IsTable bounds → IsCanonical bounds all lasso)
   sound v s =
@@ -81,7 +85,7 @@ module _ (target : Target) (bounds : Bounds) (gates : List Gate) (sure : Node) (
               let (node, at_node) = there roots (k + 1) (omega (arith, count, lt)) in
               (encoded.holds k (get_or target.formulas k d) node (slice_get-get_or target.formulas k d lt) at_node covered.0 covered.1 v lasso decodes).0 (each (suc (k + 1)) node at_node),
         ),
-        canonical v lasso decodes (each zero name refl),
+        λ is. (canonical v lasso is decodes).0 (each zero name refl),
       )
 
   root_holds : (x : ℕ → Bool) (lasso : LassoValue) → Decodes bounds table x lasso → All IsCovered target.formulas → Meets target lasso → (k : ℕ) (root : Node) → slice_get roots k ≡ Some root → value_in gates x root ≡ true
@@ -97,7 +101,7 @@ module _ (target : Target) (bounds : Bounds) (gates : List Gate) (sure : Node) (
   each_holds : (x : ℕ → Bool) (lasso : LassoValue) → IsTable bounds → Decodes bounds table x lasso → All IsCovered target.formulas → Meets target lasso → IsCanonical bounds all lasso → (k : ℕ) (root : Node) → slice_get (name ∷ roots) k ≡ Some root → value_in gates x root ≡ true
   each_holds x lasso is decodes covered meets names zero root e =
       let same : name ≡ root = cc in
-      subst (λ (m : Node). value_in gates x m ≡ true) same (named x ∙ by_canonical bounds table (encoded.laid is) sets x lasso decodes (atom_count target.scopes.numbers) NAMED_PAIRS all (paired is).only names)
+      subst (λ (m : Node). value_in gates x m ≡ true) same ((canonical x lasso is decodes).1 names)
   each_holds x lasso is decodes covered meets names (suc k) root e = root_holds x lasso decodes covered meets k root e
 
   pub say_target : SayTarget target bounds clauses

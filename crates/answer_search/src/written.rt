@@ -4,7 +4,7 @@ ghost use Rattle.std.specs.Prelude.{IfOk};
 ghost use Rattle.answer_search.specs.Clauses.{SayTarget};
 
 use crate::circuit::{circuit_of, table_store};
-use bound_naming::have_sets;
+use bound_naming::{have_sets, naming_is_decided};
 use bound_uppers::{Bounds, layout};
 use core_meaning::Target;
 use gate_tseitin::{are_numbered, write_clauses};
@@ -28,6 +28,7 @@ pub fn clauses_of(alloc: Global, target: &Target, bounds: &Bounds) -> Result<Cnf
         return Err(AllocError);
     }
     have_sets(bounds);
+    naming_is_decided();
     let cnf = write_clauses(alloc, &store, circuit.sure, &circuit.roots)?;
     Ok(cnf)
 }
