@@ -1,8 +1,9 @@
 mod Indexing
 mod Finding
 mod Matching
-mod Listing
-mod Spots
-mod Partners
+mod StateLists
+mod IndexLaws
+mod PartnerLaws
 mod States
-mod Neighbours
+mod NeighbourLaws
+mod Deciding

@@ -16,7 +16,7 @@ use Rattle.bound_naming.specs.declared.spots.Spot.{Spot}
 use Rattle.bound_naming.specs.declared.partners.Match.{Match}
 use Rattle.bound_naming.specs.Naming.{IsCell, ArePartners, IsListed, ArePairs}
 use Rattle.bound_naming.specs.Reckoned.{Precedes, first_by, first_in, pair_in, state_pairs, pairs_to, moving}
-use Rattle.bound_naming.proofs.Partners.{IsMatch, IsSomeMatch, AreMatches, AreMatchesOrdered, all_fixed, moving_are}
+use Rattle.bound_naming.proofs.PartnerLaws.{IsMatch, IsSomeMatch, AreMatches, AreMatchesOrdered, all_fixed, moving_are}
 
 -- ---- pairs at a state
 

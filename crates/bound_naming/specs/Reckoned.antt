@@ -1,9 +1,11 @@
 -- The pairs as they are reckoned: an index of the tuples by their atoms, partners in the upper bounds, and then state by state.
-use Rattle.std.specs.Prelude.{◌≡◌, ◌⊎◌, ◌<◌, ◌≤◌, ◌+◌, ◌*◌, ◌-◌, ℕ, zero, suc, Bool, true, false, not, ◌&&◌, if◌then◌else◌, eqb, nat_lt, List, [], ◌∷◌, ◌++◌, length, map, take, filter, get_or, set, All, Contains, Option, Some, None, slice_get}
+use Rattle.std.specs.Prelude.{◌≡◌, ◌⊎◌, ◌<◌, ◌≤◌, ◌+◌, ◌*◌, ◌-◌, ℕ, zero, suc, Bool, true, false, not, ◌&&◌, if◌then◌else◌, eqb, nat_lt, List, [], ◌∷◌, ◌++◌, length, map, take, filter, get_or, set, All, Contains, Option, Some, None, is_some, slice_get}
 use Rattle.std.specs.List.{list_any}
 use Rattle.core_tuples.specs.Sets.{is_same}
 use Rattle.core_renaming.specs.Composed.{exchanged}
 use Rattle.core_tree.specs.declared.model.Model.{Model}
+use Rattle.core_tree.specs.declared.model.Sig.{Sig}
+use Rattle.core_meaning.specs.declared.scopes.SigScope.{SigScope}
 use Rattle.core_meaning.specs.declared.scopes.Scopes.{Scopes}
 use Rattle.bound_uppers.specs.declared.table.Bound.{Bound}
 use Rattle.bound_uppers.specs.declared.table.Bounds.{Bounds}
@@ -129,6 +131,12 @@ pub record IsReady (bounds : Bounds) (table : Layout) (lists : List (List Spot))
   pub laid : IsLayout bounds table
   pub index : IsIndex bounds.relations (length lists) (length bounds.relations) lists
   pub sets : HasSets bounds
+
+-- the atoms of a sig may change places: it is top-level, and not `String`
+abbrev pub is_named : Option Sig → Option SigScope → Bool
+is_named None o = false
+is_named (Some d) None = false
+is_named (Some d) (Some e) = is_some d.origin && e.top
 
 -- of so many atoms of a sig, the first of which are owned, one that has a neighbour behind it, neither of them owned
 abbrev pub IsFree : ℕ → ℕ → ℕ → Type 0

@@ -6,11 +6,13 @@
 //! neighbours, at the first pair on which it differs, it has the earlier tuple.
 #![tactic(auto)]
 
+pub mod laws;
 pub mod listing;
 pub mod neighbours;
 pub mod pairs;
 pub mod partners;
 pub mod spots;
 
+pub use laws::naming_is_decided;
 pub use neighbours::neighbour_pairs;
 pub use pairs::{Pair, PairList};

@@ -12,7 +12,7 @@ use bound_uppers::{Bound, Cells, Layout};
 use std::alloc::{AllocError, Global};
 
 /// The variable of the first tuple at a state.
-#[tactic(auto, using(crate::proofs::Listing::cell_first, crate::proofs::Listing::cell_next))]
+#[tactic(auto, using(crate::proofs::StateLists::cell_first, crate::proofs::StateLists::cell_next))]
 fn first_of(cells: Cells, state: u32) -> Result<u64, AllocError>
     ensures { IfOk result (λ v. v ≡ cell_at cells state) }
 {
@@ -25,7 +25,7 @@ fn first_of(cells: Cells, state: u32) -> Result<u64, AllocError>
 }
 
 /// The variable of the first tuple of a relation at a state, 0 where there is no such relation.
-#[tactic(auto, using(crate::proofs::Listing::first_lacks, crate::proofs::Listing::first_there))]
+#[tactic(auto, using(crate::proofs::StateLists::first_lacks, crate::proofs::StateLists::first_there))]
 fn first_in(table: &Layout, state: u32, relation: usize) -> Result<u64, AllocError>
     ensures { IfOk result (λ v. v ≡ first_in table.now state relation) }
 {
@@ -47,7 +47,7 @@ fn pair_in(table: &Layout, state: u32, found: Match) -> Result<Pair, AllocError>
 }
 
 /// Adds the pairs of a state, until there are so many.
-#[tactic(auto, using(crate::proofs::Listing::pairs_none, crate::proofs::Listing::pairs_more, crate::proofs::Listing::pairs_full, crate::proofs::Listing::pairs_done, crate::proofs::Listing::few_more))]
+#[tactic(auto, using(crate::proofs::StateLists::pairs_none, crate::proofs::StateLists::pairs_more, crate::proofs::StateLists::pairs_full, crate::proofs::StateLists::pairs_done, crate::proofs::StateLists::few_more))]
 fn add_pairs(
     pairs: &mut PairList,
     table: &Layout,
@@ -70,7 +70,7 @@ fn add_pairs(
 }
 
 /// Adds the pairs of a state, of which the first also has the tuples of relations that don't change.
-#[tactic(auto, using(crate::proofs::Listing::state_first, crate::proofs::Listing::state_later))]
+#[tactic(auto, using(crate::proofs::StateLists::state_first, crate::proofs::StateLists::state_later))]
 fn add_state(
     pairs: &mut PairList,
     table: &Layout,
@@ -92,7 +92,7 @@ fn add_state(
 }
 
 /// The first so many pairs of partners at so many states.
-#[tactic(auto, using(crate::proofs::Listing::states_none, crate::proofs::Listing::states_more, crate::proofs::Listing::states_few, crate::proofs::Listing::states_all))]
+#[tactic(auto, using(crate::proofs::StateLists::states_none, crate::proofs::StateLists::states_more, crate::proofs::StateLists::states_few, crate::proofs::StateLists::states_all))]
 fn pairs_to(
     alloc: Global,
     table: &Layout,
@@ -112,7 +112,7 @@ fn pairs_to(
 
 /// The first so many pairs of two atoms, where the index is known. A number that isn't an atom is
 /// answered as if memory were wanting.
-#[tactic(auto, using(crate::proofs::Listing::pairs_are))]
+#[tactic(auto, using(crate::proofs::StateLists::pairs_are))]
 pub fn pairs_of(
     alloc: Global,
     relations: &[Bound],

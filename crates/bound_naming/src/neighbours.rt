@@ -1,7 +1,7 @@
 //! The pairs of all neighbours: of each two atoms that follow one another in a top-level sig but
 //! `String`, and of which neither is an own atom.
 
-ghost use Rattle.std.specs.Prelude.{◌≡◌, ◌⊎◌, ◌&&◌, ◌≤◌, ◌<◌, ◌+◌, ◌++◌, ◌∷◌, [], ℕ, List, is_some, length, get_or, slice_get, Some, IfOk, OnOk};
+ghost use Rattle.std.specs.Prelude.{◌≡◌, ◌⊎◌, ◌≤◌, ◌<◌, ◌+◌, ◌++◌, ◌∷◌, [], ℕ, List, length, get_or, slice_get, Some, IfOk, OnOk};
 ghost use Rattle.core_tuples.specs.Sets.{IsTupleSet};
 ghost use Rattle.bound_owners.specs.Owned.{AreConstantsOf};
 ghost use Rattle.bound_uppers.specs.declared.table.Bound.{Bound as BoundTree};
@@ -9,7 +9,7 @@ ghost use Rattle.bound_uppers.specs.Table.{IsTable};
 ghost use Rattle.bound_uppers.specs.Kinds.{no_span, HasSpans};
 ghost use Rattle.bound_naming.specs.declared.pairs.Pair.{Pair as PairTree};
 ghost use Rattle.bound_naming.specs.Naming.{ArePairs, AreAllPairs};
-ghost use Rattle.bound_naming.specs.Reckoned.{IsReady, IsFree, AddsPairs, AreSigPairs};
+ghost use Rattle.bound_naming.specs.Reckoned.{is_named, IsReady, IsFree, AddsPairs, AreSigPairs};
 
 use crate::listing::pairs_of;
 use crate::pairs::PairList;
@@ -72,7 +72,7 @@ fn add_place(
 }
 
 /// Adds the pairs of the neighbours among the atoms of a sig, the first of which are owned.
-#[tactic(auto, using(crate::proofs::Neighbours::atoms_none, crate::proofs::Neighbours::atoms_more, crate::proofs::Neighbours::atoms_all))]
+#[tactic(auto, using(crate::proofs::NeighbourLaws::atoms_none, crate::proofs::NeighbourLaws::atoms_more, crate::proofs::NeighbourLaws::atoms_all))]
 fn add_atoms(
     alloc: Global,
     bounds: &Bounds,
@@ -94,10 +94,16 @@ fn add_atoms(
 }
 
 /// Whether the atoms of a sig may change places: whether it is top-level and not `String`.
-fn is_named(sig: &Sig, scope: &SigScope) -> bool
-    ensures { result ≡ is_some sig.now.origin && scope.now.top }
+fn is_named(sigs: &[Sig], numbers: &[SigScope], sig: usize) -> bool
+    ensures { result ≡ is_named (slice_get sigs.now sig) (slice_get numbers.now sig) }
 {
-    sig.origin.is_some() && scope.top
+    match sigs.get(sig) {
+        None => false,
+        Some(found) => match numbers.get(sig) {
+            None => false,
+            Some(scope) => found.origin.is_some() && scope.top,
+        },
+    }
 }
 
 /// The numbers of a sig.
@@ -128,7 +134,6 @@ fn add_sig(
     requires spans { HasSpans scopes.now spans.now }
     requires constants { AreConstantsOf model.now.sigs constants.now }
     requires counted { length scopes.now.numbers ≡ length model.now.sigs }
-    requires within { sig < length model.now.sigs }
     ensures { IsReady bounds.now table.now lists.now →
         AreSigPairs model.now scopes.now bounds.now most sig all.old.items →
         OnOk result (AreSigPairs model.now scopes.now bounds.now most (sig + 1) all.new.items) }
@@ -136,7 +141,7 @@ fn add_sig(
     let sigs = model.sigs.as_slice();
     let numbers = scopes.numbers.as_slice();
     let place = sig as usize;
-    if !is_named(&sigs[place], &numbers[place]) {
+    if !is_named(sigs, numbers, place) {
         return Ok(());
     }
     let owned = owners_of(constants, numbers, sig).len();

@@ -1,5 +1,5 @@
 use Rattle.std.proofs.Common.{◌+◌, refl}
-use Rattle.bound_naming.proofs.Neighbours.{next_are}
+use Rattle.bound_naming.proofs.NeighbourLaws.{next_are}
 use Rattle.bound_naming.proofs.neighbours.next_pairs.Goals as goal
 
 pub returns : goal.returns

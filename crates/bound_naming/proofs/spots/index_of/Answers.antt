@@ -1,5 +1,5 @@
 use Rattle.std.proofs.Common.{arith, get_or}
-use Rattle.bound_naming.proofs.Spots.{index_none, index_more, index_all}
+use Rattle.bound_naming.proofs.IndexLaws.{index_none, index_more, index_all}
 use Rattle.bound_naming.proofs.spots.index_of.Goals as goal
 
 pub loop-place-entry : goal.loop-place-entry

@@ -3,6 +3,7 @@ use Rattle.std.proofs.Common.{◌≡◌, ◌⊎◌, inl, inr, ℕ, zero, suc, �
 use Rattle.std.proofs.lemmas.Bool.{cases_lt, and_parts, and_from, ltb-true, ltb-false, false≢true}
 use Rattle.std.proofs.lemmas.List.Elements.{All-weaker, All-contains_itself, Contains-push, Contains-push_cases, Contains-append_left}
 use Rattle.std.proofs.lemmas.Option.{slice_get_past, slice_get_within, slice_get-get_or}
+use Rattle.core_tuples.specs.Sets.{IsTupleSet}
 use Rattle.core_tuples.proofs.OrderLemmas.{no_members}
 use Rattle.core_tree.specs.declared.model.Model.{Model}
 use Rattle.core_tree.specs.declared.model.Sig.{Sig}
@@ -16,14 +17,14 @@ use Rattle.bound_uppers.specs.declared.table.Bounds.{Bounds}
 use Rattle.bound_uppers.specs.declared.places.Layout.{Layout}
 use Rattle.bound_uppers.specs.declared.numbers.AtomRange.{AtomRange}
 use Rattle.bound_uppers.specs.declared.numbers.AtomRanges.{AtomRanges}
-use Rattle.bound_uppers.specs.Table.{IsTable, AreInOrder}
+use Rattle.bound_uppers.specs.Table.{IsTable, IsLayout, AreInOrder}
 use Rattle.bound_uppers.specs.Kinds.{no_span, span_in, HasSpans}
 use Rattle.bound_uppers.proofs.Spanning.{span_at_place, first_within}
 use Rattle.bound_naming.specs.declared.pairs.Pair.{Pair}
 use Rattle.bound_naming.specs.declared.spots.Spot.{Spot}
 use Rattle.bound_naming.specs.Naming.{ArePairs, AreNeighbours, AreSomePairs, AreAllPairs}
-use Rattle.bound_naming.specs.Reckoned.{matches_of, pairs_to, IsReady, IsFree, AreFreePairs, AddsPairs, AreSigPairs}
-use Rattle.bound_naming.proofs.Partners.{matches_are}
+use Rattle.bound_naming.specs.Reckoned.{matches_of, pairs_to, IsIndex, is_named, IsReady, IsFree, AreFreePairs, AddsPairs, AreSigPairs}
+use Rattle.bound_naming.proofs.PartnerLaws.{matches_are}
 use Rattle.bound_naming.proofs.States.{pairs_are_first}
 
 -- ---- two atoms
@@ -133,84 +134,112 @@ top_fits scopes n e at on =
 pub sigs_none : (model : Model) (scopes : Scopes) (bounds : Bounds) (most : ℕ) → AreSigPairs model scopes bounds most 0 []
 sigs_none model scopes bounds most = record { only = λ ps among. absurd (no_members ps among); every = λ s a b lt near. absurd (omega (arith, lt)) }
 
-not_owned : (os : List ℕ) (k : ℕ) → length os ≤ k → slice_get os k ≡ None
-not_owned os k far = slice_get_past os k far
-
 owned_below : (os : List ℕ) (k : ℕ) → slice_get os k ≡ None → length os ≤ k
 owned_below os k none = elim (cases_lt k (length os)) [
   | inl less ↦ (let there = slice_get-get_or os k 0 less in cc)
   | inr far ↦ far
 ]
 
-module _ (model : Model) (scopes : Scopes) (bounds : Bounds) (most n : ℕ) (d : Sig) (e : SigScope) (sig_at : slice_get model.sigs n ≡ Some d) (scope_at : slice_get scopes.numbers n ≡ Some e) where
-  -- a sig whose atoms don't change places
-  pub sig_skip : (b : Bool) (old : List (List Pair)) → b ≡ (is_some d.origin && e.top) → b ≡ false → AreSigPairs model scopes bounds most n old → AreSigPairs model scopes bounds most (n + 1) old
-  sig_skip b old is off was = record {
-    only = was.only;
-    every = λ s x y lt near. elim (cases_lt s n) [
-      | inl less ↦ was.every s x y less near
-      | inr far ↦
-          let same : s ≡ n = omega (arith, far, lt) in
-          let here = subst (λ (m : ℕ). AreNeighbours model scopes m x y) same near in
-          let c : Sig = here.sig.0 in
-          let f : SigScope = here.atoms.0 in
-          let sig_there = here.sig.1 in
-          let scope_there = here.atoms.1 in
-          let one : c ≡ d = cc in
-          let two : f ≡ e = cc in
-          let origin : is_some d.origin ≡ true = subst (λ (z : Sig). is_some z.origin ≡ true) one here.sig.2 in
-          let top : e.top ≡ true = subst (λ (z : SigScope). z.top ≡ true) two here.atoms.2 in
-          absurd (false≢true (sym off ∙ (is ∙ and_from (is_some d.origin) e.top origin top)))
-    ];
-  }
+named_parts : (o : Option Sig) (p : Option SigScope) → is_named o p ≡ true → (d : Sig) × (e : SigScope) × (o ≡ Some d) × (p ≡ Some e) × (is_some d.origin ≡ true) × (e.top ≡ true)
+named_parts None p on = absurd (false≢true on)
+named_parts (Some d) None on = absurd (false≢true on)
+named_parts (Some d) (Some e) on = let parts = and_parts (is_some d.origin) e.top on in (d, e, refl, refl, parts.0, parts.1)
 
-  -- a sig whose atoms do
-  pub sig_add : (spans : AtomRanges) (span : AtomRange) (found : List ℕ) (owned : ℕ) (b : Bool) (old new : List (List Pair)) → HasSpans scopes spans → span ≡ get_or spans.sigs.items n no_span → found ≡ owners model.sigs scopes.numbers n → owned ≡ length found → b ≡ (is_some d.origin && e.top) → b ≡ true → AddsPairs bounds most span.first owned span.count span.count old new → AreSigPairs model scopes bounds most n old → AreSigPairs model scopes bounds most (n + 1) new
-  sig_add spans span found owned b old new has is own counted named on adds was =
-      let first : ℕ = first_atom scopes.numbers n in
-      let number : ℕ = or_zero e.number in
-      let parts = and_parts (is_some d.origin) e.top (sym named ∙ on) in
-      let span_of = span_is scopes spans n e span has scope_at is in
-      let begins : span.first ≡ first = ap (λ (z : AtomRange). z.first) span_of in
-      let counts : span.count ≡ (if nat_lt number (universe_size scopes - first) then number else universe_size scopes - first) = ap (λ (z : AtomRange). z.count) span_of in
-      let high : span.count ≤ number = (let h = count_most (universe_size scopes) first number (nat_lt number (universe_size scopes - first)) refl in omega (arith, h, counts)) in
-      let low : number ≤ span.count = (let h = count_all (universe_size scopes) first number (nat_lt number (universe_size scopes - first)) refl (top_fits scopes n e scope_at parts.1) in omega (arith, h, counts)) in
-      let owns : owned ≡ length (owners model.sigs scopes.numbers n) = counted ∙ ap length own in
-      record {
-        only = λ ps among. elim (adds.only ps among) [
-          | inl before ↦ was.only ps before
-          | inr free ↦
-              let place : ℕ = free.0 in
-              let le = free.2.0 in
-              let lt = free.2.1 in
-              let here : span.first + place - first ≡ place = omega (arith, begins) in
-              let there : span.first + place + 1 - first ≡ place + 1 = omega (arith, begins) in
-              (n, span.first + place, span.first + place + 1, record {
-                next = refl;
-                sig = (d, sig_at, parts.0);
-                atoms = (e, scope_at, parts.1, (omega (arith, begins), omega (arith, begins, lt, high)), (omega (arith, begins), omega (arith, begins, lt, high)));
-                first = ap (slice_get (owners model.sigs scopes.numbers n)) here ∙ not_owned (owners model.sigs scopes.numbers n) place (omega (arith, le, owns));
-                second = ap (slice_get (owners model.sigs scopes.numbers n)) there ∙ not_owned (owners model.sigs scopes.numbers n) (place + 1) (omega (arith, le, owns));
-              }, free.3)
-        ];
-        every = λ s x y less near. elim (cases_lt s n) [
-          | inl before ↦ (let had = was.every s x y before near in (had.0, adds.kept had.0 had.1, had.2))
-          | inr far ↦
-              let same : s ≡ n = omega (arith, far, less) in
-              let here = subst (λ (m : ℕ). AreNeighbours model scopes m x y) same near in
-              let f : SigScope = here.atoms.0 in
-              let scope_there = here.atoms.1 in
-              let two : f ≡ e = cc in
-              let one_low = here.atoms.3.0 in
-              let two_high : y < first + number = subst (λ (z : SigScope). y < first + or_zero z.number) two here.atoms.4.1 in
-              let next = here.next in
-              let free_low : length (owners model.sigs scopes.numbers n) ≤ x - first = owned_below (owners model.sigs scopes.numbers n) (x - first) here.first in
-              let had = adds.every (x - first) (omega (arith, one_low, two_high, next, low)) (omega (arith, free_low, owns), omega (arith, one_low, two_high, next, low)) in
-              let first_is : span.first + (x - first) ≡ x = omega (arith, begins, one_low) in
-              let next_is : span.first + (x - first) + 1 ≡ y = omega (arith, begins, one_low, next) in
-              (had.0, had.1, subst (λ (z : ℕ). ArePairs bounds most x z had.0) next_is (subst (λ (z : ℕ). ArePairs bounds most z (span.first + (x - first) + 1) had.0) first_is had.2))
-        ];
-      }
+named_by : (model : Model) (scopes : Scopes) (n : ℕ) (ds : List Sig) (es : List SigScope) (b : Bool) → ds ≡ model.sigs → es ≡ scopes.numbers → b ≡ is_named (slice_get ds n) (slice_get es n) → b ≡ is_named (slice_get model.sigs n) (slice_get scopes.numbers n)
+named_by model scopes n ds es b one two e =
+    e ∙ (ap (λ (xs : List Sig). is_named (slice_get xs n) (slice_get es n)) one ∙ ap (λ (xs : List SigScope). is_named (slice_get model.sigs n) (slice_get xs n)) two)
+
+neighbours_named : (model : Model) (scopes : Scopes) (n x y : ℕ) → AreNeighbours model scopes n x y → is_named (slice_get model.sigs n) (slice_get scopes.numbers n) ≡ true
+neighbours_named model scopes n x y near =
+    let d : Sig = near.sig.0 in
+    let e : SigScope = near.atoms.0 in
+    ap (λ (o : Option Sig). is_named o (slice_get scopes.numbers n)) near.sig.1
+    ∙ (ap (λ (o : Option SigScope). is_named (Some d) o) near.atoms.1 ∙ and_from (is_some d.origin) e.top near.sig.2 near.atoms.2)
+
+-- a sig whose atoms don't change places
+pub sig_skip : (model : Model) (scopes : Scopes) (bounds : Bounds) (most n : ℕ) (ds : List Sig) (es : List SigScope) (b : Bool) (old : List (List Pair)) → ds ≡ model.sigs → es ≡ scopes.numbers → b ≡ is_named (slice_get ds n) (slice_get es n) → b ≡ false → AreSigPairs model scopes bounds most n old → AreSigPairs model scopes bounds most (n + 1) old
+sig_skip model scopes bounds most n ds es b old one two e off was = record {
+  only = was.only;
+  every = λ s x y lt near. elim (cases_lt s n) [
+    | inl less ↦ was.every s x y less near
+    | inr far ↦
+        let same : s ≡ n = omega (arith, far, lt) in
+        let here = subst (λ (m : ℕ). AreNeighbours model scopes m x y) same near in
+        absurd (false≢true (sym off ∙ (named_by model scopes n ds es b one two e ∙ neighbours_named model scopes n x y here)))
+  ];
+}
+
+-- a sig whose atoms do
+sig_more : (model : Model) (scopes : Scopes) (bounds : Bounds) (most n : ℕ) (d : Sig) (e : SigScope) (first count owned : ℕ) (old new : List (List Pair)) → slice_get model.sigs n ≡ Some d → slice_get scopes.numbers n ≡ Some e → is_some d.origin ≡ true → e.top ≡ true → first ≡ first_atom scopes.numbers n → count ≡ or_zero e.number → owned ≡ length (owners model.sigs scopes.numbers n) → AddsPairs bounds most first owned count count old new → AreSigPairs model scopes bounds most n old → AreSigPairs model scopes bounds most (n + 1) new
+sig_more model scopes bounds most n d e first count owned old new sig_at scope_at origin top begins counts owns adds was =
+    let own : List ℕ = owners model.sigs scopes.numbers n in
+    let start : ℕ = first_atom scopes.numbers n in
+    record {
+      only = λ ps among. elim (adds.only ps among) [
+        | inl before ↦ was.only ps before
+        | inr free ↦
+            let place : ℕ = free.0 in
+            let le = free.2.0 in
+            let lt = free.2.1 in
+            let here : place ≡ first + place - start = omega (arith, begins) in
+            let there : place + 1 ≡ first + place + 1 - start = omega (arith, begins) in
+            (n, first + place, first + place + 1, record {
+              next = refl;
+              sig = (d, sig_at, origin);
+              atoms = (e, scope_at, top, (omega (arith, begins), omega (arith, begins, lt, counts)), (omega (arith, begins), omega (arith, begins, lt, counts)));
+              first = subst (λ (k : ℕ). slice_get own k ≡ None) here (slice_get_past own place (omega (arith, le, owns)));
+              second = subst (λ (k : ℕ). slice_get own k ≡ None) there (slice_get_past own (place + 1) (omega (arith, le, owns)));
+            }, free.3)
+      ];
+      every = λ s x y less near. elim (cases_lt s n) [
+        | inl before ↦ (let had = was.every s x y before near in (had.0, adds.kept had.0 had.1, had.2))
+        | inr far ↦
+            let same : s ≡ n = omega (arith, far, less) in
+            let here = subst (λ (m : ℕ). AreNeighbours model scopes m x y) same near in
+            let f : SigScope = here.atoms.0 in
+            let is : f ≡ e = same_some f e (sym here.atoms.1 ∙ scope_at) in
+            let low : start ≤ x = here.atoms.3.0 in
+            let high : y < start + or_zero e.number = subst (λ (z : SigScope). y < start + or_zero z.number) is here.atoms.4.1 in
+            let next : y ≡ x + 1 = here.next in
+            let free : length own ≤ x - start = owned_below own (x - start) here.first in
+            let had = adds.every (x - start) (omega (arith, low, high, next, counts)) (omega (arith, free, owns), omega (arith, low, high, next, counts)) in
+            let first_is : first + (x - start) ≡ x = omega (arith, begins, low) in
+            let next_is : first + (x - start) + 1 ≡ y = omega (arith, begins, low, next) in
+            (had.0, had.1, subst (λ (z : ℕ). ArePairs bounds most x z had.0) next_is (subst (λ (z : ℕ). ArePairs bounds most z (first + (x - start) + 1) had.0) first_is had.2))
+      ];
+    }
+  where
+    same_some : (f e : SigScope) → Some f ≡ Some e → f ≡ e
+    same_some f e is = cc
+
+pub sig_add : (model : Model) (scopes : Scopes) (bounds : Bounds) (most n : ℕ) (ds : List Sig) (es : List SigScope) (spans : AtomRanges) (span : AtomRange) (found : List ℕ) (owned : ℕ) (b : Bool) (old new : List (List Pair)) → ds ≡ model.sigs → es ≡ scopes.numbers → HasSpans scopes spans → b ≡ is_named (slice_get ds n) (slice_get es n) → b ≡ true → found ≡ owners model.sigs es n → owned ≡ length found → span ≡ get_or spans.sigs.items n no_span → AddsPairs bounds most span.first owned span.count span.count old new → AreSigPairs model scopes bounds most n old → AreSigPairs model scopes bounds most (n + 1) new
+sig_add model scopes bounds most n ds es spans span found owned b old new one two has e on own counted is adds was =
+    let parts = named_parts (slice_get model.sigs n) (slice_get scopes.numbers n) (sym (named_by model scopes n ds es b one two e) ∙ on) in
+    let d : Sig = parts.0 in
+    let f : SigScope = parts.1 in
+    let first : ℕ = first_atom scopes.numbers n in
+    let number : ℕ = or_zero f.number in
+    let limit : ℕ = universe_size scopes in
+    let span_of = span_is scopes spans n f span has parts.3 is in
+    let begins : span.first ≡ first = ap (λ (z : AtomRange). z.first) span_of in
+    let counts : span.count ≡ (if nat_lt number (limit - first) then number else limit - first) = ap (λ (z : AtomRange). z.count) span_of in
+    let high = count_most limit first number (nat_lt number (limit - first)) refl in
+    let low = count_all limit first number (nat_lt number (limit - first)) refl (top_fits scopes n f parts.3 parts.5) in
+    let count : span.count ≡ number = omega (arith, counts, high, low) in
+    let owns : owned ≡ length (owners model.sigs scopes.numbers n) = counted ∙ (ap length own ∙ ap (λ (xs : List SigScope). length (owners model.sigs xs n)) two) in
+    sig_more model scopes bounds most n d f span.first span.count owned old new parts.2 parts.3 parts.4 parts.5 begins count owns adds was
+
+pub sigs_more : (model : Model) (scopes : Scopes) (bounds : Bounds) (most n number : ℕ) (Ready : Type 0) (old new : List (List Pair)) → number ≡ n → (Ready → AreSigPairs model scopes bounds most number old → AreSigPairs model scopes bounds most (number + 1) new) → (Ready → AreSigPairs model scopes bounds most n old) → Ready → AreSigPairs model scopes bounds most (n + 1) new
+sigs_more model scopes bounds most n number Ready old new same add was ready =
+    subst (λ (k : ℕ). AreSigPairs model scopes bounds most (k + 1) new) same (add ready (subst (λ (k : ℕ). AreSigPairs model scopes bounds most k old) (sym same) (was ready)))
+
+pub ready_by : (bounds : Bounds) (table : Layout) (lists : List (List Spot)) (atoms : ℕ) (bs : List Bound) → IsTable bounds → IsLayout bounds table → IsIndex bounds.relations atoms (length bounds.relations) lists → bs ≡ bounds.relations → ((r : ℕ) (b : Bound) → slice_get bs r ≡ Some b → IsTupleSet b.upper) → IsReady bounds table lists
+ready_by bounds table lists atoms bs placed laid index are sets = record {
+  placed = placed;
+  laid = laid;
+  index = subst (λ (n : ℕ). IsIndex bounds.relations n (length bounds.relations) lists) (sym index.count) index;
+  sets = subst (λ (xs : List Bound). (r : ℕ) (b : Bound) → slice_get xs r ≡ Some b → IsTupleSet b.upper) are sets;
+}
 
 pub sigs_all : (model : Model) (scopes : Scopes) (bounds : Bounds) (most n : ℕ) (all : List (List Pair)) → length model.sigs ≤ n → AreSigPairs model scopes bounds most n all → AreAllPairs model scopes bounds most all
 sigs_all model scopes bounds most n all le was = record {
