@@ -23,7 +23,7 @@ use Rattle.bound_uppers.proofs.Spanning.{span_at_place, first_within}
 use Rattle.bound_naming.specs.declared.pairs.Pair.{Pair}
 use Rattle.bound_naming.specs.declared.spots.Spot.{Spot}
 use Rattle.bound_naming.specs.Naming.{ArePairs, AreNeighbours, AreSomePairs, AreAllPairs}
-use Rattle.bound_naming.specs.Reckoned.{matches_of, pairs_to, IsIndex, is_named, IsReady, IsFree, AreFreePairs, AddsPairs, AreSigPairs}
+use Rattle.bound_naming.specs.Reckoned.{matches_of, pairs_to, IsIndex, is_named, IsReady, IsFree, AreFreePairs, AddsNext, AddsPairs, AreSigPairs}
 use Rattle.bound_naming.proofs.PartnerLaws.{matches_are}
 use Rattle.bound_naming.proofs.States.{pairs_are_first}
 
@@ -44,11 +44,14 @@ next_are bounds bs table lists a b most ps order are next lt e ready =
 pub atoms_none : (bounds : Bounds) (most first owned count : ℕ) (old : List (List Pair)) → AddsPairs bounds most first owned count 0 old old
 atoms_none bounds most first owned count old = record { kept = λ ps among. among; only = λ ps among. inl among; every = λ place lt free. absurd (omega (arith, lt)) }
 
--- what an atom adds
-abbrev pub AddsAtom : Bounds → ℕ → ℕ → ℕ → ℕ → ℕ → Type 0 → List (List Pair) → List (List Pair) → Type 0
-AddsAtom bounds most first owned count place Ready old new =
-    ((new ≡ old) × ((place < owned) ⊎ (count ≤ place + 1)))
-    ⊎ ((pairs : List Pair) × (new ≡ old ++ pairs ∷ []) × IsFree owned count place × (Ready → ArePairs bounds most (first + place) (first + place + 1) pairs))
+pub atom_owned : (bounds : Bounds) (table : Layout) (lists : List (List Spot)) (most first owned count place : ℕ) (old : List (List Pair)) → place < owned → AddsNext bounds table lists most first owned count place old old
+atom_owned bounds table lists most first owned count place old lt = inl (refl, inl lt)
+
+pub atom_last : (bounds : Bounds) (table : Layout) (lists : List (List Spot)) (most first owned count place : ℕ) (old : List (List Pair)) → count ≤ place + 1 → AddsNext bounds table lists most first owned count place old old
+atom_last bounds table lists most first owned count place old le = inl (refl, inr le)
+
+pub atom_free : (bounds : Bounds) (table : Layout) (lists : List (List Spot)) (most first owned count place : ℕ) (old new : List (List Pair)) (pairs : List Pair) → owned ≤ place → place + 1 < count → new ≡ old ++ pairs ∷ [] → (IsReady bounds table lists → ArePairs bounds most (first + place) (first + place + 1) pairs) → AddsNext bounds table lists most first owned count place old new
+atom_free bounds table lists most first owned count place old new pairs le lt e are = inr (pairs, e, (le, lt), are)
 
 more_free : (bounds : Bounds) (most first owned count k : ℕ) (ps : List Pair) → AreFreePairs bounds most first owned count k ps → AreFreePairs bounds most first owned count (k + 1) ps
 more_free bounds most first owned count k ps h = (h.0, (let lt = h.1 in omega (arith, lt)), h.2, h.3)
@@ -90,7 +93,7 @@ atoms_push bounds most first owned count k old now new pairs was e here are = re
   ];
 }
 
-pub atoms_more : (bounds : Bounds) (table : Layout) (lists : List (List Spot)) (most first owned count k : ℕ) (old now new : List (List Pair)) → (IsReady bounds table lists → AddsPairs bounds most first owned count k old now) → AddsAtom bounds most first owned count k (IsReady bounds table lists) now new → IsReady bounds table lists → AddsPairs bounds most first owned count (k + 1) old new
+pub atoms_more : (bounds : Bounds) (table : Layout) (lists : List (List Spot)) (most first owned count k : ℕ) (old now new : List (List Pair)) → (IsReady bounds table lists → AddsPairs bounds most first owned count k old now) → AddsNext bounds table lists most first owned count k now new → IsReady bounds table lists → AddsPairs bounds most first owned count (k + 1) old new
 atoms_more bounds table lists most first owned count k old now new was (inl same) ready = atoms_skip bounds most first owned count k old now new (was ready) same.0 same.1
 atoms_more bounds table lists most first owned count k old now new was (inr more) ready = atoms_push bounds most first owned count k old now new more.0 (was ready) more.1 more.2 (more.3 ready)
 

@@ -142,6 +142,12 @@ is_named (Some d) (Some e) = is_some d.origin && e.top
 abbrev pub IsFree : ℕ → ℕ → ℕ → Type 0
 IsFree owned count place = (owned ≤ place) × (place + 1 < count)
 
+-- the pairs of an atom and the next one are added, or there is no such neighbour
+abbrev pub AddsNext : Bounds → Layout → List (List Spot) → ℕ → ℕ → ℕ → ℕ → ℕ → List (List Pair) → List (List Pair) → Type 0
+AddsNext bounds table lists most first owned count place old new =
+    ((new ≡ old) × ((place < owned) ⊎ (count ≤ place + 1)))
+    ⊎ ((pairs : List Pair) × (new ≡ old ++ pairs ∷ []) × IsFree owned count place × (IsReady bounds table lists → ArePairs bounds most (first + place) (first + place + 1) pairs))
+
 -- the pairs of one of the first atoms and of its neighbour
 abbrev pub AreFreePairs : Bounds → ℕ → ℕ → ℕ → ℕ → ℕ → List Pair → Type 0
 AreFreePairs bounds most first owned count k pairs = (place : ℕ) × (place < k) × IsFree owned count place × ArePairs bounds most (first + place) (first + place + 1) pairs

@@ -1,15 +1,14 @@
 //! The pairs of all neighbours: of each two atoms that follow one another in a top-level sig but
 //! `String`, and of which neither is an own atom.
 
-ghost use Rattle.std.specs.Prelude.{◌≡◌, ◌⊎◌, ◌≤◌, ◌<◌, ◌+◌, ◌++◌, ◌∷◌, [], ℕ, List, length, get_or, slice_get, Some, IfOk, OnOk};
+ghost use Rattle.std.specs.Prelude.{◌≡◌, ◌≤◌, ◌<◌, ◌+◌, ℕ, length, get_or, slice_get, Some, IfOk, OnOk};
 ghost use Rattle.core_tuples.specs.Sets.{IsTupleSet};
 ghost use Rattle.bound_owners.specs.Owned.{AreConstantsOf};
 ghost use Rattle.bound_uppers.specs.declared.table.Bound.{Bound as BoundTree};
 ghost use Rattle.bound_uppers.specs.Table.{IsTable};
 ghost use Rattle.bound_uppers.specs.Kinds.{no_span, HasSpans};
-ghost use Rattle.bound_naming.specs.declared.pairs.Pair.{Pair as PairTree};
 ghost use Rattle.bound_naming.specs.Naming.{ArePairs, AreAllPairs};
-ghost use Rattle.bound_naming.specs.Reckoned.{is_named, IsReady, IsFree, AddsPairs, AreSigPairs};
+ghost use Rattle.bound_naming.specs.Reckoned.{is_named, IsReady, AddsNext, AddsPairs, AreSigPairs};
 
 use crate::listing::pairs_of;
 use crate::pairs::PairList;
@@ -43,6 +42,7 @@ fn next_pairs(
 
 /// Adds the pairs of the atom at a place of a sig and the next one, if there is one and neither is
 /// owned.
+#[tactic(auto, using(crate::proofs::NeighbourLaws::atom_owned, crate::proofs::NeighbourLaws::atom_last, crate::proofs::NeighbourLaws::atom_free))]
 fn add_place(
     alloc: Global,
     bounds: &Bounds,
@@ -56,9 +56,8 @@ fn add_place(
 ) -> Result<(), AllocError>
     requires span { span.first + span.count ≤ 16384 }
     requires place { place < span.count }
-    ensures { OnOk result (((all.new.items ≡ all.old.items) × (place < owned ⊎ span.count ≤ place + 1))
-        ⊎ ((pairs : List PairTree) × (all.new.items ≡ all.old.items ++ pairs ∷ []) × IsFree owned span.count place
-        × (IsReady bounds.now table.now lists.now → ArePairs bounds.now most (span.first + place) (span.first + place + 1) pairs))) }
+    ensures { OnOk result (AddsNext bounds.now table.now lists.now most span.first owned span.count
+        place all.old.items all.new.items) }
 {
     if (place as usize) < owned {
         return Ok(());
