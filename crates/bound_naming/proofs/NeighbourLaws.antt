@@ -236,11 +236,11 @@ pub sigs_more : (model : Model) (scopes : Scopes) (bounds : Bounds) (most n numb
 sigs_more model scopes bounds most n number Ready old new same add was ready =
     subst (λ (k : ℕ). AreSigPairs model scopes bounds most (k + 1) new) same (add ready (subst (λ (k : ℕ). AreSigPairs model scopes bounds most k old) (sym same) (was ready)))
 
-pub ready_by : (bounds : Bounds) (table : Layout) (lists : List (List Spot)) (atoms : ℕ) (bs : List Bound) → IsTable bounds → IsLayout bounds table → IsIndex bounds.relations atoms (length bounds.relations) lists → bs ≡ bounds.relations → ((r : ℕ) (b : Bound) → slice_get bs r ≡ Some b → IsTupleSet b.upper) → IsReady bounds table lists
-ready_by bounds table lists atoms bs placed laid index are sets = record {
+pub ready_by : (bounds : Bounds) (table : Layout) (lists given : List (List Spot)) (atoms : ℕ) (bs : List Bound) → IsTable bounds → IsLayout bounds table → IsIndex bounds.relations atoms (length bounds.relations) lists → given ≡ lists → bs ≡ bounds.relations → ((r : ℕ) (b : Bound) → slice_get bs r ≡ Some b → IsTupleSet b.upper) → IsReady bounds table given
+ready_by bounds table lists given atoms bs placed laid index same are sets = record {
   placed = placed;
   laid = laid;
-  index = subst (λ (n : ℕ). IsIndex bounds.relations n (length bounds.relations) lists) (sym index.count) index;
+  index = subst (λ (xs : List (List Spot)). IsIndex bounds.relations (length xs) (length bounds.relations) xs) (sym same) (subst (λ (n : ℕ). IsIndex bounds.relations n (length bounds.relations) lists) (sym index.count) index);
   sets = subst (λ (xs : List Bound). (r : ℕ) (b : Bound) → slice_get xs r ≡ Some b → IsTupleSet b.upper) are sets;
 }
 

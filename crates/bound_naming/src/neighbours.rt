@@ -160,7 +160,39 @@ fn upper_sets(relations: &[Bound])
     }
 }
 
-/// The pairs of all neighbours, where the constants are known: a list for each two neighbours.
+/// The pairs of all neighbours, sig by sig, where the index is known.
+fn sig_pairs(
+    alloc: Global,
+    model: &Model,
+    scopes: &Scopes,
+    bounds: &Bounds,
+    table: &Layout,
+    lists: &[SpotList],
+    spans: &AtomRanges,
+    constants: &Constants,
+    most: usize,
+) -> Result<Vec<PairList>, AllocError>
+    requires spans { HasSpans scopes.now spans.now }
+    requires constants { AreConstantsOf model.now.sigs constants.now }
+    requires counted { length scopes.now.numbers ≡ length model.now.sigs }
+    ensures { IsReady bounds.now table.now lists.now → IfOk result (λ v.
+        AreAllPairs model.now scopes.now bounds.now most v.items) }
+{
+    let mut all = Vec::new(alloc);
+    let mut number = 0u32;
+    for _sig in model.sigs.as_slice() {
+        add_sig(
+            alloc, model, scopes, bounds, table, lists, spans, constants, number, most, &mut all,
+        )?;
+        if number == u32::MAX {
+            return Err(AllocError);
+        }
+        number += 1;
+    }
+    Ok(all)
+}
+
+/// The pairs of all neighbours, where the constants are known.
 fn all_pairs(
     alloc: Global,
     model: &Model,
@@ -179,17 +211,9 @@ fn all_pairs(
     upper_sets(bounds.relations.as_slice());
     let table = layout(alloc, bounds)?;
     let lists = index_of(alloc, bounds, spans.integers.first as usize)?;
-    let mut all = Vec::new(alloc);
-    let mut number = 0u32;
-    for _sig in model.sigs.as_slice() {
-        add_sig(
-            alloc, model, scopes, bounds, &table, &lists, spans, constants, number, most, &mut all,
-        )?;
-        if number == u32::MAX {
-            return Err(AllocError);
-        }
-        number += 1;
-    }
+    let all = sig_pairs(
+        alloc, model, scopes, bounds, &table, &lists, spans, constants, most,
+    )?;
     Ok(all)
 }
 

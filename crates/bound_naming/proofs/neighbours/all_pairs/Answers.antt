@@ -1,23 +1,6 @@
-use Rattle.std.proofs.Common.{◌+◌, ap, arith}
-use Rattle.bound_naming.specs.Reckoned.{IsReady}
-use Rattle.bound_naming.proofs.NeighbourLaws.{sigs_none, sigs_more, sigs_all, ready_by}
+use Rattle.bound_naming.proofs.NeighbourLaws.{ready_by}
 use Rattle.bound_naming.proofs.neighbours.all_pairs.Goals as goal
-
-pub loop-sig-entry : goal.loop-sig-entry
-loop-sig-entry c = record {
-  number = omega arith;
-  pairs = λ ready. sigs_none c.args.model.now c.args.scopes.now c.args.bounds.now c.args.most;
-}
-
-pub loop-sig-preserved : goal.loop-sig-preserved
-loop-sig-preserved c =
-    let same = c.loop-sig.invariant.number in
-    record {
-      number = ap (λ n. n + 1) same;
-      pairs = sigs_more c.args.model.now c.args.scopes.now c.args.bounds.now c.args.most c.loop-sig._sig-index c.loop-sig.number (IsReady c.args.bounds.now c.in_ok-table.table c.in_ok-lists.lists.items) c.loop-sig.all.items c.add_sig.new.all.items same c.in_ok-add_sig.ensures c.loop-sig.invariant.pairs;
-    }
 
 pub returns : goal.returns
 returns c = λ table.
-    sigs_all c.args.model.now c.args.scopes.now c.args.bounds.now c.args.most c.loop-sig._sig-index c.loop-sig.all.items (omega arith)
-    (c.loop-sig.invariant.pairs (ready_by c.args.bounds.now c.in_ok-table.table c.in_ok-lists.lists.items c.args.spans.now.integers.first c.as_slice.result.now table (c.in_ok-table.ensures table) (c.in_ok-lists.ensures table) c.as_slice.ensures c.upper_sets.ensures))
+    c.in_ok-all.ensures (ready_by c.args.bounds.now c.in_ok-table.table c.in_ok-lists.lists.items c.deref.result.now c.args.spans.now.integers.first c.as_slice.result.now table (c.in_ok-table.ensures table) (c.in_ok-lists.ensures table) c.deref.ensures.value c.as_slice.ensures c.upper_sets.ensures)
