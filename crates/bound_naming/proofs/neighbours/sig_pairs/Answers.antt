@@ -3,8 +3,8 @@ use Rattle.bound_naming.specs.Reckoned.{IsReady}
 use Rattle.bound_naming.proofs.NeighbourLaws.{sigs_none, sigs_more, sigs_all}
 use Rattle.bound_naming.proofs.neighbours.sig_pairs.Goals as goal
 
-pub loop-sig-entry : goal.loop-sig-entry
-loop-sig-entry c = record {
+pub loop-sig-init : goal.loop-sig-init
+loop-sig-init c = record {
   number = omega arith;
   pairs = λ ready. sigs_none c.args.model.now c.args.scopes.now c.args.bounds.now c.args.most;
 }
