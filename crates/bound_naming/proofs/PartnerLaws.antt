@@ -98,11 +98,14 @@ found_place t k us is =
     let same : found.0 ≡ k = omega (arith, at) in
     subst (λ (m : ℕ). slice_get us m ≡ Some t) same found.2
 
-later_case : (c : Bool) (s : Spot) (fixed : Bool) (other : ℕ) (m : Match) → nat_lt s.place other ≡ c → (if c then Some (record { spot = s; other = other; fixed = fixed }) else None) ≡ Some m → (s.place < other) × (record { spot = s; other = other; fixed = fixed } ≡ m)
-later_case true s fixed other m e is = (ltb-true s.place other e, (let same : record { spot = s; other = other; fixed = fixed } ≡ m = cc in same))
+abbrev match_at : Spot → ℕ → Bool → Match
+match_at s other fixed = record { spot = s; other = other; fixed = fixed }
+
+later_case : (c : Bool) (s : Spot) (fixed : Bool) (other : ℕ) (m : Match) → nat_lt s.place other ≡ c → (if c then Some (match_at s other fixed) else None) ≡ Some m → (s.place < other) × (match_at s other fixed ≡ m)
+later_case true s fixed other m e is = (ltb-true s.place other e, (let same : match_at s other fixed ≡ m = cc in same))
 later_case false s fixed other m e is = cc
 
-later_is : (s : Spot) (fixed : Bool) (o : Option ℕ) (m : Match) → if_later s fixed o ≡ Some m → (other : ℕ) × (o ≡ Some other) × (s.place < other) × (record { spot = s; other = other; fixed = fixed } ≡ m)
+later_is : (s : Spot) (fixed : Bool) (o : Option ℕ) (m : Match) → if_later s fixed o ≡ Some m → (other : ℕ) × (o ≡ Some other) × (s.place < other) × (match_at s other fixed ≡ m)
 later_is s fixed None m is = cc
 later_is s fixed (Some other) m is = let found = later_case (nat_lt s.place other) s fixed other m refl is in (other, refl, found.0, found.1)
 
@@ -119,7 +122,7 @@ match_is bs a b s m spot is =
     let by_tuple : if_later s bound.fixed (place_in u 0 ts) ≡ Some m =
         sym (ap (λ (o : Option (List ℕ)). partner_in a b s bound o) within.1) ∙ (sym (ap (λ (o : Option Bound). partner_of a b s o) spot.1) ∙ is) in
     let found = later_is s bound.fixed (place_in u 0 ts) m by_tuple in
-    let made : IsSomeMatch bs a b (record { spot = s; other = found.0; fixed = bound.fixed }) = (bound, t, record { relation = spot.1; order = spot.2; same = refl; here = within.1; there = found_place u found.0 ts found.1; later = found.2 }) in
+    let made : IsSomeMatch bs a b (match_at s found.0 bound.fixed) = (bound, t, record { relation = spot.1; order = spot.2; same = refl; here = within.1; there = found_place u found.0 ts found.1; later = found.2 }) in
     (subst (IsSomeMatch bs a b) found.3 made, sym (ap (λ (x : Match). x.spot) found.3))
 
 pub match_found : (bs : List Bound) (a b r place other : ℕ) (bound : Bound) (t : List ℕ) → IsTupleSet bound.upper → slice_get bs r ≡ Some bound → slice_get bound.upper.tuples place ≡ Some t → slice_get bound.upper.tuples other ≡ Some (map (exchanged a b) t) → place < other →
@@ -130,7 +133,7 @@ match_found bs a b r place other bound t set at here there lt =
     ap (λ (o : Option Bound). partner_of a b s o) at
     ∙ (ap (λ (o : Option (List ℕ)). partner_in a b s bound o) here
     ∙ (ap (λ (o : Option ℕ). if_later s bound.fixed o) (sym (found_is ts other (map (exchanged a b) t) set.sorted there))
-    ∙ ap (λ (c : Bool). if c then Some (record { spot = s; other = other; fixed = bound.fixed }) else None) (lt-ltb place other lt)))
+    ∙ ap (λ (c : Bool). if c then Some (match_at s other bound.fixed) else None) (lt-ltb place other lt)))
 
 -- ---- all matches
 

@@ -103,6 +103,9 @@ map_rises P f (m ∷ ms) to all ordered =
     let both : All (λ z. P z × Precedes m.spot z.spot) ms = λ k d lt. (rest k d lt, ordered.0 k d lt) in
     (map_each (λ z. P z × Precedes m.spot z.spot) (λ (q : Pair). (f m).earlier < q.earlier) f ms (λ z h. to m z (All-head P m ms all) h.0 h.1) both, map_rises P f ms to rest ordered.1)
 
+abbrev pair_of : ℕ → ℕ → Pair
+pair_of v w = record { earlier = v; later = w }
+
 state_are : (bounds : Bounds) (table : Layout) (a b s : ℕ) (passes : Bool → Bool) (ms : List Match) → IsTable bounds → AreInOrder bounds → IsLayout bounds table → s < bounds.states → ((c : Bool) → passes c ≡ true → c ≡ true → s ≡ 0) → ((c : Bool) → (c ≡ true → s ≡ 0) → passes c ≡ true) → AreMatches bounds.relations a b passes ms → AreStatePairs bounds a b s (map (pair_in table s) ms)
 state_are bounds table a b s passes ms placed order laid lt only all are = record {
   each = map_each (λ m. IsSomeMatch bounds.relations a b m × (passes m.fixed ≡ true)) (IsPairAt bounds a b s) (pair_in table s) ms
@@ -134,9 +137,6 @@ state_are bounds table a b s passes ms placed order laid lt only all are = recor
       let is : pair_in table s m ≡ p = ap (λ (n : ℕ). pair_of n (first_in table s r + other)) earlier ∙ ap (λ (n : ℕ). pair_of p.earlier n) later in
       subst (λ (q : Pair). Contains (map (pair_in table s) ms) q) is (map_here (pair_in table s) ms m found);
 }
-  where
-    abbrev pair_of : ℕ → ℕ → Pair
-    pair_of v w = record { earlier = v; later = w }
 
 state_pairs_are : (bounds : Bounds) (table : Layout) (a b s : ℕ) (ms : List Match) → IsTable bounds → AreInOrder bounds → IsLayout bounds table → s < bounds.states → AreMatches bounds.relations a b all_fixed ms → AreStatePairs bounds a b s (state_pairs table ms (moving ms) s)
 state_pairs_are bounds table a b zero ms placed order laid lt are = state_are bounds table a b zero all_fixed ms placed order laid lt (λ c on fixed. refl) (λ c own. refl) are
