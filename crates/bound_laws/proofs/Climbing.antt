@@ -1,6 +1,6 @@
 -- Of the candidates that satisfy a target one is canonical: where a pair asks for an exchange, it is made, and the table's variables,
 -- read as the digits of one number of which the first is the highest, give a greater one.
-use Rattle.std.proofs.Common.{◌≡◌, ◌↔◌, ◌⊎◌, inl, inr, ℕ, zero, suc, ◌+◌, ◌<◌, ◌≤◌, Bool, true, List, length, map, All, Contains, sym, subst, arith}
+use Rattle.std.proofs.Common.{◌↔◌, inl, inr, ℕ, zero, suc, ◌+◌, ◌<◌, ◌≤◌, Bool, List, map, All, Contains, subst, arith}
 use Rattle.core_meaning.specs.declared.target.Target.{Target}
 use Rattle.core_meaning.specs.declared.scopes.Scopes.{Scopes}
 use Rattle.core_meaning.specs.Sequence.{LassoValue}
@@ -48,9 +48,9 @@ module _ (rows : RowsInOrder) (kept : TargetsKeepTruth) (target : Target) (bound
       candidate = again;
       satisfies = (kept target (exchange a (a + 1)) lasso other (keeps_integers target.scopes a alike.within) (exchanged_shows a (a + 1) bounds lasso candidate alike.closed target.scopes)).0 satisfies;
       higher = number_rises (values lasso) (values other) (earlier bounds.relations bounds.states) asks.pair.earlier low high
-      (λ u less. let both = stays bounds (rows bounds) table a (a + 1) lasso other candidate again moved most pairs are asks u less in told_same (DoesHold bounds lasso u) (DoesHold bounds other u) (does_hold bounds lasso u) (does_hold bounds other u) both.0 both.1)
-      (told_false (DoesHold bounds lasso asks.pair.earlier) (does_hold bounds lasso asks.pair.earlier) asks.earlier)
-      (told_true (DoesHold bounds other asks.pair.earlier) (does_hold bounds other asks.pair.earlier) (rises bounds (rows bounds) table a (a + 1) lasso other candidate again moved most pairs are asks));
+          (λ u less. let both = stays bounds (rows bounds) table a (a + 1) lasso other candidate again moved most pairs are asks u less in told_same (DoesHold bounds lasso u) (DoesHold bounds other u) (does_hold bounds lasso u) (does_hold bounds other u) both.0 both.1)
+          (told_false (DoesHold bounds lasso asks.pair.earlier) (does_hold bounds lasso asks.pair.earlier) asks.earlier)
+          (told_true (DoesHold bounds other asks.pair.earlier) (does_hold bounds other asks.pair.earlier) (rises bounds (rows bounds) table a (a + 1) lasso other candidate again moved most pairs are asks));
     }
       where
         other : LassoValue
