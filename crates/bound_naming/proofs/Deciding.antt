@@ -1,11 +1,11 @@
 -- Values that tell what holds decide whether pairs favour the earlier.
-use Rattle.std.proofs.Common.{◌≡◌, ◌↔◌, ℕ, zero, suc, ◌+◌, ◌<◌, Bool, true, false, ◌&&◌, List, [], ◌∷◌, length, take, slice_get, Some, All, refl, ap, sym, ◌∙◌, subst, arith}
+use Rattle.std.proofs.Common.{◌≡◌, ◌↔◌, ℕ, zero, suc, ◌+◌, Bool, true, false, List, [], ◌∷◌, take, All, refl, sym, ◌∙◌, subst}
 use Rattle.std.proofs.lemmas.Bool.{and_parts, and_from, false≢true}
 use Rattle.std.proofs.lemmas.List.Elements.{All-nil, All-cons, All-head, All-tail, All-weaker}
 use Rattle.core_meaning.specs.Sequence.{LassoValue}
 use Rattle.bound_uppers.specs.declared.table.Bounds.{Bounds}
 use Rattle.bound_naming.specs.declared.pairs.Pair.{Pair}
-use Rattle.bound_naming.specs.Naming.{IsCell, ArePartners, ArePairs, AreSomePairs, AreAllPairs, Favours, decides, favours, favours_all, DoesHold, IsCanonical}
+use Rattle.bound_naming.specs.Naming.{IsCell, ArePartners, ArePairs, AreSomePairs, Favours, decides, favours, favours_all, DoesHold, IsCanonical}
 use Rattle.bound_naming.specs.Decided.{Tells, NamingIsDecided}
 
 -- ---- one pair

@@ -1,5 +1,5 @@
 -- What the index has: of each atom just the tuples that have it, in order.
-use Rattle.std.proofs.Common.{◌≡◌, ◌⊎◌, inl, inr, ℕ, zero, suc, ◌+◌, ◌<◌, ◌≤◌, Bool, true, false, List, [], ◌∷◌, ◌++◌, length, get_or, slice_get, Some, All, Contains, refl, ap, sym, ◌∙◌, subst, arith}
+use Rattle.std.proofs.Common.{◌≡◌, inl, inr, ℕ, zero, suc, ◌+◌, ◌<◌, ◌≤◌, Bool, true, false, List, [], ◌∷◌, ◌++◌, length, get_or, slice_get, Some, All, Contains, refl, ap, sym, ◌∙◌, subst, arith}
 use Rattle.std.proofs.lemmas.Bool.{cases_lt}
 use Rattle.std.proofs.lemmas.List.Elements.{All-nil, All-cons, All-head, All-tail, All-append, All-weaker, Contains-append_left, Contains-append_right}
 use Rattle.core_tuples.proofs.OrderLemmas.{cons_here, cons_later}
@@ -60,9 +60,10 @@ spots_every a order r p (suc k) (u ∷ ts) t at on =
 
 ordered_append : (xs ys : List Spot) → AreOrdered xs → AreOrdered ys → All (λ s. All (Precedes s) ys) xs → AreOrdered (xs ++ ys)
 ordered_append [] ys one two across = two
-ordered_append (x ∷ xs) ys one two across =
-    (All-append (Precedes x) xs ys one.0 (All-head (λ s. All (Precedes s) ys) x xs across),
-     ordered_append xs ys one.1 two (All-tail (λ s. All (Precedes s) ys) x xs across))
+ordered_append (x ∷ xs) ys one two across = (
+  All-append (Precedes x) xs ys one.0 (All-head (λ s. All (Precedes s) ys) x xs across),
+  ordered_append xs ys one.1 two (All-tail (λ s. All (Precedes s) ys) x xs across),
+)
 
 spots_more : (bounds : Bounds) (a n r : ℕ) (b : Bound) (old : List Spot) → IsTable bounds → slice_get bounds.relations r ≡ Some b → b.order ≡ n → AreSpots bounds.relations a n old → AreSpots bounds.relations a (n + 1) (old ++ spots_in a n r 0 b.upper.tuples)
 spots_more bounds a n r b old table at here was =

@@ -1,18 +1,13 @@
 -- The index grows tuple by tuple.
-use Rattle.std.proofs.Common.{◌≡◌, ◌⊎◌, inl, inr, ℕ, zero, suc, ◌+◌, ◌-◌, ◌<◌, ◌≤◌, eqb, nat_lt, Bool, true, false, not, ◌&&◌, ◌||◌, if◌then◌else◌, List, [], ◌∷◌, ◌++◌, length, take, drop, get_or, set, slice_get, Option, Some, All, Contains, refl, ap, sym, ◌∙◌, subst, arith}
-use Rattle.std.specs.List.{list_any}
-use Rattle.std.proofs.lemmas.Bool.{cases_lt, cases_eq, eq-eqb, ne_eqb, ltb-true, ltb-false, and_right}
+use Rattle.std.proofs.Common.{◌≡◌, ◌⊎◌, inl, inr, ℕ, zero, suc, ◌+◌, ◌-◌, ◌<◌, ◌≤◌, eqb, nat_lt, Bool, true, false, not, ◌&&◌, ◌||◌, if◌then◌else◌, List, [], ◌∷◌, ◌++◌, length, take, drop, get_or, set, slice_get, Some, refl, ap, sym, ◌∙◌, subst, arith}
+use Rattle.std.proofs.lemmas.Bool.{cases_eq, eq-eqb, ne_eqb, ltb-true, ltb-false, and_right}
 use Rattle.std.proofs.lemmas.List.Folds.{list_any_more}
-use Rattle.std.proofs.lemmas.List.Elements.{All-cons, All-append, All-weaker, Contains-append_left, Contains-append_right, Contains-append_cases}
 use Rattle.std.proofs.lemmas.Grind.{get_or-set_at}
 use Rattle.std.proofs.lemmas.List.{get_or-set_other, length-set, append-nil, append_assoc}
-use Rattle.std.proofs.lemmas.Option.{slice_get_past}
-use Rattle.core_tuples.proofs.OrderLemmas.{cons_here, cons_later, no_members, take_all}
-use Rattle.bound_uppers.specs.declared.table.Bound.{Bound}
-use Rattle.bound_uppers.specs.declared.table.Bounds.{Bounds}
-use Rattle.bound_uppers.specs.Table.{IsTable, keep}
+use Rattle.core_tuples.proofs.OrderLemmas.{take_all}
+use Rattle.bound_uppers.specs.Table.{keep}
 use Rattle.bound_naming.specs.declared.spots.Spot.{Spot}
-use Rattle.bound_naming.specs.Reckoned.{has_atom, extended_at, Grow, one_spot, spots_in, IsSpot, Precedes, AreOrdered, AreSpots, IsIndex}
+use Rattle.bound_naming.specs.Reckoned.{has_atom, extended_at, Grow, one_spot, spots_in}
 
 -- ---- whether a tuple has an atom
 

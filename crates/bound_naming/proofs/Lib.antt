@@ -1,5 +1,5 @@
 mod Indexing
-mod Finding
+pub mod Finding
 mod Matching
 mod StateLists
 mod IndexLaws

@@ -1,9 +1,10 @@
 -- Which atoms the bounds don't tell apart, and their pairs. As far as tuples go that have one of two atoms, the index has them.
-use Rattle.std.proofs.Common.{◌≡◌, ◌⊎◌, inl, inr, ℕ, ◌+◌, ◌-◌, ◌<◌, ◌≤◌, eqb, Bool, true, false, ◌||◌, List, [], ◌∷◌, ◌++◌, map, length, take, get_or, slice_get, Some, All, Contains, refl, ap, sym, ◌∙◌, subst, arith}
+use Rattle.std.proofs.Common.{◌≡◌, ◌⊎◌, inl, inr, ℕ, ◌+◌, ◌-◌, ◌<◌, ◌≤◌, eqb, Bool, true, false, List, [], ◌∷◌, ◌++◌, map, length, take, get_or, slice_get, Some, All, Contains, refl, ap, sym, ◌∙◌, subst, arith}
 use Rattle.std.proofs.lemmas.Bool.{cases_lt, eq-eqb, or_parts}
 use Rattle.std.proofs.lemmas.List.Elements.{All-nil, All-push, All-contains, Contains-push, Contains-append_left}
 use Rattle.std.proofs.lemmas.Option.{slice_get-get_or, get_or_from_slice_get, slice_get_within}
 use Rattle.core_tuples.specs.Sets.{In}
+use Rattle.core_tuples.proofs.OrderLemmas.{take_all}
 use Rattle.core_renaming.specs.Composed.{exchanged, exchanged_other}
 use Rattle.bound_uppers.specs.declared.table.Bound.{Bound}
 use Rattle.bound_uppers.specs.declared.table.Bounds.{Bounds}
@@ -22,8 +23,8 @@ pub next_are : (bounds : Bounds) (bs : List Bound) (table : Layout) (lists : Lis
 next_are bounds bs table lists a b most ps order are next lt e ready =
     let placed = ready.placed in
     let step : ps ≡ take most (pairs_to table (matches_of bounds.relations a (a + 1) (get_or lists a [])) bounds.states) =
-        e ∙ (ap (λ (xs : List Bound). take most (pairs_to table (matches_of xs a b (get_or lists a [])) bounds.states)) are
-        ∙ ap (λ (n : ℕ). take most (pairs_to table (matches_of bounds.relations a n (get_or lists a [])) bounds.states)) next) in
+    e ∙ (ap (λ (xs : List Bound). take most (pairs_to table (matches_of xs a b (get_or lists a [])) bounds.states)) are
+    ∙ ap (λ (n : ℕ). take most (pairs_to table (matches_of bounds.relations a n (get_or lists a [])) bounds.states)) next) in
     subst (λ (qs : List Pair). ArePairs bounds most a (a + 1) qs) (sym step)
     (pairs_are_first bounds table a (a + 1) most (matches_of bounds.relations a (a + 1) (get_or lists a [])) placed order ready.laid
     (matches_are bounds a (a + 1) (get_or lists a []) ready.sets (omega arith) (ready.index.each a lt) (λ r c at. placed.placed r c at)))
@@ -76,6 +77,10 @@ all_stay bounds atoms a spots are = λ k s lt c t get at. are.closed (get_or spo
 
 pub stay_alike : (bounds : Bounds) (atoms a : ℕ) (lists : List (List Spot)) → AreInterchangeable bounds atoms a → AllStay bounds.relations lists a
 stay_alike bounds atoms a lists are = (all_stay bounds atoms a (get_or lists a []) are, all_stay bounds atoms a (get_or lists (a + 1) []) are)
+
+-- the tuples that were tried, and all of them
+pub taken_all : (bs : List Bound) (a b k : ℕ) (spots : List Spot) → length spots ≤ k → All (Stays bs a b) (take k spots) → All (Stays bs a b) spots
+taken_all bs a b k spots far all = subst (λ (xs : List Spot). All (Stays bs a b) xs) (take_all spots k far) all
 
 -- ---- the pairs of the first atoms
 

@@ -1,14 +1,14 @@
 -- What the matches have: all partners in the upper bounds, the earlier tuple first, in order.
-use Rattle.std.proofs.Common.{◌≡◌, ◌⊎◌, inl, inr, ℕ, zero, suc, ◌+◌, ◌<◌, ◌≤◌, eqb, nat_lt, Bool, true, false, not, ◌&&◌, ◌||◌, cond, if◌then◌else◌, List, [], ◌∷◌, ◌++◌, length, get_or, filter, slice_get, Option, Some, None, All, Contains, refl, ap, sym, ◌∙◌, subst, arith}
+use Rattle.std.proofs.Common.{◌≡◌, inl, inr, ℕ, zero, suc, ◌+◌, ◌<◌, eqb, nat_lt, Bool, true, false, not, ◌||◌, cond, if◌then◌else◌, List, [], ◌∷◌, length, get_or, filter, slice_get, Option, Some, None, All, Contains, refl, ap, sym, ◌∙◌, subst, arith}
 use Rattle.std.specs.Prelude.{map}
 use Rattle.std.specs.Ordering.{nat_cmp, ordering_then}
 use Rattle.std.specs.declared.cmp.Ordering.{Ordering}
 use Rattle.std.specs.declared.cmp.Ordering.TheVariants.{Less, Equal, Greater}
 use Rattle.std.specs.List.Sorted.{IsStrictlySortedBy}
 use Rattle.std.specs.Cmp.{nat_cmp_is}
-use Rattle.std.proofs.lemmas.Bool.{cases_lt, cases_eq, eq-eqb, ne_eqb, ltb-true, ltb-false, lt-ltb, false≢true}
+use Rattle.std.proofs.lemmas.Bool.{cases_eq, eq-eqb, ltb-true, lt-ltb, false≢true}
 use Rattle.std.proofs.lemmas.List.Elements.{All-nil, All-cons, All-head, All-tail, All-weaker}
-use Rattle.std.proofs.lemmas.Option.{slice_get-get_or, slice_get_within}
+use Rattle.std.proofs.lemmas.Option.{slice_get-get_or}
 use Rattle.core_tuples.specs.Sets.{tuple_cmp, is_same, IsTupleSet}
 use Rattle.core_tuples.proofs.OrderLemmas.{cons_cases, cons_here, cons_later, no_members}
 use Rattle.core_tuples.proofs.OrderedLemmas.{same_exact, sorted_back, head_below}
@@ -120,7 +120,7 @@ match_is bs a b s m spot is =
     let t : List ℕ = within.0 in
     let u : List ℕ = map (exchanged a b) t in
     let by_tuple : if_later s bound.fixed (place_in u 0 ts) ≡ Some m =
-        sym (ap (λ (o : Option (List ℕ)). partner_in a b s bound o) within.1) ∙ (sym (ap (λ (o : Option Bound). partner_of a b s o) spot.1) ∙ is) in
+    sym (ap (λ (o : Option (List ℕ)). partner_in a b s bound o) within.1) ∙ (sym (ap (λ (o : Option Bound). partner_of a b s o) spot.1) ∙ is) in
     let found = later_is s bound.fixed (place_in u 0 ts) m by_tuple in
     let made : IsSomeMatch bs a b (match_at s found.0 bound.fixed) = (bound, t, record { relation = spot.1; order = spot.2; same = refl; here = within.1; there = found_place u found.0 ts found.1; later = found.2 }) in
     (subst (IsSomeMatch bs a b) found.3 made, sym (ap (λ (x : Match). x.spot) found.3))
@@ -183,10 +183,10 @@ matches_ordered bs a b (s ∷ ss) all ordered =
     let both : All (λ z. IsSpot bs z × Precedes s z) ss = λ k d lt. (rest k d lt, ordered.0 k d lt) in
     item_ordered (partner_of a b s (slice_get bs s.relation)) (matches_of bs a b ss)
     (λ m is.
-        let first : m.spot ≡ s = (match_is bs a b s m (All-head (IsSpot bs) s ss all) is).1 in
-        matches_each (λ (z : Match). Precedes m.spot z.spot) bs a b ss
-        (All-weaker (λ z. IsSpot bs z × Precedes s z) (λ z. (n : Match) → partner_of a b z (slice_get bs z.relation) ≡ Some n → Precedes m.spot n.spot)
-        (λ z h n made. subst (λ (x : Spot). Precedes x n.spot) (sym first) (subst (λ (x : Spot). Precedes s x) (sym (match_is bs a b z n h.0 made).1) h.1)) ss both))
+    let first : m.spot ≡ s = (match_is bs a b s m (All-head (IsSpot bs) s ss all) is).1 in
+    matches_each (λ (z : Match). Precedes m.spot z.spot) bs a b ss
+    (All-weaker (λ z. IsSpot bs z × Precedes s z) (λ z. (n : Match) → partner_of a b z (slice_get bs z.relation) ≡ Some n → Precedes m.spot n.spot)
+    (λ z h n made. subst (λ (x : Spot). Precedes x n.spot) (sym first) (subst (λ (x : Spot). Precedes s x) (sym (match_is bs a b z n h.0 made).1) h.1)) ss both))
     (matches_ordered bs a b ss rest ordered.1)
 
 abbrev pub all_fixed : Bool → Bool

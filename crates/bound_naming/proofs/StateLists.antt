@@ -1,5 +1,5 @@
 -- The pairs of two atoms, state by state.
-use Rattle.std.proofs.Common.{◌≡◌, ℕ, zero, suc, ◌+◌, ◌-◌, ◌*◌, ◌<◌, ◌≤◌, List, [], ◌∷◌, ◌++◌, length, take, drop, get_or, slice_get, Option, Some, None, refl, ap, sym, ◌∙◌, subst, arith}
+use Rattle.std.proofs.Common.{◌≡◌, ℕ, zero, suc, ◌+◌, ◌-◌, ◌*◌, ◌<◌, ◌≤◌, List, [], ◌∷◌, ◌++◌, length, take, drop, get_or, Option, refl, ap, sym, ◌∙◌, arith}
 use Rattle.std.specs.Prelude.{map}
 use Rattle.std.proofs.lemmas.List.{append-nil, append_assoc, length_push, length-take, take_more, take-append-drop, map_push, get_or_default}
 use Rattle.std.proofs.lemmas.Option.{slice_get_past}
@@ -46,7 +46,7 @@ pub pairs_more : (table : Layout) (s k : ℕ) (ms : List Match) (m : Match) (p :
 pairs_more table s k ms m p old now new lt is made was e =
     let f : Match → Pair = pair_in table s in
     let last : map f (take (k + 1) ms) ≡ map f (take k ms) ++ p ∷ [] =
-        ap (map f) (take_more ms k m lt) ∙ (map_push f (take k ms) (get_or ms k m) ∙ ap (λ (q : Pair). map f (take k ms) ++ q ∷ []) (ap f (sym is) ∙ sym made)) in
+    ap (map f) (take_more ms k m lt) ∙ (map_push f (take k ms) (get_or ms k m) ∙ ap (λ (q : Pair). map f (take k ms) ++ q ∷ []) (ap f (sym is) ∙ sym made)) in
     e ∙ (ap (λ (xs : List Pair). xs ++ p ∷ []) was ∙ (append_assoc old (map f (take k ms)) (p ∷ []) ∙ ap (λ (xs : List Pair). old ++ xs) (sym last)))
 
 pub pairs_full : (table : Layout) (s k most : ℕ) (ms : List Match) (old now : List Pair) → most ≤ length now → length now ≤ most → now ≡ old ++ map (pair_in table s) (take k ms) → now ≡ take most (old ++ map (pair_in table s) ms)
@@ -54,9 +54,9 @@ pairs_full table s k most ms old now low high was =
     let f : Match → Pair = pair_in table s in
     let same : length now ≡ most = omega (arith, low, high) in
     let whole : old ++ map f ms ≡ now ++ map f (drop k ms) =
-        ap (λ (xs : List Match). old ++ map f xs) (sym (take-append-drop k ms))
-        ∙ (ap (λ (xs : List Pair). old ++ xs) (joined f (take k ms) (drop k ms))
-        ∙ (sym (append_assoc old (map f (take k ms)) (map f (drop k ms))) ∙ ap (λ (xs : List Pair). xs ++ map f (drop k ms)) (sym was))) in
+    ap (λ (xs : List Match). old ++ map f xs) (sym (take-append-drop k ms))
+    ∙ (ap (λ (xs : List Pair). old ++ xs) (joined f (take k ms) (drop k ms))
+    ∙ (sym (append_assoc old (map f (take k ms)) (map f (drop k ms))) ∙ ap (λ (xs : List Pair). xs ++ map f (drop k ms)) (sym was))) in
     sym (ap (take most) whole ∙ (ap (λ (n : ℕ). take n (now ++ map f (drop k ms))) (sym same) ∙ take_of now (map f (drop k ms))))
   where
     joined : (f : Match → Pair) (xs ys : List Match) → map f (xs ++ ys) ≡ map f xs ++ map f ys

@@ -1,5 +1,5 @@
 -- The pairs of the states have all partners, in the order of the table; the first so many of them are the pairs of two atoms.
-use Rattle.std.proofs.Common.{◌≡◌, ◌⊎◌, inl, inr, ℕ, zero, suc, ◌+◌, ◌<◌, ◌≤◌, ◌^◌, Bool, true, false, not, List, [], ◌∷◌, ◌++◌, length, take, slice_get, Option, Some, All, Contains, refl, ap, sym, ◌∙◌, subst, arith}
+use Rattle.std.proofs.Common.{◌≡◌, ◌⊎◌, inl, inr, ℕ, zero, suc, ◌+◌, ◌<◌, ◌≤◌, Bool, true, false, not, List, [], ◌∷◌, ◌++◌, length, take, slice_get, Option, Some, All, Contains, refl, ap, sym, ◌∙◌, subst, arith}
 use Rattle.std.specs.Prelude.{map}
 use Rattle.std.proofs.lemmas.Bool.{cases_lt, false≢true}
 use Rattle.std.proofs.lemmas.List.{length-take}
@@ -10,13 +10,12 @@ use Rattle.bound_uppers.specs.declared.table.Bound.{Bound}
 use Rattle.bound_uppers.specs.declared.table.Bounds.{Bounds}
 use Rattle.bound_uppers.specs.declared.places.Cells.{Cells}
 use Rattle.bound_uppers.specs.declared.places.Layout.{Layout}
-use Rattle.bound_uppers.specs.Table.{IsTable, IsLayout, IsRow, AreInOrder, StandsBefore, variable_of, first_variable, cell_at}
+use Rattle.bound_uppers.specs.Table.{IsTable, IsLayout, IsRow, AreInOrder, variable_of, first_variable}
 use Rattle.bound_naming.specs.declared.pairs.Pair.{Pair}
-use Rattle.bound_naming.specs.declared.spots.Spot.{Spot}
 use Rattle.bound_naming.specs.declared.partners.Match.{Match}
-use Rattle.bound_naming.specs.Naming.{IsCell, ArePartners, IsListed, ArePairs}
+use Rattle.bound_naming.specs.Naming.{IsCell, ArePartners, ArePairs}
 use Rattle.bound_naming.specs.Reckoned.{Precedes, first_by, first_in, pair_in, state_pairs, pairs_to, moving}
-use Rattle.bound_naming.proofs.PartnerLaws.{IsMatch, IsSomeMatch, AreMatches, AreMatchesOrdered, all_fixed, moving_are}
+use Rattle.bound_naming.proofs.PartnerLaws.{IsSomeMatch, AreMatches, AreMatchesOrdered, all_fixed, moving_are}
 
 -- ---- pairs at a state
 
@@ -53,11 +52,13 @@ match_pair bounds table a b s m laid lt some own =
     let is = some.2 in
     let first = first_is bounds table s m.spot.relation bound laid is.relation lt in
     let only : bound.fixed ≡ true → s ≡ 0 = λ e. own (is.same ∙ e) in
-    let later = is.later in
-    (m.spot.relation, t,
-     (bound, m.spot.place, row_of bounds s m.spot.relation m.spot.place bound is.relation lt (within_of bound.upper.tuples m.spot.place t is.here) only, is.here, ap (λ (n : ℕ). n + m.spot.place) first),
-     (bound, m.other, row_of bounds s m.spot.relation m.other bound is.relation lt (within_of bound.upper.tuples m.other (map (exchanged a b) t) is.there) only, is.there, ap (λ (n : ℕ). n + m.other) first),
-     omega (arith, later))
+    let later = is.later in (
+      m.spot.relation,
+      t,
+      (bound, m.spot.place, row_of bounds s m.spot.relation m.spot.place bound is.relation lt (within_of bound.upper.tuples m.spot.place t is.here) only, is.here, ap (λ (n : ℕ). n + m.spot.place) first),
+      (bound, m.other, row_of bounds s m.spot.relation m.other bound is.relation lt (within_of bound.upper.tuples m.other (map (exchanged a b) t) is.there) only, is.there, ap (λ (n : ℕ). n + m.other) first),
+      omega (arith, later),
+    )
 
 -- a match before another gives an earlier pair
 match_rises : (bounds : Bounds) (table : Layout) (a b s : ℕ) (m z : Match) → AreInOrder bounds → IsLayout bounds table → s < bounds.states → IsSomeMatch bounds.relations a b m → IsSomeMatch bounds.relations a b z → (m.fixed ≡ true → s ≡ 0) → (z.fixed ≡ true → s ≡ 0) → Precedes m.spot z.spot → (pair_in table s m).earlier < (pair_in table s z).earlier
@@ -71,9 +72,9 @@ match_rises bounds table a b s m z order laid lt some other own only before =
       | inr same ↦ inr (sym one.order ∙ (same.0 ∙ two.order), same.1)
     ] in
     let less = order.rise s s m.spot.relation z.spot.relation m.spot.place z.spot.place c d
-        (row_of bounds s m.spot.relation m.spot.place c one.relation lt (within_of c.upper.tuples m.spot.place some.1 one.here) (λ e. own (one.same ∙ e)))
-        (row_of bounds s z.spot.relation z.spot.place d two.relation lt (within_of d.upper.tuples z.spot.place other.1 two.here) (λ e. only (two.same ∙ e)))
-        (inr (refl, ranks)) in
+    (row_of bounds s m.spot.relation m.spot.place c one.relation lt (within_of c.upper.tuples m.spot.place some.1 one.here) (λ e. own (one.same ∙ e)))
+    (row_of bounds s z.spot.relation z.spot.place d two.relation lt (within_of d.upper.tuples z.spot.place other.1 two.here) (λ e. only (two.same ∙ e)))
+    (inr (refl, ranks)) in
     let first = first_is bounds table s m.spot.relation c laid one.relation lt in
     let second = first_is bounds table s z.spot.relation d laid two.relation lt in
     omega (arith, less, first, second)

@@ -1,6 +1,6 @@
 -- The naming. What atoms are called is no part of a model's meaning, so of the lassos that differ in it alone it is enough to
 -- look for one: for a canonical one, which uses the atoms of a sig in turn as far as pairs of tuples tell.
-use Rattle.std.specs.Prelude.{◌≡◌, ◌↔◌, ◌⊎◌, ◌<◌, ◌≤◌, ◌+◌, ℕ, Bool, true, false, ◌&&◌, List, [], ◌∷◌, length, map, take, All, Contains, IsSome, Some, None, slice_get}
+use Rattle.std.specs.Prelude.{◌≡◌, ◌↔◌, ◌⊎◌, ◌<◌, ◌≤◌, ◌+◌, ℕ, Bool, true, false, ◌&&◌, List, [], ◌∷◌, length, map, take, All, Contains, Some, slice_get}
 use Rattle.core_tuples.specs.Sets.{In}
 use Rattle.core_meaning.specs.Sequence.{LassoValue}
 use Rattle.core_renaming.specs.Composed.{exchanged}

@@ -1,5 +1,5 @@
 -- The pairs as they are reckoned: an index of the tuples by their atoms, partners in the upper bounds, and then state by state.
-use Rattle.std.specs.Prelude.{◌≡◌, ◌⊎◌, ◌<◌, ◌≤◌, ◌+◌, ◌*◌, ◌-◌, ℕ, zero, suc, Bool, true, false, not, ◌&&◌, if◌then◌else◌, eqb, nat_lt, List, [], ◌∷◌, ◌++◌, length, map, take, filter, get_or, set, All, Contains, Option, Some, None, slice_get}
+use Rattle.std.specs.Prelude.{◌≡◌, ◌⊎◌, ◌<◌, ◌+◌, ℕ, zero, suc, Bool, true, not, if◌then◌else◌, eqb, nat_lt, List, [], ◌∷◌, ◌++◌, length, map, filter, get_or, set, All, Contains, Option, Some, None, slice_get}
 use Rattle.std.specs.List.{list_any}
 use Rattle.core_tuples.specs.Sets.{In, is_same}
 use Rattle.core_renaming.specs.Composed.{exchanged}

@@ -1,7 +1,7 @@
 //! The pairs of all neighbours: of each two atoms that follow one another, and that the upper bounds
 //! don't tell apart.
 
-ghost use Rattle.std.specs.Prelude.{◌≡◌, ◌↔◌, ◌<◌, ◌^◌, ◌+◌, ℕ, All, length, IfOk, OnOk, IsTrue};
+ghost use Rattle.std.specs.Prelude.{◌≡◌, ◌↔◌, ◌<◌, ◌^◌, ◌+◌, [], ℕ, All, length, get_or, IfOk, OnOk, IsTrue};
 ghost use Rattle.bound_uppers.specs.Candidates.{HasSets};
 ghost use Rattle.bound_uppers.specs.Table.{IsTable, IsLayout};
 ghost use Rattle.bound_naming.specs.Naming.{ArePairs, AreAllPairs};
@@ -32,18 +32,21 @@ fn next_pairs(
     rows_rise();
     let relations = bounds.relations.as_slice();
     let states = bounds.states;
-    let pairs = pairs_of(alloc, relations, table, lists, atom, atom + 1, states, NAMED_PAIRS)?;
+    let pairs = pairs_of(
+        alloc,
+        relations,
+        table,
+        lists,
+        atom,
+        atom + 1,
+        states,
+        NAMED_PAIRS,
+    )?;
     Ok(pairs)
 }
 
 /// Whether the exchange of two atoms carries a tuple of an upper bound into that bound.
-fn stays(
-    alloc: Global,
-    relations: &[Bound],
-    a: u32,
-    b: u32,
-    spot: Spot,
-) -> Result<bool, AllocError>
+fn stays(alloc: Global, relations: &[Bound], a: u32, b: u32, spot: Spot) -> Result<bool, AllocError>
     ensures { IfOk result (λ r. IsTrue r ↔ Stays relations.now a b spot) }
 {
     if spot.relation >= relations.len() {
@@ -76,6 +79,14 @@ fn all_stay(
     Ok(true)
 }
 
+/// The tuples that have an atom.
+fn spots_of(lists: &[SpotList], atom: u32) -> &[Spot]
+    requires { atom < length lists.now }
+    ensures { result.now ≡ get_or lists.now atom [] }
+{
+    lists[atom as usize].as_slice()
+}
+
 /// Whether the exchange of an atom and the next one carries into their bounds the tuples that have one
 /// of the two. A number that isn't an atom with a next one is answered as if memory were wanting.
 fn are_alike(
@@ -92,11 +103,11 @@ fn are_alike(
     if next as usize >= lists.len() {
         return Err(AllocError);
     }
-    let is_first = all_stay(alloc, relations, atom, next, lists[atom as usize].as_slice())?;
+    let is_first = all_stay(alloc, relations, atom, next, spots_of(lists, atom))?;
     if !is_first {
         return Ok(false);
     }
-    let is_second = all_stay(alloc, relations, atom, next, lists[next as usize].as_slice())?;
+    let is_second = all_stay(alloc, relations, atom, next, spots_of(lists, next))?;
     Ok(is_second)
 }
 

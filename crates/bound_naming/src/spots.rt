@@ -94,11 +94,7 @@ fn add_tuple(lists: &mut Vec<SpotList>, numbers: &[u32], spot: Spot) -> Result<(
 
 /// Adds the tuples of a relation.
 #[tactic(auto, using(crate::proofs::Indexing::bound_none, crate::proofs::Indexing::bound_all))]
-fn add_bound(
-    lists: &mut Vec<SpotList>,
-    bound: &Bound,
-    relation: usize,
-) -> Result<(), AllocError>
+fn add_bound(lists: &mut Vec<SpotList>, bound: &Bound, relation: usize) -> Result<(), AllocError>
     ensures { OnOk result (Grow lists.old.items lists.new.items (λ a.
         spots_in a bound.now.order relation 0 bound.now.upper.tuples)) }
 {
