@@ -1,4 +1,5 @@
 mod ClausesLaw
+mod FirstLaw
 mod NamedLaw
 mod NoneLaw
 mod SayLaw

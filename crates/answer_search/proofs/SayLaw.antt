@@ -1,10 +1,9 @@
 -- The clauses of a circuit that encodes a target say what the target asks.
-use Rattle.std.proofs.Common.{◌≡◌, ◌↔◌, ℕ, zero, suc, ◌+◌, ◌<◌, ◌≤◌, ℤ, Bool, true, List, [], ◌∷◌, length, get_or, All, IsTrue, Some, slice_get, refl, sym, ap, ◌∙◌, subst, arith}
+use Rattle.std.proofs.Common.{◌≡◌, ◌↔◌, ℕ, zero, suc, ◌+◌, ◌<◌, ℤ, Bool, true, List, [], ◌∷◌, length, get_or, All, Some, slice_get, refl, sym, ◌∙◌, subst, arith}
 use Rattle.std.proofs.lemmas.Option.{slice_get-get_or, slice_get_within}
 use Rattle.gate_trait.specs.declared.node.Node.{Node}
 use Rattle.gate_trait.specs.declared.gate.Gate.{Gate}
 use Rattle.gate_trait.specs.Circuit.{value_in}
-use Rattle.core_tree.specs.declared.tree.Formula.{Formula}
 use Rattle.core_meaning.specs.declared.target.Target.{Target}
 use Rattle.core_meaning.specs.Sequence.{LassoValue}
 use Rattle.core_meaning.specs.Kept.{atom_count}

@@ -1,5 +1,5 @@
 -- What the clauses of a target say of lassos.
-use Rattle.std.specs.Prelude.{◌≡◌, ◌≤◌, ℕ, ℤ, Bool, List, All}
+use Rattle.std.specs.Prelude.{◌≤◌, ℕ, ℤ, Bool, List, All}
 use Rattle.core_tree.specs.declared.tree.Formula.{Formula}
 use Rattle.core_tree.specs.Trees.{claim_of}
 use Rattle.core_tree.specs.Past.{no_depths, past_of}
