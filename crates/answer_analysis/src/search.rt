@@ -20,7 +20,8 @@ use syntax_tree::Loaded;
 /// of that number.
 ///
 /// Where there is none of as many states as the command's scopes have, the answer has clauses that just such lassos
-/// satisfy, and lines that refute them. Only under a budget the search may end before it knows. Refused as
+/// satisfy, of these the canonical ones, and lines that refute them. Only under a budget the search may end before it
+/// knows. Refused as
 /// [`prepare_loaded`](crate::prepare_loaded()) is.
 pub fn analyse_loaded(
     alloc: Global,

@@ -1,6 +1,6 @@
 -- What clauses that are written say of the nodes of a circuit.
-use Rattle.std.proofs.Common.{◌≡◌, ℕ, zero, suc, ◌<◌, ◌≤◌, ℤ, Bool, true, false, ◌&&◌, ◌||◌, List, [], ◌∷◌, ◌++◌, map, length, get_or, All, IsTrue, Some, slice_get, refl, sym, ap, ◌∙◌, subst, arith}
-use Rattle.std.specs.List.{list_any, list_all}
+use Rattle.std.proofs.Common.{◌≡◌, ℕ, zero, suc, ℤ, Bool, true, ◌&&◌, List, [], ◌∷◌, ◌++◌, map, get_or, All, Some, slice_get, refl, sym, ap, ◌∙◌, subst, arith}
+use Rattle.std.specs.List.{list_all}
 use Rattle.std.proofs.Math.Bool.{or-false}
 use Rattle.std.proofs.lemmas.Bool.{and_parts, and_from}
 use Rattle.std.proofs.lemmas.List.Folds.{list_all-append, list_all-map}
@@ -9,7 +9,7 @@ use Rattle.std.proofs.lemmas.Option.{slice_get-get_or}
 use Rattle.gate_trait.specs.declared.node.Node.{Node}
 use Rattle.gate_trait.specs.declared.gate.Gate.{Gate}
 use Rattle.gate_trait.specs.declared.gate.Gate.TheVariants.{Constant, Input, And, Or, Xor, Choose}
-use Rattle.gate_trait.specs.Circuit.{value_among, gate_value, values_after, values, value_in}
+use Rattle.gate_trait.specs.Circuit.{value_among, gate_value, values_after, value_in}
 use Rattle.sat_dimacs.specs.Literal.{literal_value, clause_value, Satisfies}
 use Rattle.gate_tseitin.specs.Named.{satisfied, input_count}
 use Rattle.gate_tseitin.specs.Written.{Agree, AreNumbered, IsWritten}

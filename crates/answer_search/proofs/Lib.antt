@@ -1,3 +1,5 @@
 mod ClausesLaw
+mod FirstLaw
+mod NamedLaw
 mod NoneLaw
 mod SayLaw

@@ -1,20 +1,28 @@
 -- The clauses of a circuit that encodes a target say what the target asks.
-use Rattle.std.proofs.Common.{◌≡◌, ℕ, zero, suc, ◌+◌, ◌<◌, ◌≤◌, ℤ, Bool, true, List, [], ◌∷◌, length, get_or, All, IsTrue, Some, slice_get, refl, sym, ap, ◌∙◌, subst, arith}
+use Rattle.std.proofs.Common.{◌≡◌, ◌↔◌, ℕ, zero, suc, ◌+◌, ◌<◌, ℤ, Bool, true, List, [], ◌∷◌, length, get_or, All, Some, slice_get, refl, sym, ◌∙◌, subst, arith}
 use Rattle.std.proofs.lemmas.Option.{slice_get-get_or, slice_get_within}
 use Rattle.gate_trait.specs.declared.node.Node.{Node}
 use Rattle.gate_trait.specs.declared.gate.Gate.{Gate}
 use Rattle.gate_trait.specs.Circuit.{value_in}
-use Rattle.core_tree.specs.declared.tree.Formula.{Formula}
 use Rattle.core_meaning.specs.declared.target.Target.{Target}
 use Rattle.core_meaning.specs.Sequence.{LassoValue}
+use Rattle.core_meaning.specs.Kept.{atom_count}
 use Rattle.sat_dimacs.specs.Literal.{Satisfies}
 use Rattle.gate_tseitin.specs.Written.{AreNumbered, IsWritten}
 use Rattle.bound_uppers.specs.declared.places.Layout.{Layout}
 use Rattle.bound_uppers.specs.declared.table.Bounds.{Bounds}
+use Rattle.bound_uppers.specs.Table.{IsTable}
+use Rattle.bound_uppers.specs.Candidates.{HasSets}
+use Rattle.bound_naming.specs.declared.neighbours.TheConstants.{NAMED_PAIRS}
+use Rattle.bound_naming.specs.declared.pairs.Pair.{Pair}
+use Rattle.bound_naming.specs.Naming.{favours_all, AreAllPairs, IsCanonical}
+use Rattle.bound_naming.specs.Decided.{NamingIsDecided}
 use Rattle.bmc_leaves.specs.Table.{Decodes}
 use Rattle.bmc_encoder.specs.Encodes.{IsEncoded}
+use Rattle.answer_search.specs.Circuit.{IsCircuit}
 use Rattle.answer_search.specs.Clauses.{IsCovered, HoldsFirst, Meets, MeetsCovered, SayTarget}
 use Rattle.answer_search.proofs.ClausesLaw.{clauses_tell, clauses_told}
+use Rattle.answer_search.proofs.NamedLaw.{decoded_tells}
 
 -- an item at a place below the length
 there : {X : Type 0} (xs : List X) (k : ℕ) → k < length xs → (x : X) × (slice_get xs k ≡ Some x)
@@ -28,20 +36,55 @@ of_all P [] k x all e = cc
 of_all P (y ∷ xs) zero x all e = let is : y ≡ x = cc in subst P is (all zero y (omega arith))
 of_all P (y ∷ xs) (suc k) x all e = of_all P xs k x (λ j d lt. all (suc j) d (omega arith)) e
 
-module _ (target : Target) (bounds : Bounds) (table : Layout) (gates : List Gate) (sure : Node) (roots : List Node) (n : ℕ) (clauses : List (List ℤ)) (w : IsWritten gates sure roots n clauses) (numbered : AreNumbered gates) (count : length roots ≡ length target.formulas + 1) (encoded : IsEncoded bounds target.scopes target.formulas table (value_in gates) sure roots) where
-  sound : (v : ℕ → Bool) → Satisfies v clauses → (lasso : LassoValue) × Decodes bounds table v lasso × MeetsCovered target lasso
+-- The clauses are those of a circuit of the target.
+module _ (target : Target) (bounds : Bounds) (gates : List Gate) (sure : Node) (all_roots : List Node) (n : ℕ) (clauses : List (List ℤ)) (written : IsWritten gates sure all_roots n clauses) (numbered : AreNumbered gates) (circuit : IsCircuit target bounds (value_in gates) sure all_roots) (sets : HasSets bounds) (decided : NamingIsDecided) where
+  abbrev all : List (List Pair)
+  all = circuit.all
+
+  abbrev table : Layout
+  table = circuit.table
+
+  abbrev name : Node
+  name = circuit.name
+
+  abbrev roots : List Node
+  roots = circuit.rest
+
+  w : IsWritten gates sure (name ∷ roots) n clauses
+  w = subst (λ (nodes : List Node). IsWritten gates sure nodes n clauses) circuit.roots_are written
+
+  count : length roots ≡ length target.formulas + 1
+  count = circuit.count
+
+  encoded : IsEncoded bounds target.scopes target.formulas table (value_in gates) sure roots
+  encoded = circuit.encoded
+
+  named : (x : ℕ → Bool) → value_in gates x name ≡ favours_all x all
+  named = circuit.named
+
+  paired : IsTable bounds → AreAllPairs bounds (atom_count target.scopes.numbers) NAMED_PAIRS all
+  paired = circuit.paired
+
+  -- the naming's node is true just where the lasso is canonical
+  canonical : (v : ℕ → Bool) (lasso : LassoValue) → IsTable bounds → Decodes bounds table v lasso → (value_in gates v name ≡ true) ↔ IsCanonical bounds all lasso
+  canonical v lasso is decodes =
+      let both = decided bounds (atom_count target.scopes.numbers) NAMED_PAIRS all v lasso (paired is) (decoded_tells bounds table (encoded.laid is) sets v lasso decodes) in
+      (λ on. both.0 (sym (named v) ∙ on), λ names. named v ∙ both.1 names)
+
+  sound : (v : ℕ → Bool) → Satisfies v clauses → (lasso : LassoValue) × Decodes bounds table v lasso × MeetsCovered target lasso × (IsTable bounds → IsCanonical bounds all lasso)
   sound v s =
-      let (surely, each) = clauses_tell gates sure roots n clauses w v s in
+      let (surely, each) = clauses_tell gates sure (name ∷ roots) n clauses w v s in
       let (lasso, decodes) = (encoded.lassos v).0 surely in
       let (first, at_first) = there roots zero (omega (arith, count)) in (
         lasso,
         decodes,
         (
-          (encoded.numbers first at_first v lasso decodes).0 (each zero first at_first),
+          (encoded.numbers first at_first v lasso decodes).0 (each (suc zero) first at_first),
           λ k d lt covered.
               let (node, at_node) = there roots (k + 1) (omega (arith, count, lt)) in
-              (encoded.holds k (get_or target.formulas k d) node (slice_get-get_or target.formulas k d lt) at_node covered.0 covered.1 v lasso decodes).0 (each (k + 1) node at_node),
+              (encoded.holds k (get_or target.formulas k d) node (slice_get-get_or target.formulas k d lt) at_node covered.0 covered.1 v lasso decodes).0 (each (suc (k + 1)) node at_node),
         ),
+        λ is. (canonical v lasso is decodes).0 (each zero name refl),
       )
 
   root_holds : (x : ℕ → Bool) (lasso : LassoValue) → Decodes bounds table x lasso → All IsCovered target.formulas → Meets target lasso → (k : ℕ) (root : Node) → slice_get roots k ≡ Some root → value_in gates x root ≡ true
@@ -54,11 +97,19 @@ module _ (target : Target) (bounds : Bounds) (table : Layout) (gates : List Gate
       let (plain, deep) = of_all IsCovered target.formulas k f covered at_f in
       (encoded.holds k f root at_f at plain deep x lasso decodes).1 (of_all (HoldsFirst target.scopes lasso) target.formulas k f meets.1 at_f)
 
+  each_holds : (x : ℕ → Bool) (lasso : LassoValue) → IsTable bounds → Decodes bounds table x lasso → All IsCovered target.formulas → Meets target lasso → IsCanonical bounds all lasso → (k : ℕ) (root : Node) → slice_get (name ∷ roots) k ≡ Some root → value_in gates x root ≡ true
+  each_holds x lasso is decodes covered meets names zero root e =
+      let same : name ≡ root = cc in
+      subst (λ (m : Node). value_in gates x m ≡ true) same ((canonical x lasso is decodes).1 names)
+  each_holds x lasso is decodes covered meets names (suc k) root e = root_holds x lasso decodes covered meets k root e
+
   pub say_target : SayTarget target bounds clauses
   say_target = record {
     table = table;
+    all = all;
     laid = encoded.laid;
+    paired = paired;
     sound = sound;
-    complete = λ x lasso decodes covered meets.
-        clauses_told gates sure roots n clauses w numbered x ((encoded.lassos x).1 (lasso, decodes)) (root_holds x lasso decodes covered meets);
+    complete = λ x lasso is decodes covered meets names.
+        clauses_told gates sure (name ∷ roots) n clauses w numbered x ((encoded.lassos x).1 (lasso, decodes)) (each_holds x lasso is decodes covered meets names);
   }

@@ -1,12 +1,12 @@
 -- What the clauses of a target say of lassos.
-use Rattle.std.specs.Prelude.{◌≡◌, ◌≤◌, ℕ, ℤ, Bool, List, All}
+use Rattle.std.specs.Prelude.{◌≤◌, ℕ, ℤ, Bool, List, All}
 use Rattle.core_tree.specs.declared.tree.Formula.{Formula}
 use Rattle.core_tree.specs.Trees.{claim_of}
 use Rattle.core_tree.specs.Past.{no_depths, past_of}
 use Rattle.core_meaning.specs.declared.scopes.Scopes.{Scopes}
 use Rattle.core_meaning.specs.declared.target.Target.{Target}
 use Rattle.core_meaning.specs.Sequence.{LassoValue}
-use Rattle.core_meaning.specs.Kept.{KeepsNumbers, world_of}
+use Rattle.core_meaning.specs.Kept.{KeepsNumbers, atom_count, world_of}
 use Rattle.core_meaning.specs.Meaning.{no_names, Holds}
 use Rattle.core_meaning.specs.Called.{no_bodies}
 use Rattle.sat_dimacs.specs.Literal.{Satisfies}
@@ -14,6 +14,9 @@ use Rattle.bound_uppers.specs.declared.places.Layout.{Layout}
 use Rattle.bound_uppers.specs.declared.table.Bounds.{Bounds}
 use Rattle.bound_uppers.specs.Table.{IsTable, IsLayout}
 use Rattle.bound_uppers.specs.Candidates.{IsCandidate}
+use Rattle.bound_naming.specs.declared.neighbours.TheConstants.{NAMED_PAIRS}
+use Rattle.bound_naming.specs.declared.pairs.Pair.{Pair}
+use Rattle.bound_naming.specs.Naming.{AreAllPairs, IsCanonical}
 use Rattle.bmc_leaves.specs.Shown.{none_nested}
 use Rattle.bmc_leaves.specs.Table.{Decodes}
 use Rattle.bmc_translate.specs.Forms.{IsPlain}
@@ -36,14 +39,20 @@ Meets target lasso = KeepsNumbers target.scopes lasso × All (HoldsFirst target.
 abbrev pub MeetsCovered : Target → LassoValue → Type 0
 MeetsCovered target lasso = KeepsNumbers target.scopes lasso × All (λ f. IsCovered f → HoldsFirst target.scopes lasso f) target.formulas
 
--- The clauses over a table of variables: an assignment that satisfies them stands for a lasso that keeps the numbers of the scopes
--- and at whose first position each covered formula holds; and where all formulas are covered and some lasso for which values of the
--- table stand meets the target, some assignment satisfies them.
+-- Of the lassos that differ only in what atoms are called the clauses keep a canonical one. These are its pairs: for each two atoms
+-- that the bounds don't tell apart, of the variables that their exchange pairs the first so many.
+--
+-- The clauses over a table of variables: an assignment that satisfies them stands for a lasso that keeps the numbers of the scopes,
+-- at whose first position each covered formula holds, and that is canonical, where the bounds have a table; and where they have one,
+-- all formulas are covered, and some canonical lasso for which values of the table stand meets the target, some assignment satisfies
+-- them.
 pub record SayTarget (target : Target) (bounds : Bounds) (clauses : List (List ℤ)) : Type 0 where
   pub table : Layout
+  pub all : List (List Pair)
   pub laid : IsTable bounds → IsLayout bounds table
-  pub sound : (v : ℕ → Bool) → Satisfies v clauses → (lasso : LassoValue) × Decodes bounds table v lasso × MeetsCovered target lasso
-  pub complete : (x : ℕ → Bool) (lasso : LassoValue) → Decodes bounds table x lasso → All IsCovered target.formulas → Meets target lasso → (v : ℕ → Bool) × Satisfies v clauses
+  pub paired : IsTable bounds → AreAllPairs bounds (atom_count target.scopes.numbers) NAMED_PAIRS all
+  pub sound : (v : ℕ → Bool) → Satisfies v clauses → (lasso : LassoValue) × Decodes bounds table v lasso × MeetsCovered target lasso × (IsTable bounds → IsCanonical bounds all lasso)
+  pub complete : (x : ℕ → Bool) (lasso : LassoValue) → IsTable bounds → Decodes bounds table x lasso → All IsCovered target.formulas → Meets target lasso → IsCanonical bounds all lasso → (v : ℕ → Bool) × Satisfies v clauses
 
 -- no lasso within the bounds, of as many states as they have, meets the target, where its formulas are covered
 abbrev pub IsRuledOut : Target → Bounds → Type 0

@@ -1,13 +1,15 @@
-//! From a target to clauses that just its lassos satisfy, and the search of these clauses.
+//! From a target to clauses that just its lassos satisfy, of these the canonical ones, and the search of these clauses.
 #![tactic(auto)]
 
+mod circuit;
 mod found;
 mod limits;
 mod search;
 mod written;
 
+pub use circuit::{circuit_of, table_store};
 pub use found::Found;
 pub use limits::limits_of;
 pub use sat_lrat::Proof;
 pub use search::{search_lasso, search_target};
-pub use written::{clauses_of, table_store};
+pub use written::clauses_of;

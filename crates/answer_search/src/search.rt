@@ -8,6 +8,8 @@ use crate::found::Found;
 use crate::written::clauses_of;
 use base_types::Assignment;
 use bmc_laws::candidates_are_told;
+use bound_laws::candidates_have_canonical;
+use bound_naming::have_sets;
 use bound_uppers::{Bounds, decode, shortest};
 use core_meaning::{Lasso, Target};
 use sat_decide::Chooser;
@@ -20,7 +22,7 @@ use std::alloc::{AllocError, Global};
 /// memory.
 ///
 /// Where the lines refute the clauses, no lasso within the bounds of so many states meets the target, if all its formulas have
-/// only the plain forms.
+/// only the plain forms. The clauses ask for a canonical lasso; where there is any, there is one.
 pub fn search_lasso<C: Chooser>(
     alloc: Global,
     target: &Target,
@@ -42,6 +44,8 @@ pub fn search_lasso<C: Chooser>(
         Outcome::Refutation(lines) => {
             refutation_is_sound();
             candidates_are_told();
+            candidates_have_canonical();
+            have_sets(bounds);
             let rest = trim(alloc, &cnf, lines)?;
             Ok(Found::Refuted(Proof {
                 states,

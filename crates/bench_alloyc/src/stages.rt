@@ -6,10 +6,9 @@
 //! refused with 3.
 
 use answer_analysis::prepare_loaded;
-use answer_search::table_store;
+use answer_search::{circuit_of, table_store};
 use anyhow::Result;
 use base_host::FolderLibrary;
-use bmc_encoder::encode;
 use bound_uppers::{Bounds, layout};
 use core_meaning::Target;
 use gate_tseitin::{are_numbered, write_clauses};
@@ -62,12 +61,12 @@ fn run_stages(
     let prepared = millis(rt)?;
     let table = layout(alloc, bounds)?;
     let mut store = table_store(alloc, table.variables)?;
-    let encoded = encode(alloc, target, bounds, &mut store)?;
+    let circuit = circuit_of(alloc, target, bounds, &mut store)?;
     let built = millis(rt)?;
     if !are_numbered(&store) {
         return Ok(None);
     }
-    let cnf = write_clauses(alloc, &store, encoded.sure, &encoded.roots)?;
+    let cnf = write_clauses(alloc, &store, circuit.sure, &circuit.roots)?;
     let written = millis(rt)?;
     let (answer, lemmas) = searched(alloc, &cnf)?;
     let ended = millis(rt)?;

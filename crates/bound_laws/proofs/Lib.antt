@@ -6,3 +6,10 @@ mod Keeping
 mod Renaming
 mod Owning
 mod Candidates
+mod Decided
+mod Digits
+mod Favouring
+mod Holding
+mod Exchanging
+mod Exchanged
+mod Climbing

@@ -1,2 +1,3 @@
 pub mod Satisfying
 pub mod Owning
+pub mod Canonical

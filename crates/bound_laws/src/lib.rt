@@ -1,9 +1,10 @@
-//! A law: each lasso that satisfies a model and a command has a renaming among those of the search.
+//! Laws: each lasso that satisfies a model and a command has a renaming among those of the search,
+//! and of these a canonical one is enough.
 #![tactic(auto)]
 
 ghost use Rattle.bound_laws.specs.Satisfying.{SatisfyingAreCandidates};
 
-use bound_uppers::lassos_unroll;
+use bound_uppers::{lassos_unroll, rows_rise};
 use core_laws::{relations_have_rows, same_sequences_satisfy_the_same};
 use core_renaming::{lassos_have_renamed, renaming_keeps_models};
 
@@ -16,5 +17,15 @@ pub fn satisfying_lassos_are_candidates()
     same_sequences_satisfy_the_same();
     relations_have_rows();
     lassos_have_renamed();
+    renaming_keeps_models();
+}
+
+ghost use Rattle.bound_laws.specs.Canonical.{CandidatesHaveCanonical};
+
+/// A law: where a candidate satisfies a target, a canonical candidate does so too.
+pub fn candidates_have_canonical()
+    ensures { CandidatesHaveCanonical }
+{
+    rows_rise();
     renaming_keeps_models();
 }

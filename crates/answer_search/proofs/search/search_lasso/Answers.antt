@@ -30,4 +30,4 @@ returns-in_ok-rest-in-Refutation-clause-found g c =
 pub returns-in_ok-rest-in-Refutation-clause-none : goal.returns-in_ok-rest-in-Refutation-clause-none
 returns-in_ok-rest-in-Refutation-clause-none g c =
     let refutes = subst (IsAnswer c.in_ok-cnf.cnf.variables c.in_ok-cnf.cnf.clauses c.args.budget) c.in-Refutation.is c.in_ok-assignment.ensures.answer in
-    ruled_out c.args.target.now c.args.bounds.now c.in_ok-cnf.cnf.clauses c.in-Refutation.lines c.refutation_is_sound.ensures c.candidates_are_told.ensures c.in_ok-cnf.ensures refutes
+    ruled_out c.args.target.now c.args.bounds.now c.in_ok-cnf.cnf.clauses c.in-Refutation.lines c.refutation_is_sound.ensures c.candidates_are_told.ensures c.candidates_have_canonical.ensures c.have_sets.ensures c.in_ok-cnf.ensures refutes
