@@ -20,7 +20,8 @@ pub fn tokens_are_the_one_division()
         tokens_of text z ≡ Ok tokens →
         (lengths : List ℕ) × IsDivided (start_of text) z lengths tokens }
     ensures is_one { (text : ℕ) (z : List ℕ) (ns ms : List ℕ) (tokens others : List Token) →
-        IsDivided (start_of text) z ns tokens → IsDivided (start_of text) z ms others → (ns ≡ ms) × (tokens ≡ others) }
+        IsDivided (start_of text) z ns tokens →
+        IsDivided (start_of text) z ms others → (ns ≡ ms) × (tokens ≡ others) }
     ensures refused { (text : ℕ) (z : List ℕ) (refusal : Refusal) (ns : List ℕ)
         (tokens : List Token) →
         tokens_of text z ≡ Err refusal → IsDivided (start_of text) z ns tokens → ⊥ }

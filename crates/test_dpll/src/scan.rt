@@ -52,7 +52,9 @@ fn with_literal(path: &Path, found: Status, literal: &i64) -> Option<Status>
     requires kind { found ≢ Status.True }
     ensures is_true { IfNone result (is_true_literal path.now literal.now ≡ true) }
     ensures rest { (rest : Rest) → IfSome result (λ next. together (rest_from next) rest
-        ≡ together (rest_from found) (if among (denial_of (steps_of path.now)) literal.now then rest else beside literal.now rest)) }
+        ≡ together (rest_from found)
+        (if among (denial_of (steps_of path.now)) literal.now then rest
+        else beside literal.now rest)) }
     ensures free { IfFree path.now found → IfSome result (IfFree path.now) }
     ensures kind { IfSome result (λ next. next ≢ Status.True) }
 {
