@@ -93,7 +93,7 @@ def stages(program, folder, name, number, limit):
     """Returns the numbers of gates and lemmas, and the milliseconds of each stage."""
     figures = []
     for kind in ("sizes", "times"):
-        status, text, _, _ = run([program, kind, name, number], limit, folder)
+        status, text, _, _ = run([program, "stages", kind, name, number], limit, folder)
         words = text.decode().split() if status == 0 else []
         figures.append(dict(zip(words[::2], words[1::2])))
     sizes, times = figures
