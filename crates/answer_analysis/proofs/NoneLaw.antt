@@ -1,9 +1,8 @@
 -- What is ruled out of a model that was made ready.
-use Rattle.std.proofs.Common.{◌≡◌, ◌∙◌, ℕ, true, List, [], ◌∷◌, ◌++◌, map, length, All, Option, Some, slice_get, refl, sym, ap, subst, arith, length-append}
+use Rattle.std.proofs.Common.{◌≡◌, ◌∙◌, ℕ, true, List, [], ◌∷◌, ◌++◌, map, length, Option, Some, slice_get, refl, sym, ap, subst, arith, length-append}
 use Rattle.std.specs.Prelude.{IfSome}
 use Rattle.std.proofs.lemmas.Bool.{false≢true}
 use Rattle.std.proofs.lemmas.List.{length-map, map-append}
-use Rattle.core_tree.specs.declared.model.Fact.{Fact}
 use Rattle.core_tree.specs.declared.model.Model.{Model}
 use Rattle.core_tree.specs.declared.model.Sig.{Sig}
 use Rattle.core_tree.specs.declared.model.SigKind.{SigKind}
@@ -25,7 +24,6 @@ use Rattle.bound_uppers.specs.declared.table.Bounds.{Bounds}
 use Rattle.bound_uppers.specs.Table.{IsTable}
 use Rattle.bound_uppers.specs.Uppers.{AreUppers}
 use Rattle.answer_search.specs.Clauses.{Meets, IsRuledOut}
-use Rattle.answer_search.specs.Limits.{IsRuledOutOver}
 use Rattle.answer_analysis.specs.declared.ready.Prepared.{Prepared}
 use Rattle.answer_analysis.specs.Found.{IsReady, IsTraceOf, IsUsual, NoneWithin, NoneSatisfies, RuledOutMeansNone}
 

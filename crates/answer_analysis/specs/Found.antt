@@ -53,9 +53,9 @@ pub record IsTraceOf (prepared : Prepared) (lasso : LassoValue) : Type 0 where
   pub parts_are : prepared.parts ≡ facts ++ command ∷ []
   pub satisfies : Satisfies prepared.model prepared.scopes lasso (claim_of command.formula)
 
--- What no clause says yet of a model that was made ready: that the types of its fields are those of their declarations, that no sig
--- extends an `in` sig, and that the bounds of fields name fields of sigs alone; and each field belongs to a sig, none stands for a
--- relation parameter.
+-- What no clause says yet of a model that was made ready: that the types of its fields are those of their declarations, that no
+-- sig extends an `in` sig, and that the bounds of fields name fields of sigs alone; and each field belongs to a sig, none stands
+-- for a relation parameter.
 pub record IsUsual (model : Model) : Type 0 where
   pub kept : IsModel model
   pub plain : ExtendsPlain model.sigs
@@ -78,11 +78,11 @@ pub record NoneSatisfies (prepared : Prepared) : Type 0 where
   -- and none at all of at most as many states as the scopes say
   pub lassos : NoneWithin prepared prepared.scopes.states
 
--- A trace satisfies the model and the command, and has the fewest states that show its sequence. Where there is no lasso, the lines
--- refute the clauses, and where all formulas that are searched have plain forms no lasso satisfies the model and the command, as
--- `NoneSatisfies` says. Only a budget that is spent leaves it open: there are just as many lemmas, each new and none empty, and one
--- more would pass; and it is below 3 to the power of the number of variables. The clauses say what the target does, as `SayTarget`
--- tells.
+-- A trace satisfies the model and the command, and has the fewest states that show its sequence. Where there is no lasso, the
+-- lines refute the clauses, and where all formulas that are searched have plain forms no lasso satisfies the model and the
+-- command, as `NoneSatisfies` says. Only a budget that is spent leaves it open: there are just as many lemmas, each new and none
+-- empty, and one more would pass; and it is below 3 to the power of the number of variables. The clauses say what the target
+-- does, as `SayTarget` tells.
 abbrev pub IsFoundIn : Prepared → Option ℕ → Answer → Type 0
 IsFoundIn prepared budget (Trace labels lasso) = (labels ≡ prepared.labels) × IsTraceOf prepared lasso × (length lasso.states ≤ prepared.bounds.states) × HasFewestStates lasso
 IsFoundIn prepared budget (Refuted table states cnf lines) = (states ≡ prepared.bounds.states) × Refutes cnf.clauses lines × ((number : ℕ) → IsReady number prepared → NoneSatisfies prepared) × SayTarget prepared.target prepared.bounds cnf.clauses

@@ -42,8 +42,8 @@ pub record ShowsOne (prepared : Prepared) (part : Part) (text : List ℕ) : Type
   pub one : length lasso.states ≡ 1
   pub text_is : text ≡ trace_part part (trace_text prepared.labels lasso)
 
--- the part that is asked for of a trace of several states, of clauses over one state less, which say what the target does, and of lines
--- that refute them, where no lasso of fewer states satisfies the model and its command, as `NoneWithin` says it
+-- the part that is asked for of a trace of several states, of clauses over one state less, which say what the target does, and of
+-- lines that refute them, where no lasso of fewer states satisfies the model and its command, as `NoneWithin` says it
 pub record ShowsAbove (prepared : Prepared) (part : Part) (text : List ℕ) : Type 0 where
   pub lasso : LassoValue
   pub trace : IsTraceOf prepared lasso
@@ -77,8 +77,8 @@ pub record ShowsFacts (cnf : Cnf) (states : ℕ) (part : Part) (facts : List Fac
   pub text_is : text ≡ core_part part states facts table cnf lines
 
 -- the part that is asked for of facts of a prepared model, each at most once and in order, none of them the last part, which is
--- the command; of clauses over as many states as the scopes say, which say what the model's target does with these facts alone; and
--- of lines that refute them, so that no lasso satisfies the declarations, these facts and the command, as `NoneKeeps` says it
+-- the command; of clauses over as many states as the scopes say, which say what the model's target does with these facts alone;
+-- and of lines that refute them, so that no lasso satisfies the declarations, these facts and the command, as `NoneKeeps` says it
 pub record ShowsCore (prepared : Prepared) (part : Part) (text : List ℕ) : Type 0 where
   pub kept : List ℕ
   pub names : List FactName
@@ -92,8 +92,8 @@ pub record ShowsCore (prepared : Prepared) (part : Part) (text : List ℕ) : Typ
   pub scoped : (number : ℕ) → IsReady number prepared → states ≡ prepared.scopes.states
   pub shows : ShowsFacts cnf states part names text
 
--- these clauses, and just as many lemmas as the budget has, each new and none empty, behind which one more would pass; the budget is
--- below 3 to the power of the number of variables
+-- these clauses, and just as many lemmas as the budget has, each new and none empty, behind which one more would pass; the budget
+-- is below 3 to the power of the number of variables
 pub record IsSpentText (cnf : Cnf) (budget : Option ℕ) (text : List ℕ) : Type 0 where
   pub table : List (List ℕ)
   pub lines : List Line
@@ -108,8 +108,8 @@ pub record ShowsSpent (Says : Cnf → Type 0) (budget : Option ℕ) (text : List
   pub says : Says cnf
   pub shows : IsSpentText cnf budget text
 
--- what clauses say in each search in a prepared model: what its target does, over as many states as its bounds have; over some number
--- of states, below which there is nothing; or with some of its facts alone
+-- what clauses say in each search in a prepared model: what its target does, over as many states as its bounds have; over some
+-- number of states, below which there is nothing; or with some of its facts alone
 abbrev pub SayAll : Prepared → Cnf → Type 0
 SayAll prepared cnf = SayTarget prepared.target prepared.bounds cnf.clauses
 
@@ -128,8 +128,8 @@ SayOverSome prepared cnf =
 abbrev pub SayOfSome : Prepared → Cnf → Type 0
 SayOfSome prepared cnf = SayPart prepared.model prepared.target prepared.first_fact cnf.clauses
 
--- the answer of a search for a trace of the fewest states of a prepared model. Where there is no trace, no lasso of at most as many
--- states as the scopes satisfies the model and its command, as `NoneWithin` says it
+-- the answer of a search for a trace of the fewest states of a prepared model. Where there is no trace, no lasso of at most as
+-- many states as the scopes satisfies the model and its command, as `NoneWithin` says it
 abbrev pub IsLeastText : Prepared → Part → Option ℕ → Certificate → Type 0
 IsLeastText prepared part budget (Trace text) = ShowsOne prepared part text ⊎ ShowsAbove prepared part text
 IsLeastText prepared part budget (Refuted text) = (states : ℕ) × ShowsNone (SayOverStates prepared states) states part text × ((number : ℕ) → IsReady number prepared → (states ≡ prepared.scopes.states) × NoneWithin prepared states)

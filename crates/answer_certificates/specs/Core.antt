@@ -20,8 +20,9 @@ use Rattle.answer_certificates.specs.Parts.{AreSaidFor, AreRefutedFor, AreLeftOu
 abbrev pub AreKept : ℕ → List ℕ → Type 0
 AreKept facts kept = IsStrictlyIncreasing kept × All (λ fact. fact < facts) kept
 
--- Under the target's scopes: a lasso of at most so many states, the fewest that show its sequence; or facts by their numbers, with lines that refute clauses over so
--- many, which say what the target does with these facts alone; or a budget that is spent on clauses that say it with some of them.
+-- Under the target's scopes: a lasso of at most so many states, the fewest that show its sequence; or facts by their numbers,
+-- with lines that refute clauses over so many, which say what the target does with these facts alone; or a budget that is spent
+-- on clauses that say it with some of them.
 abbrev pub IsCore : Model → Target → ℕ → ℕ → Option ℕ → Core → Type 0
 IsCore model target first facts budget (Trace lasso) = (length lasso.states ≤ target.scopes.states) × HasFewestStates lasso
 IsCore model target first facts budget (Refuted kept proof) = AreKept facts kept × IsRefuted target.scopes.states proof × RuleOut model target first facts kept proof.cnf.clauses

@@ -17,8 +17,8 @@ pub record SayOver (model : Model) (target : Target) (states : ℕ) (clauses : L
   pub count : bounds.states ≡ states
   pub says : SayTarget target bounds clauses
 
--- what stands below so many states: nothing below the first, and then lines that refute clauses over one state less, which say what the
--- target does, and which no lasso within the bounds meets
+-- what stands below so many states: nothing below the first, and then lines that refute clauses over one state less, which say
+-- what the target does, and which no lasso within the bounds meets
 abbrev pub IsBelow : Model → Target → ℕ → Option Proof → Type 0
 IsBelow model target states None = states ≡ 1
 IsBelow model target states (Some proof) = (0 < proof.states) × (states ≡ proof.states + 1) × IsRefuted proof.states proof × IsRuledOutOver model target proof.states × SayOver model target proof.states proof.cnf.clauses

@@ -22,8 +22,8 @@ abbrev pub staying : (ℕ → Bool) → ℕ → List Formula → List Claim
 staying stay place [] = []
 staying stay place (f ∷ fs) = if stay place then claim_of f ∷ staying stay (place + 1) fs else staying stay (place + 1) fs
 
--- a target's formulas without those of the facts that are left out, under the same scopes. The formula of the first fact stands at
--- `first`
+-- a target's formulas without those of the facts that are left out, under the same scopes. The formula of the first fact stands
+-- at `first`
 pub record IsPartOf (target : Target) (first : ℕ) (dropped : List Bool) (part : Target) : Type 0 where
   pub scopes : part.scopes ≡ target.scopes
   pub formulas : map claim_of part.formulas ≡ staying (stays first dropped) 0 target.formulas
@@ -41,8 +41,8 @@ pub record AreRefutedFor (target : Target) (first : ℕ) (limits : Bounds) (drop
   pub says : SayTarget part limits clauses
   pub ruled : IsRuledOut part limits
 
--- clauses say what a target does without the formulas of some facts, within the bounds of the model, over as many states as the scopes
--- say
+-- clauses say what a target does without the formulas of some facts, within the bounds of the model, over as many states as the
+-- scopes say
 pub record SayPart (model : Model) (target : Target) (first : ℕ) (clauses : List (List ℤ)) : Type 0 where
   pub dropped : List Bool
   pub limits : Bounds
@@ -55,8 +55,8 @@ pub record AreLeftOut (facts : ℕ) (kept : List ℕ) (dropped : List Bool) : Ty
   pub count : length dropped ≡ facts
   pub each : (fact : ℕ) → fact < facts → (Contains kept fact → is_out dropped fact ≡ false) × (is_out dropped fact ≡ false → Contains kept fact)
 
--- Clauses say what a target does with the kept facts alone, and rule that out: no lasso within the bounds of the model, of as many
--- states as the scopes say, keeps these facts and meets the target's other formulas, where all are of plain forms.
+-- Clauses say what a target does with the kept facts alone, and rule that out: no lasso within the bounds of the model, of as
+-- many states as the scopes say, keeps these facts and meets the target's other formulas, where all are of plain forms.
 pub record RuleOut (model : Model) (target : Target) (first facts : ℕ) (kept : List ℕ) (clauses : List (List ℤ)) : Type 0 where
   pub dropped : List Bool
   pub left_out : AreLeftOut facts kept dropped

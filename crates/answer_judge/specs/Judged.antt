@@ -82,8 +82,8 @@ pub record IsValued (prepared : Prepared) (value : Term) (position : ℕ) (trace
   pub has : IsSetOf set (InTermAt prepared.model prepared.scopes lasso value no_names position)
   pub text_is : text ≡ value_text prepared.labels.atoms set.tuples
 
--- The line is the first at which no text of a lasso of the model's labels has all lines up to it: of a model that was made ready, whose
--- sigs and fields are called so that traces can be read under their names, and whose universe is small enough.
+-- The line is the first at which no text of a lasso of the model's labels has all lines up to it: of a model that was made ready,
+-- whose sigs and fields are called so that traces can be read under their names, and whose universe is small enough.
 abbrev pub IsBadTrace : Prepared → List ℕ → ℕ → Type 0
 IsBadTrace prepared trace line = (number : ℕ) → IsReady number prepared → IsLabelled prepared.model → AreNumbered prepared.model prepared.scopes → NamesFirst prepared.labels trace line
 

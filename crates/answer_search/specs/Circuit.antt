@@ -11,8 +11,8 @@ use Rattle.bound_naming.specs.declared.pairs.Pair.{Pair}
 use Rattle.bound_naming.specs.Naming.{favours_all, AreAllPairs}
 use Rattle.bmc_encoder.specs.Encodes.{IsEncoded}
 
--- the first root is true where all pairs of variables favour the earlier; the pairs are those of all atoms that the bounds don't
--- tell apart. `sure` and the other roots are as the target's encoder has them
+-- the first root is true where all pairs of variables favour the earlier; the pairs are those of all neighbouring atoms of sigs
+-- that the bounds don't tell apart. `sure` and the other roots are as the target's encoder has them
 pub record IsCircuit (target : Target) (bounds : Bounds) (value : (ℕ → Bool) → Node → Bool) (sure : Node) (roots : List Node) : Type 0 where
   pub table : Layout
   pub all : List (List Pair)

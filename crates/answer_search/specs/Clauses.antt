@@ -39,13 +39,13 @@ Meets target lasso = KeepsNumbers target.scopes lasso × All (HoldsFirst target.
 abbrev pub MeetsCovered : Target → LassoValue → Type 0
 MeetsCovered target lasso = KeepsNumbers target.scopes lasso × All (λ f. IsCovered f → HoldsFirst target.scopes lasso f) target.formulas
 
--- Of the lassos that differ only in what atoms are called the clauses keep a canonical one. These are its pairs: for each two atoms
--- that the bounds don't tell apart, of the variables that their exchange pairs the first so many.
+-- Of the lassos that differ only in what atoms are called the clauses keep a canonical one. These are its pairs: for each two
+-- atoms that the bounds don't tell apart, of the variables that their exchange pairs the first so many.
 --
--- The clauses over a table of variables: an assignment that satisfies them stands for a lasso that keeps the numbers of the scopes,
--- at whose first position each covered formula holds, and that is canonical, where the bounds have a table; and where they have one,
--- all formulas are covered, and some canonical lasso for which values of the table stand meets the target, some assignment satisfies
--- them.
+-- The clauses over a table of variables: an assignment that satisfies them stands for a lasso that keeps the numbers of the
+-- scopes, at whose first position each covered formula holds, and that is canonical, where the bounds have a table; and where
+-- they have one, all formulas are covered, and some canonical lasso for which values of the table stand meets the target, some
+-- assignment satisfies them.
 pub record SayTarget (target : Target) (bounds : Bounds) (clauses : List (List ℤ)) : Type 0 where
   pub table : Layout
   pub all : List (List Pair)

@@ -28,8 +28,8 @@ pub fn table_store(alloc: Global, variables: u64) -> Result<CircuitStore, AllocE
     Ok(store)
 }
 
-/// The pairs of all atoms of some scopes that the bounds don't tell apart. The only error is want of memory, or that the
-/// scopes give more numbers than a universe has.
+/// The pairs of each two neighbouring atoms of sigs that the bounds don't tell apart. The only error is want of memory, or
+/// that the scopes give more numbers than a universe has.
 fn scope_pairs(
     alloc: Global,
     scopes: &Scopes,

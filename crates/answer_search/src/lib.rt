@@ -1,4 +1,4 @@
-//! From a target to clauses that just its lassos satisfy, of these the canonical ones, and the search of these clauses.
+//! From a target to clauses that just its canonical lassos satisfy, and the search of these clauses.
 #![tactic(auto)]
 
 mod circuit;

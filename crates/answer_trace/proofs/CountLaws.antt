@@ -1,4 +1,3 @@
--- Lemmas and their proofs; nothing to read here.
 -- There are as many labels as relations.
 use Rattle.std.proofs.Common.{◌≡◌, ℕ, zero, suc, ◌+◌, ◌<◌, ◌≤◌, ◌==◌, nat_lt, Bool, true, false, List, [], ◌∷◌, ◌++◌, length, Option, Some, None, slice_get, refl, arith}
 use Rattle.std.proofs.lemmas.List.{length-append}

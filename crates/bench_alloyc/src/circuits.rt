@@ -1,8 +1,8 @@
 //! Builds circuits and matrices of a given size, to measure how long that takes, and prints sizes.
 //!
 //! `clauses N` writes a circuit of N gates as clauses. `join N` joins two matrices of ten pairs for each of N atoms: each
-//! atom in the middle stands in ten of the second and in about ten of the first. `closure N` closes a relation over N atoms with five pairs an
-//! atom. N is at least 1, and in the last two at most 16,384. Other words are answered with status 2.
+//! atom in the middle stands in ten of the second and in about ten of the first. `closure N` closes a relation over N atoms with
+//! five pairs an atom. N is at least 1, and in the last two at most 16,384. Other words are answered with status 2.
 
 ghost use Rattle.std.specs.Prelude.{◌≡◌, ◌<◌, ◌≤◌, All, IfOk, OnOk};
 ghost use Rattle.gate_trait.specs.Circuit.{BelongsTo};

@@ -1,4 +1,5 @@
 //! The mode `encoding` compares circuits of small models with the meaning of the models, under all assignments: `MODEL ..`.
+//! The naming's circuit isn't among them.
 //!
 //! Each word is the file of a model, whose commands are taken in turn. An assignment of a command's table
 //! under which the circuit is sure is a lasso. Each such lasso is judged by the evaluator, which
@@ -42,8 +43,8 @@ fn ready(rt: &HostRuntime, name: &str, command: u32) -> Result<Option<Prepared>>
     Ok(Some(prepared))
 }
 
-/// What is counted of a command; none where its table has too many variables. Where there are two states or more, the clauses are to
-/// have more variables than the table, since one more says that just one loop is chosen.
+/// What is counted of a command; none where its table has too many variables. Where there are two states or more, the clauses are
+/// to have more variables than the table, since one more says that just one loop is chosen.
 fn tally_of(alloc: Global, prepared: &Prepared) -> Result<Option<Tally>, AllocError> {
     let found = compare(
         alloc,

@@ -2,8 +2,8 @@
 //!
 //! The first prints the numbers of gates, variables, clauses and lemmas, and the answer. The second prints the processor
 //! time of each stage in milliseconds: of loading, of names, scopes, forms and bounds, of the circuit, of the clauses, and of
-//! the search. What the model opens is read from files, those of util/ too. Other words are answered with status 2, a model that is
-//! refused with 3.
+//! the search. What the model opens is read from files, those of util/ too. Other words are answered with status 2, a model that
+//! is refused with 3.
 
 use answer_analysis::prepare_loaded;
 use answer_search::{circuit_of, table_store};

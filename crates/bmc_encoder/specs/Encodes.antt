@@ -11,8 +11,8 @@ use Rattle.core_tree.specs.declared.tree.Formula.{Formula}
 use Rattle.bmc_leaves.specs.Table.{Decodes}
 use Rattle.bmc_encoder.specs.Firsts.{SaysRoot}
 
--- The table is that of the bounds; `sure` is true just of the assignments that stand for a lasso; the first root where that lasso keeps the
--- numbers of the scopes; and the others, in order, where the formulas hold, as far as these are plain
+-- The table is that of the bounds; `sure` is true just of the assignments that stand for a lasso; the first root where that lasso
+-- keeps the numbers of the scopes; and the others, in order, where the formulas hold, as far as these are plain
 pub record IsEncoded (bounds : Bounds) (scopes : Scopes) (formulas : List Formula) (table : Layout) (value : (ℕ → Bool) → Node → Bool) (sure : Node) (roots : List Node) : Type 0 where
   pub laid : IsTable bounds → IsLayout bounds table
   pub lassos : (x : ℕ → Bool) → (value x sure ≡ true) ↔ ((lasso : LassoValue) × Decodes bounds table x lasso)

@@ -1,5 +1,4 @@
--- Lemmas and their proofs; nothing to read here.
--- They are on what lies in a bound whose arrows ask nothing.
+-- Lemmas on what lies in a bound whose arrows ask nothing.
 use Rattle.std.proofs.Common.{◌+◌, ◌++◌, ℕ, Bool, List, arith}
 use Rattle.gate_trait.specs.declared.node.Node.{Node}
 use Rattle.core_tree.specs.declared.operators.Multiplicity.TheVariants.{Set, One, Lone, Some}

@@ -1,4 +1,3 @@
--- Lemmas and their proofs; nothing to read here.
 -- The places of windows show positions, and formulas have the same truth at the next place as at
 -- the next position.
 use Rattle.std.proofs.Common.{◌≡◌, ◌↔◌, ◌<◌, ◌≤◌, ◌+◌, ◌-◌, ◌*◌, ◌%◌, ℕ, nat_lt, eqb, Bool, true, false, List, [], ◌∷◌, length, Some, slice_get, refl, sym, ap, ◌∙◌, subst, arith, inl, inr, if◌then◌else◌}

@@ -1,4 +1,3 @@
--- Lemmas and their proofs; nothing to read here.
 -- Rows and sets that are made of right ones are right.
 use Rattle.std.proofs.Common.{◌≡◌, ◌↔◌, ◌<◌, ◌≤◌, ◌+◌, ◌-◌, ◌&&◌, ℕ, zero, suc, eqb, Bool, true, false, not, IsTrue, List, [], ◌∷◌, ◌++◌, length, replicate, slice_get, Option, Some, refl, sym, ap, ◌∙◌, subst, arith, if◌then◌else◌}
 use Rattle.gate_trait.specs.declared.node.Node.{Node}

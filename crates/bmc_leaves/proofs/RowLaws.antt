@@ -1,5 +1,4 @@
--- Lemmas and their proofs; nothing to read here.
--- They are on the values of rows that grow.
+-- Lemmas on the values of rows that grow.
 use Rattle.std.proofs.Common.{◌≡◌, ◌<◌, ◌+◌, ℕ, zero, suc, Bool, List, [], ◌∷◌, ◌++◌, length, refl, sym, ap, ◌∙◌, arith, inl, inr, length-append}
 use Rattle.std.proofs.lemmas.Bool.{cases_lt}
 use Rattle.gate_trait.specs.declared.node.Node.{Node}

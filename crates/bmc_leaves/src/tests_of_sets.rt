@@ -222,8 +222,8 @@ fn push_lying<G: Gates>(
     Ok(())
 }
 
-/// Puts on the stack where the first set lies in the second and has the multiplicity; the second is that of a bound whose arrows ask
-/// nothing.
+/// Puts on the stack where the first set lies in the second and has the multiplicity; the second is that of a bound whose arrows
+/// ask nothing.
 pub fn push_within<G: Gates>(
     alloc: Global,
     gates: &mut G,

@@ -8,7 +8,7 @@ use bound_naming::{Pair, PairList};
 use gate_trait::{Gates, Node};
 use std::alloc::AllocError;
 
-/// The first node where two nodes differ, and else the rest.
+/// A node with the value of the first of two nodes where these differ, and else that of the rest.
 #[tactic(auto, using(crate::proofs::Choosing::decides_by))]
 fn decision<G: Gates>(
     gates: &mut G,
@@ -29,7 +29,8 @@ fn decision<G: Gates>(
     Ok(node)
 }
 
-/// Whether a pair has the earlier tuple where it has just one of the two, and else the rest.
+/// A node that says whether a pair has the earlier tuple, where it has just one of the two, and else
+/// what the rest says.
 fn with_pair<G: Gates>(gates: &mut G, pair: Pair, rest: Node) -> Result<Node, AllocError>
     requires { G.belongs gates.old rest }
     ensures keeps { Keeps G.belongs G.node_value gates.old gates.new }
@@ -42,8 +43,8 @@ fn with_pair<G: Gates>(gates: &mut G, pair: Pair, rest: Node) -> Result<Node, Al
     Ok(node)
 }
 
-/// Whether the first of the pairs that has just one of its two tuples, if there is one, has the
-/// earlier.
+/// A node that says whether the first of the pairs that has just one of its two tuples, if there is
+/// one, has the earlier.
 #[tactic(auto, using(crate::proofs::Choosing::favours_none, crate::proofs::Choosing::favours_more, gate_trait::proofs::KeptLemmas::keeps_trans))]
 fn favouring<G: Gates>(gates: &mut G, pairs: &[Pair]) -> Result<Node, AllocError>
     ensures keeps { Keeps G.belongs G.node_value gates.old gates.new }
@@ -59,8 +60,8 @@ fn favouring<G: Gates>(gates: &mut G, pairs: &[Pair]) -> Result<Node, AllocError
     Ok(node)
 }
 
-/// Whether each list of pairs favours the earlier: of an assignment that tells of a lasso, whether
-/// that lasso is canonical.
+/// A node that says whether each list of pairs favours the earlier: of an assignment that tells of a
+/// lasso, whether that lasso is canonical.
 #[tactic(auto, using(crate::proofs::Choosing::all_none, crate::proofs::Choosing::all_more, gate_trait::proofs::KeptLemmas::keeps_trans))]
 pub fn naming<G: Gates>(gates: &mut G, all: &[PairList]) -> Result<Node, AllocError>
     ensures keeps { Keeps G.belongs G.node_value gates.old gates.new }

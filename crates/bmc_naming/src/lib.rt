@@ -1,4 +1,4 @@
-//! The naming as a circuit: a node that is true of just the assignments that tell of canonical lassos.
+//! The naming as a circuit (a symmetry-breaking predicate): a node that is true of just the assignments of canonical lassos.
 #![tactic(auto)]
 
 pub mod circuits;

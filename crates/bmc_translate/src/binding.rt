@@ -182,8 +182,8 @@ fn begin<G: Gates>(
     }
 }
 
-/// Plans the formula for one atom as the variable's value, where it is the only number of the tuple. After it, what was built on the way
-/// and the atom's name are let go.
+/// Plans the formula for one atom as the variable's value, where it is the only number of the tuple. After it, what was built on
+/// the way and the atom's name are let go.
 fn plan_atom<'a>(
     plan: &mut Plan<'a>,
     formula: &'a Formula,
@@ -234,8 +234,8 @@ fn plan_atoms<'a>(
     Ok(())
 }
 
-/// Plans the formula for all atoms in the set on top as values of the variable. Its error is want of memory, or that the set hasn't a
-/// place for each place of the windows.
+/// Plans the formula for all atoms in the set on top as values of the variable. Its error is want of memory, or that the set
+/// hasn't a place for each place of the windows.
 pub fn bind_all<'a, G: Gates>(
     alloc: Global,
     gates: &G,

@@ -1,5 +1,4 @@
--- Lemmas and their proofs; nothing to read here.
--- They are on what stands at a place when one more item is added at the end, for the crates that
+-- Lemmas on what stands at a place when one more item is added at the end, for the crates that
 -- build lists.
 use Rattle.std.proofs.Common.{◌≡◌, ◌⊎◌, ◌<◌, ℕ, zero, suc, List, [], ◌∷◌, ◌++◌, length, slice_get, Some, refl, sym, ap, ◌∙◌, subst, arith, inl, inr}
 

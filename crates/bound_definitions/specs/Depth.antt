@@ -28,7 +28,7 @@ level_in (product a m n b) = 14
 level_in (arithmetic op a b) = 10
 level_in _ = 0
 
--- the same of a formula; a row of conjunctions is one list already
+-- the same of a formula; a row of conjunctions, as it is written, is one list already
 abbrev pub level_of : Claim → ℕ
 level_of (connect Or f g) = 2
 level_of (connect Iff f g) = 3

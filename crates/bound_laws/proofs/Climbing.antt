@@ -1,5 +1,5 @@
--- Of the candidates that satisfy a target one is canonical: where a pair asks for an exchange, it is made, and the table's variables,
--- read as the digits of one number of which the first is the highest, give a greater one.
+-- Of the candidates that satisfy a target one is canonical: where a pair asks for an exchange, it is made, and the table's
+-- variables, read as the digits of one number of which the first is the highest, give a greater one.
 use Rattle.std.proofs.Common.{◌↔◌, inl, inr, ℕ, zero, suc, ◌+◌, ◌<◌, ◌≤◌, Bool, List, map, All, Contains, subst, arith}
 use Rattle.core_meaning.specs.declared.target.Target.{Target}
 use Rattle.core_meaning.specs.declared.scopes.Scopes.{Scopes}

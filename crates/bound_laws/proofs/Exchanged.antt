@@ -1,5 +1,6 @@
 -- The lasso in which two atoms have changed places: at each state a relation has those tuples of its upper bound that, exchanged,
--- are in the old one. Where the exchange carries each upper bound into itself, it is a candidate again, and shows the same renamed.
+-- are in the old one. Where the exchange carries each upper bound into itself, it is a candidate again, and shows the same
+-- renamed.
 use Rattle.std.proofs.Common.{◌≡◌, ◌↔◌, ◌⊎◌, inl, inr, ℕ, zero, suc, ◌+◌, ◌-◌, ◌%◌, ◌<◌, Bool, true, false, cond, if◌then◌else◌, List, [], ◌∷◌, length, map, All, Contains, Some, slice_get, refl, sym, ap, ◌∙◌, subst, arith}
 use Rattle.std.specs.Prelude.{nat_lt}
 use Rattle.std.specs.List.{filter}

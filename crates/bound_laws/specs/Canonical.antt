@@ -10,8 +10,8 @@ use Rattle.bound_uppers.specs.Candidates.{HasSets, IsCandidate}
 use Rattle.bound_naming.specs.declared.pairs.Pair.{Pair}
 use Rattle.bound_naming.specs.Naming.{AreSomePairs, IsCanonical}
 
--- Where a lasso within the bounds satisfies a target, so does a canonical one within the bounds, whatever lists of pairs of
--- interchangeable atoms are asked, all of them or some.
+-- Where a lasso within the bounds satisfies a target, so does one within the bounds that is canonical by some lists of pairs,
+-- each of them the pairs of two interchangeable atoms: those of all such atoms, or of a few.
 abbrev pub CandidatesHaveCanonical : Type 0
 CandidatesHaveCanonical =
     (target : Target) (bounds : Bounds) (most : ℕ) (all : List (List Pair)) (lasso : LassoValue) → IsTable bounds → HasSets bounds →

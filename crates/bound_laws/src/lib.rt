@@ -3,6 +3,7 @@
 #![tactic(auto)]
 
 ghost use Rattle.bound_laws.specs.Satisfying.{SatisfyingAreCandidates};
+ghost use Rattle.bound_laws.specs.Canonical.{CandidatesHaveCanonical};
 
 use bound_uppers::{lassos_unroll, rows_rise};
 use core_laws::{relations_have_rows, same_sequences_satisfy_the_same};
@@ -19,8 +20,6 @@ pub fn satisfying_lassos_are_candidates()
     lassos_have_renamed();
     renaming_keeps_models();
 }
-
-ghost use Rattle.bound_laws.specs.Canonical.{CandidatesHaveCanonical};
 
 /// A law: where a candidate satisfies a target, a canonical candidate does so too.
 pub fn candidates_have_canonical()

@@ -1,5 +1,6 @@
 -- The naming. What atoms are called is no part of a model's meaning, so of the lassos that differ in it alone it is enough to
--- look for one: for a canonical one, which uses the atoms of a sig in turn as far as pairs of tuples tell.
+-- look for one: for a canonical one, which at the first pair of tuples that tells two neighbouring atoms apart has the earlier
+-- tuple.
 use Rattle.std.specs.Prelude.{◌≡◌, ◌↔◌, ◌⊎◌, ◌<◌, ◌≤◌, ◌+◌, ℕ, Bool, true, false, ◌&&◌, List, [], ◌∷◌, length, map, take, All, Contains, Some, slice_get}
 use Rattle.core_tuples.specs.Sets.{In}
 use Rattle.core_meaning.specs.Sequence.{LassoValue}
@@ -61,7 +62,8 @@ favours_all x (pairs ∷ rest) = favours x pairs && favours_all x rest
 abbrev pub DoesHold : Bounds → LassoValue → ℕ → Type 0
 DoesHold bounds lasso v = (s r : ℕ) × (t : List ℕ) × IsCell bounds s r t v × InState lasso s r t
 
--- two atoms of sigs that follow one another, and that the bounds don't tell apart: their exchange carries each upper bound into itself
+-- two atoms of sigs that follow one another, and that the bounds don't tell apart: their exchange carries each upper bound into
+-- itself
 pub record AreInterchangeable (bounds : Bounds) (atoms a : ℕ) : Type 0 where
   pub within : a + 1 < atoms
   pub closed : (r : ℕ) (b : Bound) (t : List ℕ) → slice_get bounds.relations r ≡ Some b → In t b.upper → In (map (exchanged a (a + 1)) t) b.upper

@@ -1,5 +1,5 @@
 -- The pairs as they are reckoned: an index of the tuples by their atoms, partners in the upper bounds, and then state by state.
-use Rattle.std.specs.Prelude.{◌≡◌, ◌⊎◌, ◌<◌, ◌+◌, ℕ, zero, suc, Bool, true, not, if◌then◌else◌, eqb, nat_lt, List, [], ◌∷◌, ◌++◌, length, map, filter, get_or, set, All, Contains, Option, Some, None, slice_get}
+use Rattle.std.specs.Prelude.{◌≡◌, ◌⊎◌, ◌<◌, ◌+◌, ℕ, zero, suc, Bool, true, not, ◌&&◌, if◌then◌else◌, eqb, nat_lt, List, [], ◌∷◌, ◌++◌, length, map, take, filter, get_or, set, All, Contains, Option, Some, None, slice_get, slice_index}
 use Rattle.std.specs.List.{list_any}
 use Rattle.core_tuples.specs.Sets.{In, is_same}
 use Rattle.core_renaming.specs.Composed.{exchanged}
@@ -19,6 +19,10 @@ use Rattle.bound_naming.specs.declared.partners.Match.{Match}
 -- a tuple has an atom
 abbrev pub has_atom : ℕ → List ℕ → Bool
 has_atom a t = list_any (λ c. eqb c a) t
+
+-- it stands in this column, and in none before
+abbrev pub is_first : ℕ → ℕ → List ℕ → Bool
+is_first a column t = not (has_atom a (take column t)) && eqb (slice_index t column) a
 
 -- the lists, with a tuple more at the end of one where there is one
 abbrev pub extended_at : List (List Spot) → ℕ → Spot → List (List Spot)

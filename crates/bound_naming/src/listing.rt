@@ -69,7 +69,7 @@ fn add_pairs(
     Ok(())
 }
 
-/// Adds the pairs of a state, of which the first also has the tuples of relations that don't change.
+/// Adds the pairs of a state: the first one alone has those of relations that don't change.
 #[tactic(auto, using(crate::proofs::StateLists::state_first, crate::proofs::StateLists::state_later))]
 fn add_state(
     pairs: &mut PairList,

@@ -1,9 +1,9 @@
 //! An index: for each atom the tuples of the upper bounds that have it, in the order of the table.
 
-ghost use Rattle.std.specs.Prelude.{◌≡◌, ◌&&◌, ◌<◌, ℕ, [], ◌∷◌, not, eqb, take, length, get_or, slice_get, slice_index, Some, IfOk, OnOk};
+ghost use Rattle.std.specs.Prelude.{◌≡◌, ◌<◌, ℕ, [], ◌∷◌, take, length, get_or, slice_get, Some, IfOk, OnOk};
 ghost use Rattle.bound_uppers.specs.declared.table.Bound.{Bound as BoundTree};
 ghost use Rattle.bound_uppers.specs.Table.{IsTable};
-ghost use Rattle.bound_naming.specs.Reckoned.{has_atom, extended_at, one_spot, spots_in, Grow, IsIndex};
+ghost use Rattle.bound_naming.specs.Reckoned.{has_atom, is_first, extended_at, one_spot, spots_in, Grow, IsIndex};
 
 use bound_uppers::{Bound, Bounds};
 use core_tree::ItemList;
@@ -70,7 +70,7 @@ fn add_column(
 ) -> Result<(), AllocError>
     requires { column < length numbers.now }
     ensures { OnOk result (Grow lists.old.items lists.new.items (λ a.
-        one_spot (not (has_atom a (take column numbers.now)) && eqb (slice_index numbers.now column) a) spot)) }
+        one_spot (is_first a column numbers.now) spot)) }
 {
     let atom = numbers[column];
     if is_before(numbers, column, atom) {
@@ -142,7 +142,8 @@ fn add_relation(
     relation: usize,
     order: usize,
 ) -> Result<(), AllocError>
-    ensures { OnOk result ((b : BoundTree) × (slice_get relations.now relation ≡ Some b) × (b.order ≡ order)
+    ensures { OnOk result ((b : BoundTree) × (slice_get relations.now relation ≡ Some b)
+        × (b.order ≡ order)
         × Grow lists.old.items lists.new.items (λ a. spots_in a order relation 0 b.upper.tuples)) }
 {
     if relation >= relations.len() {

@@ -7,8 +7,8 @@ use Rattle.bound_scopes.specs.declared.numbers.Family.{Family}
 abbrev pub counts_exactly : Known → Bool
 counts_exactly known = is_some known.number && known.exact
 
--- The number of a sig: its own; else, where it is abstract and all that extend it have one, their sum, which is exact where each of
--- theirs is.
+-- The number of a sig: its own; else, where it is abstract and all that extend it have one, their sum, which is exact where each
+-- of theirs is.
 abbrev pub summed : Bool → Known → Family → Known
 summed is_abstract known family =
     if is_some known.number then known

@@ -16,7 +16,8 @@ use Rattle.answer_texts.specs.Lines.{command_text}
 use Rattle.cli_run.specs.declared.parsed.Root.{Root}
 use Rattle.cli_run.specs.declared.parsed.Root.TheVariants as root
 
--- the tokens spell this module, it keeps the rules of the grammar within the limit of depth, and each place in it is that of its token
+-- the tokens spell this module, it keeps the rules of the grammar within the limit of depth, and each place in it is that of its
+-- token
 pub record Spell (tokens : List Token) (tree : Module) : Type 0 where
   pub spells : kinds tokens ≡ module_words tree
   pub right : IsTrue (module_right TREE_DEPTH tree)
@@ -31,7 +32,8 @@ abbrev pub ParsesTo : List Token → Root → Type 0
 ParsesTo tokens (root.Module parsed) = Spell tokens parsed.tree
 ParsesTo tokens (root.Broken refusal) = FallsUnderGrammar tokens refusal
 
--- the text with these tokens breaks this rule at this place; of tokens without a module it is known that the rule is one of the grammar, and the place that of a token
+-- the text with these tokens breaks this rule at this place; of tokens without a module it is known that the rule is one of the
+-- grammar, and the place that of a token
 abbrev pub BreakIn : Tokens → Refusal → Type 0
 BreakIn (Ok tokens) refusal = FallsUnderGrammar tokens refusal
 BreakIn (Err broken) refusal = refusal ≡ broken

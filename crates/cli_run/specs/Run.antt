@@ -107,23 +107,24 @@ abbrev pub OfModel : ℕ → (Prepared → Type 0) → Type 0
 OfModel number P = (prepared : Prepared) × IsReady number prepared × P prepared
 
 -- what is written of a trace, which satisfies the model and the command: the part that is asked for; in a search for the fewest
--- states with clauses of one state less and lines that refute them, and no lasso of fewer states satisfies them, if the target has
--- plain forms alone and the model is usual; or it has one state
+-- states with clauses of one state less and lines that refute them, and no lasso of fewer states satisfies them, if the target
+-- has plain forms alone and the model is usual; or it has one state
 abbrev pub ShownTrace : Mode → ℕ → Part → List ℕ → Type 0
 ShownTrace Least number part text = OfModel number (λ prepared. ShowsOne prepared part text ⊎ ShowsAbove prepared part text)
 ShownTrace _ number part text = OfModel number (λ prepared. ShowsTrace prepared part text)
 
--- what is written where there is no trace: the part that is asked for, of clauses that say what the target of the model does and of
--- lines that refute them, where no lasso of at most as many states as the scopes say satisfies the model and the command, if the target
--- has plain forms alone and the model is usual; in a search for facts that rule out every trace, the same with these facts
+-- what is written where there is no trace: the part that is asked for, of clauses that say what the target of the model does and
+-- of lines that refute them, where no lasso of at most as many states as the scopes say satisfies the model and the command, if
+-- the target has plain forms alone and the model is usual; in a search for facts that rule out every trace, the same with these
+-- facts
 abbrev pub ShownNone : Mode → ℕ → Part → List ℕ → Type 0
 ShownNone Core number part text = OfModel number (λ prepared. ShowsCore prepared part text)
 ShownNone Exec number part text = OfModel number (λ prepared. ShowsNone (SayAll prepared) prepared.bounds.states part text × NoneSatisfies prepared)
 ShownNone Least number part text = OfModel number (λ prepared. ShowsNone (SayOverStates prepared prepared.scopes.states) prepared.scopes.states part text × NoneWithin prepared prepared.scopes.states)
 ShownNone _ number part text = (states : ℕ) × ShowsNone (λ cnf. ⊤) states part text
 
--- what is written where a budget is spent: clauses that say what the target of the model does, over some number of states in a search
--- for the fewest, and with some of the facts alone in a search for facts; and a derivation that spends it
+-- what is written where a budget is spent: clauses that say what the target of the model does, over some number of states in a
+-- search for the fewest, and with some of the facts alone in a search for facts; and a derivation that spends it
 abbrev pub ShownSpent : Mode → ℕ → Option ℕ → List ℕ → Type 0
 ShownSpent Exec number budget text = OfModel number (λ prepared. ShowsSpent (SayAll prepared) budget text)
 ShownSpent Least number budget text = OfModel number (λ prepared. ShowsSpent (SayOverSome prepared) budget text)

@@ -1,4 +1,3 @@
--- Lemmas and their proofs; nothing to read here.
 -- Two lists without repeats that have the same members have the same length and the same sums.
 use Rattle.std.specs.Prelude.{◌≡◌, ◌≢◌, ◌↔◌, ◌⊎◌, ℕ, zero, suc, ◌<◌, List, [], ◌∷◌, map, length, Contains, AllPairs, slice_index_or, ℤ, ◌+ℤ◌}
 use Rattle.std.proofs.Common.{inl, inr, refl, sym, ap, subst, ◌∙◌, arith}

@@ -1,5 +1,4 @@
--- Lemmas and their proofs; nothing to read here.
--- They are for the law that a set has one number of tuples, and stands for one integer.
+-- Lemmas for the law that a set has one number of tuples, and stands for one integer.
 use Rattle.std.specs.Prelude.{◌≡◌, List, [], ◌∷◌, ℤ, pos}
 use Rattle.std.proofs.Common.{sym, ap, ◌∙◌}
 use Rattle.core_meaning.specs.Integers.{wrap}

@@ -25,7 +25,8 @@ FormulasKeepTruthIn =
     Holds (world_of scopes one) (bodies_of (world_of scopes one) list) f (names_of (world_of scopes one) (bodies_of (world_of scopes one) list) first) i
     ↔ Holds (world_of scopes two) (bodies_of (world_of scopes two) list) f (names_of (world_of scopes two) (bodies_of (world_of scopes two) list) second) i
 
--- A tuple is in an expression in a lasso exactly where the renamed tuple is in it in the renamed lasso, in environments renamed alike.
+-- A tuple is in an expression in a lasso exactly where the renamed tuple is in it in the renamed lasso, in environments renamed
+-- alike.
 abbrev pub TermsKeepTuplesIn : Type 0
 TermsKeepTuplesIn =
     (scopes : Scopes) (r : Renaming) (one two : LassoValue) → KeepsIntegers scopes r → ShowsRenamed scopes r one two →

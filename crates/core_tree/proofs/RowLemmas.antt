@@ -1,5 +1,4 @@
--- Lemmas and their proofs; nothing to read here.
--- They give the data of a tree over a `Vec` by the items of the `Vec`.
+-- Lemmas that give the data of a tree over a `Vec` by the items of the `Vec`.
 use Rattle.std.proofs.Common.{◌≡◌, map, refl, ap, ◌∙◌, Vec, Box, Global}
 use Rattle.core_tree.specs.declared.operators.Quantity.{Quantity}
 use Rattle.core_tree.specs.declared.tree.Variable.{Variable}

@@ -1,4 +1,3 @@
--- Lemmas and their proofs; nothing to read here.
 -- Indices compare as tuples of one length do.
 use Rattle.std.proofs.Common.{◌≡◌, ℕ, suc, ◌+◌, ◌*◌, ◌^◌, ◌<◌, ◌≤◌, List, [], ◌∷◌, ◌++◌, length, All, refl, sym, ap, ◌∙◌, arith, length-append, inl, inr, take, get_or, length-take, lit<, pow-suc, mul-le-mul_right}
 use Rattle.std.specs.declared.cmp.Ordering.{Ordering}

@@ -1,5 +1,4 @@
--- Lemmas and their proofs; nothing to read here.
--- They are on sorted lists of tuples.
+-- Lemmas on sorted lists of tuples.
 use Rattle.std.proofs.Common.{◌≡◌, ◌↔◌, ◌⊎◌, ℕ, zero, suc, ◌+◌, ◌<◌, ◌≤◌, List, [], ◌∷◌, ◌++◌, length, take, drop, get_or, refl, sym, ◌∙◌, ap, subst, inl, inr, arith, Contains, All, length-take, length-drop, get_or-take, get_or-drop, Bool, true, false, Some, slice_get, cond, Result, Ok, Err, IfOk, IfErr}
 use Rattle.std.specs.Result.{is_ok}
 use Rattle.std.proofs.lemmas.Bool.{false≢true}

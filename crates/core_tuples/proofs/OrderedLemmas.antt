@@ -1,5 +1,4 @@
--- Lemmas and their proofs; nothing to read here.
--- They are on tuples in order, for the crates that keep tuples in order too.
+-- Lemmas on tuples in order, for the crates that keep tuples in order too.
 use Rattle.std.proofs.Common.{◌≡◌, ℕ, ◌+◌, ◌<◌, List, [], ◌∷◌, ◌++◌, length, All, refl, sym, ap, ◌∙◌, arith, Bool, true, false, ◌&&◌, ◌||◌, eqb, drop, get_or, drop-cons, add-one}
 use Rattle.std.specs.declared.cmp.Ordering.TheVariants.{Less}
 use Rattle.std.specs.Ordering.{nat_cmp, is_eq}

@@ -1,4 +1,3 @@
--- Lemmas and their proofs; nothing to read here.
 -- The window: finitely many positions that show the truth at every position.
 use Rattle.std.specs.Prelude.{◌≡◌, ◌↔◌, ℕ, zero, suc, ◌+◌, ◌-◌, ◌*◌, ◌/◌, ◌%◌, ◌<◌, ◌≤◌}
 use Rattle.std.proofs.Common.{inl, inr, refl, sym, subst, arith}

@@ -1,4 +1,3 @@
--- Lemmas and their proofs; nothing to read here.
 -- Each operator on sets of tuples keeps that they are the same.
 use Rattle.std.specs.Prelude.{◌⊎◌, ◌↔◌, ℕ, List, [], ◌∷◌, ◌++◌, ℤ}
 use Rattle.std.proofs.Common.{inl, inr}

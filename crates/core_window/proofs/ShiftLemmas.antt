@@ -1,5 +1,4 @@
--- Lemmas and their proofs; nothing to read here.
--- They are on temporal operators one period later, where their formulas repeat.
+-- Lemmas on temporal operators one period later, where their formulas repeat.
 use Rattle.std.specs.Prelude.{◌≡◌, ◌↔◌, ℕ, ◌+◌, ◌-◌, ◌*◌, ◌<◌, ◌≤◌, max}
 use Rattle.std.proofs.Common.{inl, inr, refl, sym, subst, arith}
 use Rattle.std.proofs.lemmas.Bool.{cases_lt, cond_below, cond_above}

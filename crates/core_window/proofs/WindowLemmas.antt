@@ -1,4 +1,3 @@
--- Lemmas and their proofs; nothing to read here.
 -- The window law: far enough into the loop every expression has the same tuples, and every formula
 -- the same truth, one period later. So many rounds are enough as past operators are nested.
 use Rattle.std.specs.Prelude.{◌≡◌, ◌↔◌, ℕ, zero, suc, ◌+◌, ◌-◌, ◌%◌, ◌<◌, ◌≤◌, List, [], ◌∷◌, ◌++◌, length, max, Bool, true, false, eqb, if◌then◌else◌, slice_get, Option, Some, None, ℤ}

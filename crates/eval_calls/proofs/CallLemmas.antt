@@ -1,4 +1,3 @@
--- Lemmas and their proofs; nothing to read here.
 -- A call means its body: where each body calls only bodies of lower rank, calls that may nest
 -- deeper than the ranks go change nothing. The names that a body sees, one added after the other,
 -- are those that the arguments pass.

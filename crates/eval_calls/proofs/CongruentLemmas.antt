@@ -1,4 +1,3 @@
--- Lemmas and their proofs; nothing to read here.
 -- Names that stand for the same give the same meaning, and so do called bodies that mean the same.
 use Rattle.std.specs.Prelude.{◌↔◌, ◌<◌, ◌≤◌, ℕ, ◌+◌, ◌-◌, List, [], ◌∷◌, ◌++◌, Bool, true, false, eqb, max, ℤ}
 use Rattle.std.proofs.Common.{arith, sym, subst, inl, inr, refl}

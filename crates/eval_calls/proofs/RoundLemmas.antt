@@ -1,4 +1,3 @@
--- Lemmas and their proofs; nothing to read here.
 -- From how many rounds of the loop on a formula has the same truth in each round: no more than it
 -- weighs and its names need.
 use Rattle.std.specs.Prelude.{◌≡◌, ◌<◌, ◌≤◌, ℕ, zero, suc, ◌+◌, ◌-◌, List, length, max, Bool, true, false, eqb, if◌then◌else◌, Option, Some, None, slice_get}

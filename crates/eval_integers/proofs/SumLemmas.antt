@@ -1,5 +1,4 @@
--- Lemmas and their proofs; nothing to read here.
--- They are on sums that are wrapped as they grow.
+-- Lemmas on sums that are wrapped as they grow.
 use Rattle.std.proofs.Common.{◌≡◌, ℕ, ◌+◌, ◌-◌, ◌*◌, ◌%◌, ◌^◌, ◌<◌, ◌≤◌, nat_lt, Bool, true, false, cond, refl, sym, ap, ◌∙◌, arith, ℤ, pos, negsuc, ◌+ℤ◌, ◌-ℤ◌, ◌/◌, List, [], ◌∷◌, ◌++◌}
 use lib.Pow.{pow_pos}
 use native.Mathlib.Nat.{mul-le-mul_left}

@@ -1,4 +1,3 @@
--- Lemmas and their proofs; nothing to read here.
 -- A set that is the same has the multiplicities of a bound's arrows as well.
 use Rattle.std.specs.Prelude.{ℕ, ◌++◌}
 use Rattle.core_tree.specs.Trees.{Term, sig, field, name, univ, iden, empty, int, combine, product, unary, prime, choose_term, comprehension, number, count, arithmetic, sum_over, let_term, call_term}

@@ -1,5 +1,4 @@
--- Lemmas and their proofs; nothing to read here.
--- They are on what the operators give from what their operands have.
+-- Lemmas on what the operators give from what their operands have.
 use Rattle.std.proofs.Common.{◌≡◌, ◌⊎◌, ◌↔◌, ℕ, [], ◌∷◌, refl, inl, inr, Result, Ok, Err, IfOk, Bool, true, false, not, IsTrue, ℤ}
 use Rattle.core_tree.specs.declared.operators.RelationOp.{RelationOp}
 use Rattle.core_tree.specs.declared.operators.UnaryRelation.{UnaryRelation}

@@ -1,5 +1,4 @@
--- Lemmas and their proofs; nothing to read here.
--- They are on tuples of sets, place by place.
+-- Lemmas on tuples of sets, place by place.
 use Rattle.std.proofs.Common.{◌≡◌, ◌≢◌, ℕ, zero, suc, ◌+◌, ◌<◌, ◌≤◌, List, [], ◌∷◌, sym, ap, subst, ◌∙◌, refl, inl, inr, arith, take, length, Contains, AllPairs, get_or, slice_get, Some}
 use Rattle.std.proofs.lemmas.List.Elements.{All-contains}
 use Rattle.std.specs.declared.cmp.Ordering.TheVariants.{Less}

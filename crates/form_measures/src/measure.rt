@@ -74,8 +74,8 @@ fn inside_pair(measure: Measure, op: TemporalBinary, depth: u32) -> u32 {
     }
 }
 
-/// The depth of the first operand of an operator, from that of the others. A row of operators of
-/// one level is one part, so there it is that of the row; but past operators nest in a row too.
+/// The depth at which the first operand of an operator stands: in a row of one level that of the row,
+/// else that of the others. Past operators nest in a row too.
 fn first_inside(measure: Measure, is_row: bool, depth: u32, others: u32) -> u32 {
     match measure {
         Measure::Past => others,
@@ -106,7 +106,7 @@ fn relation_level(op: RelationOp) -> u32 {
 }
 
 /// The level of the operator of a formula, where operators of that level group to the left, and
-/// else 0. A row of conjunctions is one list already.
+/// else 0. A row of conjunctions, as it is written, is one list already.
 fn formula_level(formula: &Formula) -> u32 {
     match formula {
         Formula::Connect(Connective::Or, _, _) => 2,

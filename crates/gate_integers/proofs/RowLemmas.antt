@@ -1,5 +1,4 @@
--- Lemmas and their proofs; nothing to read here.
--- They are on lists of nodes whose values are computed one after the other.
+-- Lemmas on lists of nodes whose values are computed one after the other.
 use Rattle.std.proofs.Common.{◌≡◌, ℕ, zero, suc, ◌+◌, ◌<◌, Bool, true, false, cond, inl, inr, replicate, refl, arith, List, [], ◌∷◌, ◌++◌, length, take, map, get_or, ap, ◌∙◌, sym}
 use Rattle.std.proofs.lemmas.List.{map_push, map_more}
 use Rattle.std.proofs.lemmas.Bool.{cases_lt}

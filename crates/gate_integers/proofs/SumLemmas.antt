@@ -1,5 +1,4 @@
--- Lemmas and their proofs; nothing to read here.
--- They are on sums of the numbers that nodes mean.
+-- Lemmas on sums of the numbers that nodes mean.
 use lib.Pow.{pow_pos}
 use Rattle.std.proofs.lemmas.Bool.Decides.{nat_tests}
 use Rattle.std.proofs.Math.Nat.{mod-eq_of_lt}

@@ -1,5 +1,4 @@
--- Lemmas and their proofs; nothing to read here.
--- They are on integers that are wrapped to a width, and on the numbers of their bits.
+-- Lemmas on integers that are wrapped to a width, and on the numbers of their bits.
 use Rattle.std.proofs.Common.{◌≡◌, ℕ, ◌+◌, ◌-◌, ◌*◌, ◌%◌, ◌^◌, ◌≤◌, nat_lt, Bool, true, false, cond, refl, sym, ap, ◌∙◌, arith, ℤ, pos, negsuc, ◌+ℤ◌, ◌-ℤ◌, ◌*ℤ◌}
 use lib.IntN.{*ℤ_comm}
 use lib.Pow.{pow_pos}

@@ -1,5 +1,4 @@
--- Lemmas and their proofs; nothing to read here.
--- They are on one more tuple among gathered entries, where it has a node.
+-- Lemmas on one more tuple among gathered entries, where it has a node.
 use Rattle.std.proofs.Common.{◌≡◌, ℕ, Bool, true, false, ◌&&◌, ◌||◌, List, [], ◌∷◌, ◌++◌, All, Option, Some, None, refl, sym, ◌∙◌, ap}
 use Rattle.std.specs.List.{list_any}
 use Rattle.std.proofs.lemmas.List.Elements.{All-append, All-nil, All-cons}

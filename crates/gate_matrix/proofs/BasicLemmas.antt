@@ -1,5 +1,4 @@
--- Lemmas and their proofs; nothing to read here.
--- They are on entries, and on circuits that grow.
+-- Lemmas on entries, and on circuits that grow.
 use Rattle.std.proofs.Common.{◌≡◌, ℕ, suc, zero, ◌+◌, ◌-◌, ◌<◌, Bool, true, false, ◌&&◌, ◌||◌, List, [], ◌∷◌, ◌++◌, length, get_or, take, drop, map, All, Option, Some, None, Result, Ok, Err, IfOk, OnOk, sym, ap, ◌∙◌, refl, arith, subst, inl, inr, cond, drop-cons, add-one, length-drop, take_all}
 use Rattle.std.specs.Option.{ForSome}
 use Rattle.std.specs.List.{list_any, AllByRecursion}

@@ -1,4 +1,3 @@
--- Lemmas and their proofs; nothing to read here.
 -- Entries in order: each tuple has one node at most, and its entry is found.
 use Rattle.std.proofs.Common.{◌≡◌, ℕ, suc, zero, ◌<◌, Bool, true, false, ◌&&◌, ◌||◌, cond, List, [], ◌∷◌, length, get_or, Option, Some, sym, ap, ◌∙◌, refl, arith, inl, inr}
 use Rattle.std.specs.declared.cmp.Ordering.TheVariants.{Less}

@@ -1,5 +1,4 @@
--- Lemmas and their proofs; nothing to read here.
--- They are on what stays true while a circuit grows, for the crates that build on any circuit.
+-- Lemmas on what stays true while a circuit grows, for the crates that build on any circuit.
 use Rattle.std.specs.Prelude.{◌≡◌, ℕ, zero, suc, ◌+◌, Bool, List, [], ◌∷◌, ◌++◌, length, map, Some, slice_get, Result, Ok, Err, IfOk, refl}
 use Rattle.std.proofs.Common.{sym, ◌∙◌, ap, subst, arith, length-append}
 use Rattle.std.proofs.lemmas.List.Elements.{All-append}

@@ -16,7 +16,8 @@ use Rattle.load_state.specs.declared.table.DeclaredSig.{DeclaredSig}
 use Rattle.load_state.specs.declared.table.Enumerated.{Enumerated}
 use Rattle.load_modules.specs.Told.{IsModuleUnder, IsFound}
 
--- an instance is the name of its text with its arguments, each a sig of an instance, by its number among the sigs of the text, or `Int`
+-- an instance is the name of its text with its arguments, each a sig of an instance, by its number among the sigs of the text, or
+-- `Int`
 mutual
   pub data Given : Type 0 where
     given : (text : List ℕ) → (arguments : Arguments) → Given

@@ -11,7 +11,8 @@ use Rattle.load_modules.specs.Told.{IsFound, Knows, name_at}
 abbrev pub IsTextOf : List Texts → List ℕ → List Text → List ℕ → ℕ → Type 0
 IsTextOf told root texts path n = (name : List ℕ) × (name_at texts n ≡ Some name) × IsFound told root path name
 
--- where the libraries tell all, each open of a model leads to an instance of the text that is found for its path, with arguments that fit
+-- where the libraries tell all, each open of a model leads to an instance of the text that is found for its path, with arguments
+-- that fit
 unfoldable pub OpensTold : List (Option Texts) → List ℕ → List Text → List Instance → Type 0
 OpensTold held root texts instances = (told : List Texts) → held ≡ map Some told → AllLed (IsTextOf told root texts) instances texts
 

@@ -61,7 +61,8 @@ abbrev pub slashed_to : List ℕ → List ℕ → List ℕ
 slashed_to [] alias = alias
 slashed_to (b ∷ path) alias = (b ∷ path) ++ 47 ∷ alias
 
--- the label of a way, when these labels are taken: the way itself, or it with `$` and the least number from 2 on that makes it new
+-- the label of a way, when these labels are taken: the way itself, or it with `$` and the least number from 2 on that makes it
+-- new
 pub data IsLabel (taken : List (List ℕ)) (way : List ℕ) : List ℕ → Type 0 where
   plain : ((k : ℕ) → slice_get taken k ≢ Some way) → IsLabel taken way way
   counted : (other n : ℕ) → slice_get taken other ≡ Some way → 2 ≤ n → ((k : ℕ) → slice_get taken k ≢ Some (way ++ 36 ∷ decimal n)) →
@@ -75,8 +76,9 @@ AreLabels taken [] (label ∷ labels) = ⊥
 AreLabels taken (way ∷ ways) [] = ⊥
 
 module _ (told : List Texts) (root : List ℕ) (tree : Module) where
-  -- The instance in which the walk stands at a point, and the aliases by which it came there. The checks of an open have the numbers 0 to 8
-  -- after its own, and what is behind it the number 9. The open of the integers comes after all that the root reaches.
+  -- The instance in which the walk stands at a point, and the aliases by which it came there. The checks of an open have the
+  -- numbers 0 to 8 after its own, and what is behind it the number 9. The open of the integers comes after all that the root
+  -- reaches.
   pub data StandsAt : Point → Given → List ℕ → Type 0 where
     at_root : StandsAt (1 ∷ []) (given root nothing) []
     behind : (p : Point) (i j : Given) (way : List ℕ) (k : ℕ) (asked : Opening) → StandsAt p i way → Asks told root tree i k asked → Leads told root tree i k j →

@@ -10,8 +10,8 @@ use Rattle.syntax_tree.specs.declared.token.Token.{Token}
 use Rattle.syntax_places.specs.ModulePieces.{module_pieces}
 use Rattle.syntax_places.specs.Pieces.{at_places}
 
--- The bytes aren't over the limit, and their tokens spell the module, whose trees are right and not too deep, and whose places are those of the tokens. The number is that of
--- the text in the places of its tokens.
+-- The bytes aren't over the limit, and their tokens spell the module, whose trees are right and not too deep, and whose places
+-- are those of the tokens. The number is that of the text in the places of its tokens.
 pub record IsModuleOf (bytes : List ℕ) (number : ℕ) (tree : Module) : Type 0 where
   pub small : length bytes ≤ MODULE_BYTES
   pub tokens : List Token

@@ -58,8 +58,8 @@ module _ (instances : List Instance) (texts : List Text) where
     pub is_instance : slice_get instances number ≡ Some instance
     pub is_text : slice_get texts instance.text ≡ Some text
 
-  -- What a name stands for that is an argument of an open of the instance of this number: a sig of that name, which is the instance's
-  -- own or isn't private, or what the instance was itself given for the parameter of that name.
+  -- What a name stands for that is an argument of an open of the instance of this number: a sig of that name, which is the
+  -- instance's own or isn't private, or what the instance was itself given for the parameter of that name.
   pub data StandsFor (number : ℕ) (name : QualName) : Option SigRef → Type 0 where
     a_sig : (s : SigRef) (i : Instance) (t : Text) → IsInstanceOf s.instance i t → IsDeclared t.tree s.sig (last_part name.parts) (s.instance ≡ number) →
         StandsFor number name (Some s)

@@ -25,6 +25,7 @@ pub fn sig_count(tree: &Module) -> Result<usize, AllocError>
     Ok(total)
 }
 
+/// How many sigs a paragraph declares.
 fn sigs_in(paragraph: &Paragraph) -> Result<usize, AllocError>
     ensures { IfOk result (λ n. n ≡ sigs_in paragraph.now) }
 {
@@ -56,6 +57,7 @@ pub fn names_of(tree: &Module) -> Result<usize, AllocError>
     plus(parameter_count(tree), total)
 }
 
+/// How many names a paragraph declares.
 fn names_in(paragraph: &Paragraph) -> Result<usize, AllocError>
     ensures { IfOk result (λ n. n ≡ names_in paragraph.now) }
 {
@@ -81,6 +83,7 @@ fn field_names(sig: &Sig) -> Result<usize, AllocError>
     Ok(total)
 }
 
+/// How many parameters a list of them declares, where there is one.
 fn parameter_names(parameters: &Option<Parameters>) -> Result<usize, AllocError>
     ensures { IfOk result (λ n. MatchOption parameters.now (n ≡ 0)
         (λ p. n ≡ sum_by (λ d. length d.names) p.decls)) }
@@ -91,6 +94,7 @@ fn parameter_names(parameters: &Option<Parameters>) -> Result<usize, AllocError>
     }
 }
 
+/// How many names declarations declare.
 fn decl_names(decls: &[Decl<Expr>]) -> Result<usize, AllocError>
     ensures { IfOk result (λ n. n ≡ sum_by (λ d. length d.names) decls.now) }
 {

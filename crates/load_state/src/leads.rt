@@ -112,6 +112,7 @@ fn instance_at<'a>(instances: &'a [Instance], number: u32) -> Option<&'a Instanc
     instances.get(number as usize)
 }
 
+/// Whether two numbers are the same.
 fn is_same(a: u32, b: u32) -> bool
     ensures { result ≡ true → a ≡ b }
 {

@@ -36,11 +36,13 @@ impl Known {
         parameter: 0,
     };
 
+    /// Takes in that the parameter of this number has the name.
     fn add_parameter(&mut self, number: usize) {
         self.parameters = self.parameters.saturating_add(1);
         self.parameter = number;
     }
 
+    /// Takes in that the sig of this number has the name.
     fn add_sig(&mut self, number: u32, is_private: bool) {
         self.sigs = self.sigs.saturating_add(1);
         self.sig = number;
@@ -124,6 +126,7 @@ impl Table {
         self.declared.get(number as usize)
     }
 
+    /// Adds the parameters of the text.
     fn add_parameters(&mut self, alloc: Global, parameters: &[Parameter]) -> Result<(), AllocError>
         ensures enums { self.new.enums.items ≡ self.old.enums.items }
         ensures declared { self.new.declared.items ≡ self.old.declared.items }
@@ -137,6 +140,7 @@ impl Table {
         Ok(())
     }
 
+    /// Adds what a paragraph declares of sigs and enums.
     fn add_paragraph(&mut self, alloc: Global, paragraph: &Paragraph) -> Result<(), AllocError>
         ensures enums { OnOk result (self.new.enums.items ≡ self.old.enums.items
             ++ enum_in self.old.sigs paragraph.now) }
@@ -161,6 +165,7 @@ impl Table {
         }
     }
 
+    /// Adds sigs in turn.
     fn add_sigs(
         &mut self,
         alloc: Global,
@@ -204,6 +209,7 @@ fn has_private(qualifiers: &[Qualifier]) -> bool
     qualifiers.iter().any(|q| is_private(q))
 }
 
+/// Whether this is `private`.
 fn is_private(qualifier: &Qualifier) -> bool
     ensures { result ≡ declares.is_private qualifier.now }
 {

@@ -37,6 +37,7 @@ pub enum Settled {
     TooMany,
 }
 
+/// What the first of these means, if there is one.
 fn first(alloc: Global, all: &[Found]) -> Result<Option<Meaning>, AllocError> {
     match all {
         [one, ..] => Ok(Some(one.meaning.copy(alloc)?)),

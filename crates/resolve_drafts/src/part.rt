@@ -8,6 +8,7 @@ use base_lists::Items;
 use resolve_readings::{Binary, Meaning, Part, Unary};
 use std::alloc::{AllocError, Global};
 
+/// What each candidate means.
 fn meanings(alloc: Global, candidates: &[Candidate]) -> Result<Items<Meaning>, AllocError> {
     let mut all = Items::new(alloc);
     for candidate in candidates {

@@ -25,10 +25,12 @@ fn body_name(
     }
 }
 
+/// The join of two trees.
 fn joined(alloc: Global, left: Expr, right: Expr) -> Result<Expr, AllocError> {
     combined(alloc, RelationOp::Join, left, right)
 }
 
+/// The tree of an operator between two relations.
 fn combined(alloc: Global, op: RelationOp, left: Expr, right: Expr) -> Result<Expr, AllocError> {
     let left = Box::new(alloc, left)?;
     let right = Box::new(alloc, right)?;
@@ -82,6 +84,7 @@ fn name_tree(
     }
 }
 
+/// The tree of an operator on one relation.
 fn unary(alloc: Global, op: UnaryRelation, inner: Expr) -> Result<Built, AllocError> {
     let inner = Box::new(alloc, inner)?;
     Ok(Built::Term(Expr::Unary(op, inner)))
@@ -120,6 +123,7 @@ fn has_words(tree: &Expr) -> bool {
     }
 }
 
+/// The multiplicity that a word stands for.
 fn multiplicity_of(word: Word) -> Multiplicity {
     match word {
         Word::Set => Multiplicity::Set,
@@ -146,6 +150,7 @@ fn inside(
     }
 }
 
+/// `=` between two trees.
 fn equal(alloc: Global, left: Expr, right: Expr) -> Result<Formula, AllocError> {
     let left = Box::new(alloc, left)?;
     let right = Box::new(alloc, right)?;
@@ -201,6 +206,7 @@ enum Two {
     Neither,
 }
 
+/// Both trees, where both parts became expressions.
 fn both(left: Built, right: Built) -> Two {
     match (left, right) {
         (Built::Term(left), Built::Term(right)) => Two::Both(left, right),
@@ -208,6 +214,7 @@ fn both(left: Built, right: Built) -> Two {
     }
 }
 
+/// The tree of an arrow with its multiplicities.
 fn arrow(
     alloc: Global,
     first: Multiplicity,
@@ -224,6 +231,7 @@ fn arrow(
     }
 }
 
+/// The tree of an operator of arithmetic.
 fn arithmetic(alloc: Global, op: IntOp, two: Two) -> Result<Built, AllocError> {
     match two {
         Two::Neither => Ok(Built::Nothing),
@@ -235,6 +243,7 @@ fn arithmetic(alloc: Global, op: IntOp, two: Two) -> Result<Built, AllocError> {
     }
 }
 
+/// The tree of a comparison of integers.
 fn compared(alloc: Global, comparison: Comparison, two: Two) -> Result<Built, AllocError> {
     match two {
         Two::Neither => Ok(Built::Nothing),
@@ -246,6 +255,7 @@ fn compared(alloc: Global, comparison: Comparison, two: Two) -> Result<Built, Al
     }
 }
 
+/// The tree of a choice by a condition.
 fn choice_of(alloc: Global, condition: &Formula, two: Two) -> Result<Built, AllocError> {
     match two {
         Two::Neither => Ok(Built::Nothing),
@@ -258,6 +268,7 @@ fn choice_of(alloc: Global, condition: &Formula, two: Two) -> Result<Built, Allo
     }
 }
 
+/// The tree of a `let` whose body is an expression; of another body there is none.
 fn let_tree(alloc: Global, name: u32, value: &Expr, body: Built) -> Result<Built, AllocError> {
     match body {
         Built::Term(body) => {

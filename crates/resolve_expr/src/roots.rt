@@ -25,6 +25,7 @@ pub struct Resolved {
     pub columns: Columns,
 }
 
+/// An operator on a draft.
 pub fn single(alloc: Global, operator: Unary, inner: Draft) -> Result<Draft, AllocError> {
     Ok(Draft::Single(operator, Box::new(alloc, inner)?))
 }
@@ -41,6 +42,7 @@ pub fn draft_of(alloc: Global, piece: Piece) -> Result<Draft, AllocError> {
     }
 }
 
+/// Adds the calls of a reading; none where types alone are wanted.
 fn add_calls(
     setting: &Setting<'_>,
     state: &mut State,

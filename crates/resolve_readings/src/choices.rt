@@ -153,6 +153,7 @@ fn extended(
     }
 }
 
+/// Whether there is just one choice. Where it says so, there is.
 fn is_one(all: &[Found]) -> bool
     ensures { IsTrue result → (x : _) × (all.now ≡ x ∷ []) }
 {

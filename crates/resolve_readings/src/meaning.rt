@@ -13,7 +13,8 @@ pub enum What {
     Set(Columns),
     /// A call of a predicate.
     Formula,
-    /// A body that waits for arguments: the parameters that are left, of which there is at least one, and its result, None of a predicate.
+    /// A body that waits for arguments: the parameters that are left, of which there is at least one, and its result, None of a
+    /// predicate.
     Waiting(Items<Columns>, Option<Columns>),
 }
 

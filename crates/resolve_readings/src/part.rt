@@ -105,7 +105,7 @@ fn first_operand(part: Part) -> Option<Part> {
 
 impl Part {
     /// Drops the part from the top. A drop by itself takes stack for each level, and a row of
-    /// operators is as deep as it is long.
+    /// operators is as deep as it is long. A right operand is dropped whole: S11 keeps it at 250 levels.
     pub fn put_away(self) {
         let mut rest = self;
         for _turn in 0..usize::MAX {

@@ -1,4 +1,4 @@
--- Lemmas and their proofs; nothing to read here.
+-- Lemmas on what one item more adds, to a list that a test maps and to pairs of two lists.
 use Rattle.std.proofs.Common.{◌≡◌, ℕ, ◌+◌, ◌<◌, List, [], ◌∷◌, ◌++◌, Option, length, get_or, take, sym, ◌∙◌, ap, append_assoc, append-nil}
 use Rattle.std.specs.List.{filter_map, cons_option}
 use Rattle.std.proofs.lemmas.List.{take_more}

@@ -3,7 +3,8 @@ use Rattle.std.specs.Prelude.{ℕ, zero, suc, ◌<◌, ◌≤◌, ◌≡◌, ℤ
 use Rattle.std.specs.List.{sum_by}
 use Rattle.sat_trail.specs.Literal.{index, sign, IsLiteral}
 
--- the true literals in the order in which they were put, the value of each variable, and the level and the reason that it was last given
+-- the true literals in the order in which they were put, the value of each variable, and the level and the reason that it was
+-- last given
 pub record Assignment : Type 0 where
   pub trail : List ℤ
   pub values : List ℤ

@@ -3,7 +3,8 @@ use Rattle.std.specs.Prelude.{ℕ, ◌+◌, ◌-◌, ◌<◌, ◌≡◌, ℤ, Li
 use Rattle.sat_trail.specs.Assignment.{Assignment}
 use Rattle.sat_trail.specs.Watched.{start_of}
 
--- the clauses, one after another with the place after each; the assignment; and how many literals were true when each level was opened
+-- the clauses, one after another with the place after each; the assignment; and how many literals were true when each level was
+-- opened
 pub record Search : Type 0 where
   pub literals : List ℤ
   pub ends : List ℕ

@@ -77,7 +77,8 @@ fn turn(
     None
 }
 
-/// Propagates the true literals from a place on, and gives the place reached and the number of a clause that is false, if there is one.
+/// Propagates the true literals from a place on, and gives the place reached and the number of a clause that is false, if there
+/// is one.
 pub fn advance(
     arena: &Arena,
     watches: &mut Watches,
@@ -121,7 +122,8 @@ pub fn advance(
     (done, None)
 }
 
-/// Propagates the clauses without two different literals from a place on, and gives the place reached and the number of one that is false.
+/// Propagates the clauses without two different literals from a place on, and gives the place reached and the number of one that
+/// is false.
 pub fn advance_short(
     arena: &Arena,
     short: &[usize],

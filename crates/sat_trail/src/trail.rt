@@ -256,7 +256,8 @@ impl Trail {
         }
     }
 
-    /// Makes true what the clauses force, with the clause as its reason, and gives the number of a clause that is false, if there is one.
+    /// Makes true what the clauses force, with the clause as its reason, and gives the number of a clause that is false, if there
+    /// is one.
     pub fn propagate(&mut self) -> Option<u64>
         ensures clauses { (self.new.literals ≡ self.old.literals) × (self.new.ends ≡ self.old.ends)
             × (self.new.variables ≡ self.old.variables) }

@@ -59,7 +59,8 @@ all_separated mark f g same xs = said_separated mark (map f xs) ∙ ap (sp.separ
 pub all_joined : {A : Type 0} (f : A → Pieces) (g : A → Spelled) → ((x : A) → said (f x) ≡ g x) → (xs : List A) → said (joined (map f xs)) ≡ sp.joined (map g xs)
 all_joined f g same xs = said_joined (map f xs) ∙ ap sp.joined (each f g same xs)
 
--- Lists whose parts come from others: `bare` leaves a fact away, `f` and `h` put the pieces and the words in place of each expression.
+-- Lists whose parts come from others: `bare` leaves a fact away, `f` and `h` put the pieces and the words in place of each
+-- expression.
 module _ {A B C D : Type 0} (bare : A → B) (f : B → C) (kept : C → Pieces) (h : B → D) (words : D → Spelled) (same : (x : A) → said (kept (f (bare x))) ≡ words (h (bare x))) where
   each_of : (xs : List A) → map said (map kept (map f (map bare xs))) ≡ map words (map h (map bare xs))
   each_of [] = refl

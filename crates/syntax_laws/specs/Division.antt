@@ -30,8 +30,8 @@ symbol_said text = entry_of symbols text
 abbrev pub literal_said : Text → Option TokenKind
 literal_said z = when (slice_index z (inside_len z) == 34 && length z == inside_len z + 1) (kind.Literal (take (inside_len z) z))
 
--- What a text says that is one token as a whole: a name or a reserved word, a number of any length, a literal or a symbol. The tests
--- say whether its first byte is a letter, a digit, a quote.
+-- What a text says that is one token as a whole: a name or a reserved word, a number of any length, a literal or a symbol. The
+-- tests say whether its first byte is a letter, a digit, a quote.
 abbrev pub told_by : Bool → Bool → Bool → Text → Option TokenKind
 told_by true digit quote z = when (name_len z == length z) (word_kind z)
 told_by false true quote z = when (digits_len z == length z) (kind.Number (value z))
@@ -69,8 +69,8 @@ abbrev pub IsShort : TokenKind → ℕ → Type 0
 IsShort (kind.Number v) n = n ≤ 9
 IsShort _ n = Unit {0}
 
--- The piece at the front of the text has so many bytes, and says this token or none: a blank is a piece alone, a comment goes to the
--- end of its line or to the next `*/`.
+-- The piece at the front of the text has so many bytes, and says this token or none: a blank is a piece alone, a comment goes to
+-- the end of its line or to the next `*/`.
 pub data IsPiece (z : Text) (n : ℕ) (said : Option TokenKind) : Type 0 where
   a_blank : beginning z ≡ blank → n ≡ 1 → said ≡ None → IsPiece z n said
   a_line : beginning z ≡ line_comment → n ≡ line_len z → said ≡ None → IsPiece z n said

@@ -167,8 +167,8 @@ implication c t = record (node 4 (may_lead 5 c && may_end 4 t) c t t.has_zero) {
 abbrev pub choice : Shape → Shape → Shape → Shape
 choice c t e = node 4 (may_lead 5 c && may_lead 4 t && not t.is_bare && may_end 4 e) c e (t.has_zero || e.has_zero)
 
--- The right operand of a comparison. After `in` a multiplicity word belongs to the bound, so that the operand of a plain `in` doesn't
--- begin with one.
+-- The right operand of a comparison. After `in` a multiplicity word belongs to the bound, so that the operand of a plain `in`
+-- doesn't begin with one.
 abbrev pub may_compare : Comparison → Shape → Bool
 may_compare c x = if is_some c.word then is_in c.comparator && may_bound x else (if is_in c.comparator then may_end 10 x && not x.is_worded else may_end 9 x)
 

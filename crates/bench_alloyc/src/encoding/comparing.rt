@@ -92,8 +92,8 @@ fn add_parts(
     Ok(all_hold)
 }
 
-/// Takes in what is judged of one lasso. The first root says that the scopes are kept, the next ones that the declarations hold, and
-/// the rest that each fact and the command hold.
+/// Takes in what is judged of one lasso. The first root says that the scopes are kept, the next ones that the declarations hold,
+/// and the rest that each fact and the command hold.
 fn add_lasso(
     alloc: Global,
     asked: &Question,

@@ -238,6 +238,7 @@ struct Uppers {
     more_pairs: TupleSet,
 }
 
+/// The sets of no atom and of three, and the pairs of two atoms and of three.
 fn make_uppers(alloc: Global) -> Result<Uppers, EvaluationFault> {
     Ok(Uppers {
         none: all_atoms(alloc, 0)?,
@@ -247,6 +248,7 @@ fn make_uppers(alloc: Global) -> Result<Uppers, EvaluationFault> {
     })
 }
 
+/// Adds the line of an operator on all sets within two others.
 fn add_operator<G: Readable>(
     alloc: Global,
     lines: &mut Vec<Line>,
@@ -260,6 +262,7 @@ fn add_operator<G: Readable>(
     Ok(())
 }
 
+/// Adds the line of a test of all sets within two others.
 fn add_question<G: Readable>(
     alloc: Global,
     lines: &mut Vec<Line>,

@@ -23,6 +23,7 @@ pub fn shelf_of(rt: &(impl Files + AllocGlobal), row: &Row) -> Result<Shelf> {
     Ok(shelf)
 }
 
+/// The text of a file of a row: what stands at a path, or so many blanks.
 fn text_of(rt: &(impl Files + AllocGlobal), held: &Held) -> Result<Vec<u8>> {
     Ok(match held.origin {
         Origin::Path(path) => fs::read(rt, path)?,
@@ -57,6 +58,7 @@ pub fn answer_to(
     Ok((status, out))
 }
 
+/// The words of a line.
 fn words_of(alloc: Global, line: &str) -> Result<Vec<String>, AllocError> {
     let mut words = Vec::new(alloc);
     for word in line.split(' ') {
