@@ -149,6 +149,11 @@ class Builds:
                 self.done.add(crate.name)
                 self.left.remove(crate)
 
+    def is_long(self, crate):
+        """Whether the longest chain from a crate up takes more than an equal share of the processors of what is left."""
+        left = sum(it.count(rb"\n") for it in [*self.left, *self.running.values()])
+        return self.above[crate.name] * self.rt.processors() > left
+
     def needs(self, crate, jobs):
         return max(EACH * (1 + JOB * (jobs - 1)), self.peaks.get(crate.name, 0))
 
@@ -160,8 +165,10 @@ class Builds:
             room = self.most - sum(self.needs(it, self.jobs[child]) for child, it in self.running.items())
             if idle < 1 or self.running and self.needs(crate, 1) > room:
                 return
-            # (a crate gets the processors that no other waits for)
-            jobs = max(1, min(4, idle // (len(ready) - at)))
+            # (a crate gets the processors that no other waits for; the first one two, where what stands above it is longer
+            # than an equal share of all that is left)
+            jobs = max(2 if at == 0 and self.is_long(crate) else 1, idle // (len(ready) - at))
+            jobs = min(4, idle, jobs)
             while jobs > 1 and self.needs(crate, jobs) > room:
                 jobs -= 1
             self.start(crate, jobs)
