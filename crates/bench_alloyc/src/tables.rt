@@ -16,6 +16,9 @@
 //! | `lying N` | there is one chooser, which always picks N |
 //! | `libraries memory` | the library that the analyser brings along is left away |
 //! | `show PART` | this part of the answer is printed, in place of the whole (see [`row::Show`]) |
+//!
+//! The last line says how many rows there were, and how many of them were answered by status 5: by want of memory, or since
+//! a result failed the analyser's own test.
 
 mod answer;
 mod parts;
@@ -26,23 +29,44 @@ use anyhow::Result;
 use std::fs;
 use std::rt::Files;
 
-/// Runs the rows of a table.
-fn run_table(rt: &(impl Files + Print + AllocGlobal), table: &str) -> Result<()> {
+/// How many rows were run, and how many of them had no answer.
+#[derive(Clone, Copy)]
+struct Count {
+    rows: usize,
+    unanswered: usize,
+}
+
+/// Runs the rows of a table, and counts them with those before.
+fn run_table(
+    rt: &(impl Files + Print + AllocGlobal),
+    table: &str,
+    before: Count,
+) -> Result<Count> {
+    let mut count = before;
     let text = fs::read_to_string(rt, table)?;
     for line in text.lines() {
         if line.is_empty() || line.starts_with('#') {
             continue;
         }
         let row = row::read_row(rt.alloc(), line)?;
-        tell::tell_row(rt, &row)?;
+        let status = tell::tell_row(rt, &row)?;
+        count.rows = count.rows.saturating_add(1);
+        if status == 5 {
+            count.unanswered = count.unanswered.saturating_add(1);
+        }
     }
-    Ok(())
+    Ok(count)
 }
 
 /// Runs the rows of each table that the words name.
 pub fn run(rt: &(impl Files + Print + AllocGlobal), words: &[String]) -> Result<u8> {
+    let mut count = Count {
+        rows: 0,
+        unanswered: 0,
+    };
     for table in words {
-        run_table(rt, table.as_str())?;
+        count = run_table(rt, table.as_str(), count)?;
     }
+    println!(rt; "rows {}, with status 5: {}", count.rows, count.unanswered)?;
     Ok(0)
 }

@@ -7,16 +7,23 @@ use anyhow::{Context, Result};
 use std::rt::Files;
 use std::str;
 
-/// Runs a row and prints its block: the name, the status and what the row shows.
-pub fn tell_row(rt: &(impl Files + Print + AllocGlobal), row: &Row) -> Result<()> {
+/// Runs a row and prints its block: the name, the status and what the row shows. It gives the status.
+pub fn tell_row(rt: &(impl Files + Print + AllocGlobal), row: &Row) -> Result<u8> {
     let shelf = shelf_of(rt, row)?;
     let (status, out) = answer_to(rt.alloc(), row.words, shelf, row)?;
     let text = str::from_utf8(out.got())?;
     println!(rt; "== {}", row.name)?;
     if row.shows.is_empty() {
-        return tell_whole(rt, status, text);
+        tell_whole(rt, status, text)?;
+    } else {
+        println!(rt; "status {status}")?;
+        tell_shown(rt, row, text)?;
     }
-    println!(rt; "status {status}")?;
+    Ok(status)
+}
+
+/// Prints what a row shows of an answer.
+fn tell_shown(rt: &(impl Files + Print + AllocGlobal), row: &Row, text: &str) -> Result<()> {
     for show in &row.shows {
         match show {
             Show::Status => {}
