@@ -15,16 +15,15 @@
 //! printed, with status 2. The program ends with the greatest status of its modes.
 #![tactic(auto)]
 
-mod circuits;
 mod dimacs;
 mod encoding;
-mod operations;
 mod parser;
 mod same;
 mod stages;
 mod tables;
 
 use anyhow::Result;
+use bench_gates::{circuits, operations};
 use std::env;
 use std::process::ExitCode;
 

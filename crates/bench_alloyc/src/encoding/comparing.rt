@@ -1,8 +1,8 @@
 //! Compares the roots of a circuit with the judgements of the evaluator.
 
 use crate::encoding::values::low_bits;
-use crate::operations::reading::{among, gate_values};
 use base_types::Assignment;
+use bench_gates::{among, gate_values};
 use bmc_encoder::{Encoded, encode};
 use bound_uppers::{Bounds, decode, layout};
 use core_meaning::{Lasso, Scopes, Target};

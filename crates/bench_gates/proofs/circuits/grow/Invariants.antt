@@ -1,5 +1,5 @@
 use Rattle.gate_trait.specs.Circuit.{BelongsTo}
-use Rattle.bench_alloyc.proofs.circuits.grow.Given as goal
+use Rattle.bench_gates.proofs.circuits.grow.Given as goal
 
 -- the last two nodes belong
 abbrev pub invariant-loop-number : goal.invariant-loop-number

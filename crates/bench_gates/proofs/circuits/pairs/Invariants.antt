@@ -3,7 +3,7 @@ use Rattle.gate_trait.specs.declared.node.Node.{Node}
 use Rattle.gate_trait.specs.Circuit.{BelongsTo}
 use Rattle.gate_matrix.specs.Matrices.{AllBelong}
 use Rattle.gate_closure.specs.Walks.{IsBelow}
-use Rattle.bench_alloyc.proofs.circuits.pairs.Given as goal
+use Rattle.bench_gates.proofs.circuits.pairs.Given as goal
 
 -- the nodes of the pairs so far belong, and older nodes still do
 abbrev pub invariant-loop-from : goal.invariant-loop-from

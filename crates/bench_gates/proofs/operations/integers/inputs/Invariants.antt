@@ -1,5 +1,5 @@
 use Rattle.gate_trait.specs.Built.{Keeps, AllIn}
-use Rattle.bench_alloyc.proofs.operations.integers.inputs.Given as goal
+use Rattle.bench_gates.proofs.operations.integers.inputs.Given as goal
 
 abbrev pub invariant-loop-place : goal.invariant-loop-place
 invariant-loop-place g l =
