@@ -54,9 +54,13 @@ pub fn reading_is_of_the_text()
 
 /// A law: a line that is read is the line of what it gave.
 pub fn lines_are_read()
-    ensures header { (line : List ℕ) (count start : ℕ) → header_of line ≡ Some (count, start) → line ≡ codes "trace states " ++ decimal count ++ codes " loop " ++ decimal start }
-    ensures state { (number : ℕ) (line : List ℕ) → is_state_line number line ≡ true → line ≡ codes "state " ++ decimal number }
-    ensures relation { (labels : Labels) (r : RelationLabel) (line : List ℕ) (set : TupleList) → line_set labels.atoms r line ≡ Some set → line ≡ r.label ++ codes " =" ++ tuples_text labels.atoms set.tuples }
+    ensures header { (line : List ℕ) (count start : ℕ) → header_of line ≡ Some (count, start) →
+        line ≡ codes "trace states " ++ decimal count ++ codes " loop " ++ decimal start }
+    ensures state { (number : ℕ) (line : List ℕ) → is_state_line number line ≡ true →
+        line ≡ codes "state " ++ decimal number }
+    ensures relation { (labels : Labels) (r : RelationLabel) (line : List ℕ) (set : TupleList) →
+        line_set labels.atoms r line ≡ Some set →
+        line ≡ r.label ++ codes " =" ++ tuples_text labels.atoms set.tuples }
 {}
 
 /// A law: the line that `read_trace` names is the first at which no text of a lasso of the labels has all lines up to it.
