@@ -3,7 +3,9 @@
 
 Each crate is proved as `rt ci` proves it, from nothing and once, without its tests and edits: a library as its statements
 alone, which is all that the crates above load. So each takes 1 to 2 GB. As many are at work as there are processors, as
-far as 8 GB hold them, or what is free of memory where that is less; where fewer are ready, one gets up to four processors.
+far as 8 GB hold them, or what is free of memory where that is less; where fewer are ready, one gets up to four processors,
+and the first of the longest chain gets two where that chain is longer than an equal share of what is left.
+
 A crate that an earlier start built of the same text over the same libraries is left as it is, and one that `rt ci` passed
 on this machine is taken from what it kept, as `rt ci` later takes what is built here.
 
@@ -135,30 +137,35 @@ class Builds:
         self.done, self.seen, self.running, self.jobs, self.begun, self.peaks, self.failed = set(), {}, {}, {}, set(), {}, []
         self.most = min(MOST, int(0.85 * rt.free()))
         # (a crate is first that has the longest chain of others above it)
-        self.above = {}
+        self.above, self.lines, self.below = {}, {}, {}
         for crate in reversed(crates):
-            own = crate.count(rb"\n") + self.above.get(crate.name, 0)
+            self.lines[crate.name] = crate.count(rb"\n")
+            self.below[crate.name] = [it.name for it in crate.below()]
+            own = self.lines[crate.name] + self.above.get(crate.name, 0)
             self.above[crate.name] = own
-            for it in crate.below():
-                self.above[it.name] = max(self.above.get(it.name, 0), own)
+            for name in self.below[crate.name]:
+                self.above[name] = max(self.above.get(name, 0), own)
 
     def note_built(self):
         """Takes out of what is left the crates that are built already, lowest first."""
         for crate in self.left[:]:
-            if all(it.name in self.done for it in crate.below()) and is_built(self.rt, crate, self.seen):
+            if self.is_ready(crate) and is_built(self.rt, crate, self.seen):
                 self.done.add(crate.name)
                 self.left.remove(crate)
 
+    def is_ready(self, crate):
+        return all(it in self.done for it in self.below[crate.name])
+
     def is_long(self, crate):
-        """Whether the longest chain from a crate up takes more than an equal share of the processors of what is left."""
-        left = sum(it.count(rb"\n") for it in [*self.left, *self.running.values()])
+        """Whether the longest chain from a crate up has more lines than an equal share of the processors of all that is left."""
+        left = sum(self.lines[it.name] for it in [*self.left, *self.running.values()])
         return self.above[crate.name] * self.rt.processors() > left
 
     def needs(self, crate, jobs):
         return max(EACH * (1 + JOB * (jobs - 1)), self.peaks.get(crate.name, 0))
 
     def start_some(self):
-        ready = [it for it in self.left if all(below.name in self.done for below in it.below())]
+        ready = [it for it in self.left if self.is_ready(it)]
         ready.sort(key=lambda it: -self.above[it.name])
         for at, crate in enumerate(ready):
             idle = self.rt.processors() - sum(self.jobs[it] for it in self.running)
