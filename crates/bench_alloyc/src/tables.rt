@@ -37,11 +37,7 @@ struct Count {
 }
 
 /// Runs the rows of a table, and counts them with those before.
-fn run_table(
-    rt: &(impl Files + Print + AllocGlobal),
-    table: &str,
-    before: Count,
-) -> Result<Count> {
+fn run_table(rt: &(impl Files + Print + AllocGlobal), table: &str, before: Count) -> Result<Count> {
     let mut count = before;
     let text = fs::read_to_string(rt, table)?;
     for line in text.lines() {
