@@ -98,6 +98,28 @@ until_split F G b zero m k i j e f = until_index F G b k m i j (omega arith) (om
 until_split F G b (suc n) m zero i j e f = absurd (omega arith)
 until_split F G b (suc n) m (suc k) i j e f = ap (λ (c : Bool). G i || (F i && c)) (until_split F G b n m k (i + 1) j (omega arith) (omega arith))
 
+-- what holds with nothing behind holds with the truth behind
+until_more : (F G : ℕ → Bool) (n i : ℕ) → IsTrue (until_to F G false n i) → IsTrue (until_to F G true n i)
+until_more F G zero i e = absurd cc
+until_more F G (suc n) i e = elim ((or_and (G i) (F i) (until_to F G false n (i + 1))).0 e) [
+  | inl g ↦ (or_and (G i) (F i) (until_to F G true n (i + 1))).1 (inl g)
+  | inr p ↦ (or_and (G i) (F i) (until_to F G true n (i + 1))).1 (inr (p.0, until_more F G n (i + 1) p.1))
+]
+
+-- a second round finds no more than the first
+until_again : (F G : ℕ → Bool) (n i : ℕ) (b : Bool) → b ≡ until_to F G false n i → until_to F G b n i ≡ b
+until_again F G n i false e = sym e
+until_again F G n i true e = until_more F G n i (sym e)
+
+-- up to the place where rounds begin one pass is enough
+pub until_once : (F G : ℕ → Bool) (first len i : ℕ) (last : Bool) → i ≤ first → first ≤ len → last ≡ until_to F G false (len - first) first → until_to F G false (len - i) i ≡ until_to F G last (len - i) i
+until_once F G first len i last low inside el =
+    let m : ℕ = len - first in
+    let n : ℕ = first - i in
+    until_split F G false n m (len - i) i first (omega arith) (omega arith)
+    ∙ ap (λ (b : Bool). until_to F G b n i) (sym el ∙ sym (until_again F G m first last el))
+    ∙ sym (until_split F G last n m (len - i) i first (omega arith) (omega arith))
+
 pub fold_inside : (first round i : ℕ) → i < first + round → folded first round i ≡ i
 fold_inside first round i lt = sym (cond_below i (first + round) i _ lt)
 

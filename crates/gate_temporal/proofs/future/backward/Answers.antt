@@ -17,7 +17,7 @@ loop-place-preserved g c =
     let p = c.in_ok-push.ensures.ok in
     let s = c.in_ok-next.ensures.ok in
     let len : ℕ = length c.args.f.now in
-    let some : 0 < place = omega arith in
+    let some : c.args.from < place = omega arith in
     let inside = before.inside in
     let step = λ (x : ℕ → Bool). until_step (row_value (value first x) c.args.f.now) (row_value (value first x) c.args.g.now) (value first x c.args.last) (len - place) (len - (place - 1)) (place - 1) place _ _ _ _ (s.gives x)
     (here_value belongs value first now before.keeps c.args.f.now c.requires.f_belongs (place - 1) c.node.result c.node.ensures x)
@@ -29,6 +29,7 @@ loop-place-preserved g c =
       there = there_more belongs value now after c.step.ensures.keeps c.loop-place.row c.push.new.self _ p before.there s.there;
       next = s.there;
       inside = omega arith;
+      from = omega arith;
       long = long_more c.loop-place.row c.push.new.self _ (len - place) p before.long ∙ sym more;
       here = step;
       values = λ x k lt. values_more belongs value now after c.step.ensures.keeps c.loop-place.row c.push.new.self _ (len - place) p before.there before.long x
@@ -41,4 +42,5 @@ returns-clause-values g c =
     let value = g.G.Gates.node_value in
     let first = c.args.gates.now in
     let len : ℕ = length c.args.f.now in
-    λ x i lt. c.loop-place.invariant.values x (len - i - 1) (omega arith) ∙ until_index (row_value (value first x) c.args.f.now) (row_value (value first x) c.args.g.now) (value first x c.args.last) (len - i - 1 + 1) (len - i) (len - (len - i - 1) - 1) i (omega arith) (omega arith)
+    let low = c.loop-place.invariant.from in
+    λ x i far lt. c.loop-place.invariant.values x (len - i - 1) (omega arith) ∙ until_index (row_value (value first x) c.args.f.now) (row_value (value first x) c.args.g.now) (value first x c.args.last) (len - i - 1 + 1) (len - i) (len - (len - i - 1) - 1) i (omega arith) (omega arith)

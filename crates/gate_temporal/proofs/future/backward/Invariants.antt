@@ -14,6 +14,7 @@ invariant-loop-place g l =
       there : AllIn (belongs l.gates) l.row;
       next : belongs l.gates l.next;
       inside : l.place ≤ length l.f;
+      from : l.fn.from ≤ l.place;
       long : length l.row ≡ length l.f - l.place;
       here : (x : ℕ → Bool) → value l.gates x l.next ≡ until_to (row_value (value l.initial.gates x) l.f) (row_value (value l.initial.gates x) l.g) (value l.initial.gates x l.fn.last) (length l.f - l.place) l.place;
       values : (x : ℕ → Bool) (k : ℕ) → k < length l.f - l.place → row_value (value l.gates x) l.row k ≡ until_to (row_value (value l.initial.gates x) l.f) (row_value (value l.initial.gates x) l.g) (value l.initial.gates x l.fn.last) (k + 1) (length l.f - k - 1);

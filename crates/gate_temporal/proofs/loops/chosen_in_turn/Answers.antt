@@ -2,7 +2,7 @@ use Rattle.std.proofs.Common.{length, arith}
 use Rattle.gate_temporal.specs.Rows.{row_value}
 use Rattle.gate_temporal.proofs.Kept.{keeps_trans, here_value}
 use Rattle.gate_temporal.proofs.LoopLaws.{choose_more}
-use Rattle.gate_temporal.proofs.loops.chosen.Goals as goal
+use Rattle.gate_temporal.proofs.loops.chosen_in_turn.Goals as goal
 
 pub loop-place-preserved : goal.loop-place-preserved
 loop-place-preserved g c =

@@ -1,7 +1,7 @@
 use Rattle.std.proofs.Common.{◌≡◌, ◌<◌, ℕ, Bool}
 use Rattle.gate_trait.specs.Built.{Keeps}
 use Rattle.gate_temporal.specs.Rows.{row_value, IsOnly}
-use Rattle.gate_temporal.proofs.loops.chosen.Given as goal
+use Rattle.gate_temporal.proofs.loops.chosen_in_turn.Given as goal
 
 -- the choices so far
 abbrev pub invariant-loop-place : goal.invariant-loop-place
