@@ -16,7 +16,7 @@ use Rattle.core_tuples.proofs.OrderLemmas.{above, same_tuple}
 use Rattle.core_tuples.proofs.OrderedLemmas.{same_exact, or_false, sorted_back, head_below, below_all, set_without, set_with}
 use Rattle.gate_matrix.specs.declared.entry.Entry.{Entry}
 use Rattle.gate_matrix.specs.declared.merge.Rule.{Rule}
-use Rattle.gate_matrix.specs.declared.merge.Rule.TheVariants.{Union, Intersection, Difference}
+use Rattle.gate_matrix.specs.declared.merge.Rule.TheVariants.{Union, Intersection, Difference, Exclusive}
 use Rattle.gate_matrix.specs.Matrices.{MatrixEntries, IsMatrix, tuples_of, truth_of, truth, has, AllBelong}
 use Rattle.gate_matrix.specs.Merged.{combine, OptionComputes, entries_of}
 use Rattle.gate_matrix.proofs.BasicLemmas.{open_entry, tuples_append, keeps_trans, has_kept, belong_kept, head_all, tail_all, all_here, matrix_from_set, set_from_matrix}
@@ -27,6 +27,7 @@ combine_none : (rule : Rule) → combine rule false false ≡ false
 combine_none Union = refl
 combine_none Intersection = refl
 combine_none Difference = refl
+combine_none Exclusive = refl
 
 -- what a step does at the tuple itself, and elsewhere
 kept_here : (rule : Rule) (s v w a b c h : Bool) → (s ≡ true → a ≡ false) → (s ≡ true → b ≡ false) → c ≡ combine rule v w → (h || (s && c)) || combine rule a b ≡ h || combine rule ((s && v) || a) ((s && w) || b)

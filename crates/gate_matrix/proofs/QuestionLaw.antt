@@ -7,7 +7,7 @@ use Rattle.std.specs.List.Sorted.{IsStrictlySortedBy}
 use Rattle.std.proofs.lemmas.Bool.{cases_Bool, true≢false, false≢true}
 use Rattle.std.proofs.lemmas.List.Folds.{Any-from_list_any, list_any_at, list_any-append}
 use Rattle.gate_trait.specs.declared.node.Node.{Node}
-use Rattle.gate_trait.specs.Built.{Keeps, Computes}
+use Rattle.gate_trait.specs.Built.{Keeps, Computes, xor}
 use Rattle.core_tuples.specs.Sets.{tuple_cmp, is_same}
 use Rattle.core_tuples.proofs.OrderedLemmas.{both, apart, same_exact, same_itself}
 use Rattle.gate_matrix.specs.declared.entry.Entry.{Entry}
@@ -172,16 +172,28 @@ inside_law value after a b rest outside none is some same = (
   ]),
 )
 
-pub equal_means : (value : Node → Bool) (a b : MatrixEntries) → (IsInside value a b × IsInside value b a) ↔ IsEqual value a b
-equal_means value a b = (
-  (λ h t. same (truth value a t) (truth value b t) (h.0 t) (h.1 t)),
-  (λ h. ((λ t e. sym (h t) ∙ e), (λ t e. h t ∙ e))),
+-- nothing in just one of two sets is to have them equal
+pub equal_law : (value after : Node → Bool) (a b rest : MatrixEntries) (different none : Bool) → none ≡ not different → ((different ≡ true) ↔ HasSome after rest) → ((t : List ℕ) → truth after rest t ≡ xor (truth value a t) (truth value b t)) → ((none ≡ true) ↔ IsEqual value a b)
+equal_law value after a b rest different none is some same = (
+  (λ (q : none ≡ true). λ (t : List ℕ). same_of (truth value a t) (truth value b t) (λ p.
+      let o = some.1 (t, same t ∙ p) in false≢true (ap not (sym o) ∙ sym is ∙ q))),
+  (λ (q : IsEqual value a b). elim (cases_Bool different) [
+    | inl is_true ↦ let s = some.0 is_true in absurd (never (truth value a s.0) (truth value b s.0) (q s.0) (sym (same s.0) ∙ s.1))
+    | inr is_false ↦ is ∙ ap not is_false
+  ]),
 )
   where
-    same : (a b : Bool) → (a ≡ true → b ≡ true) → (b ≡ true → a ≡ true) → a ≡ b
-    same true b f g = sym (f refl)
-    same false true f g = g refl
-    same false false f g = refl
+    same_of : (v w : Bool) → (xor v w ≡ true → ⊥) → v ≡ w
+    same_of true true f = refl
+    same_of true false f = absurd (f refl)
+    same_of false true f = absurd (f refl)
+    same_of false false f = refl
+
+    never : (v w : Bool) → v ≡ w → xor v w ≡ true → ⊥
+    never true true e h = false≢true h
+    never true false e h = true≢false e
+    never false true e h = false≢true e
+    never false false e h = false≢true h
 
 -- ---- answers as nodes
 
@@ -200,19 +212,6 @@ node_belongs (Err e) belongs value h meaning c = tt
 -- a test by other words
 pub through : (b c : Bool) (P : Type 0) → b ≡ c → (c ≡ true) ↔ P → (b ≡ true) ↔ P
 through b c P e h = ((λ f. h.0 (sym e ∙ f)), (λ p. e ∙ h.1 p))
-
-pub inside_kept : (value after : Node → Bool) (a b : MatrixEntries) → ((t : List ℕ) → truth after a t ≡ truth value a t) → ((t : List ℕ) → truth after b t ≡ truth value b t) → IsInside after a b ↔ IsInside value a b
-inside_kept value after a b e f = (
-  (λ h t p. sym (f t) ∙ h t (e t ∙ p)),
-  (λ h t p. f t ∙ h t (sym (e t) ∙ p)),
-)
-
--- both are inside each other just where they are equal
-pub equal_made : (value : Node → Bool) (a b : MatrixEntries) (first second : Bool) → (first ≡ true) ↔ IsInside value a b → (second ≡ true) ↔ IsInside value b a → (first && second ≡ true) ↔ IsEqual value a b
-equal_made value a b first second p q =
-    let one = one_means first second (IsInside value a b) (IsInside value b a) p q in
-    let same = equal_means value a b in
-    ((λ h. same.0 (one.0 h)), (λ e. one.1 (same.1 e)))
 
 -- a node that may be wanting, as a node
 pub node_made : {S : Type 0} (belongs : S → Node → Type 0) (value : S → (ℕ → Bool) → Node → Bool) (h : S) (o : Option Node) (n : Node) (meaning : (ℕ → Bool) → Bool) → OptionComputes belongs value h o meaning → o ≡ Some n → Computes belongs value h n meaning

@@ -1,8 +1,8 @@
-//! Union, intersection and difference: one walk along both matrices.
+//! Union, intersection, difference and symmetric difference: one walk along both matrices.
 
 ghost use Rattle.std.specs.Prelude.{◌≡◌, ◌≤◌, ◌++◌, ℕ, Bool, List, ◌&&◌, ◌||◌, not, All, drop, length, IfOk, OnOk, Some, None};
 ghost use Rattle.std.specs.Option.{ForSome};
-ghost use Rattle.gate_trait.specs.Built.{Keeps};
+ghost use Rattle.gate_trait.specs.Built.{Keeps, xor};
 ghost use Rattle.core_tuples.specs.Merged.{heads};
 ghost use Rattle.gate_matrix.specs.Matrices.{AllBelong, IsMatrix, truth, truth_of, has, tuples_of};
 ghost use Rattle.gate_matrix.specs.Merged.{combine, OptionComputes, IsAdded, entries_of};
@@ -23,6 +23,8 @@ pub enum Rule {
     Intersection,
     /// Those that are in the first set and not in the second.
     Difference,
+    /// Those that are in just one of the sets.
+    Exclusive,
 }
 
 /// The node, unless it is the constant false.
@@ -69,6 +71,12 @@ fn combined<G: Gates>(
             Ok(unless_false(gates, node))
         }
         (Rule::Difference, Some(a), None) => Ok(Some(a)),
+        (Rule::Exclusive, Some(a), Some(b)) => {
+            let node = gates.xor(a, b)?;
+            Ok(unless_false(gates, node))
+        }
+        (Rule::Exclusive, None, other) => Ok(other),
+        (Rule::Exclusive, Some(a), None) => Ok(Some(a)),
         (_, _, _) => Ok(None),
     }
 }
@@ -258,6 +266,32 @@ pub fn difference<G: Gates>(
         gates,
         a.arity(),
         Rule::Difference,
+        a.entries(),
+        b.entries(),
+    )
+}
+
+/// The tuples that are in just one of two sets.
+pub(crate) fn exclusive<G: Gates>(
+    alloc: Global,
+    gates: &mut G,
+    a: &Matrix,
+    b: &Matrix,
+) -> Result<Matrix, AllocError>
+    requires a_belongs { AllBelong (G.belongs gates.old) a.now.entries }
+    requires b_belongs { AllBelong (G.belongs gates.old) b.now.entries }
+    requires arities { a.now.arity ≡ b.now.arity }
+    ensures keeps { Keeps G.belongs G.node_value gates.old gates.new }
+    ensures belongs { IfOk result (λ m. AllBelong (G.belongs gates.new) m.entries) }
+    ensures truth { IfOk result (λ m. (x : ℕ → Bool) (t : List ℕ) →
+        truth (G.node_value gates.new x) m t
+        ≡ xor (truth (G.node_value gates.old x) a.now t) (truth (G.node_value gates.old x) b.now t)) }
+{
+    merge(
+        alloc,
+        gates,
+        a.arity(),
+        Rule::Exclusive,
         a.entries(),
         b.entries(),
     )

@@ -9,7 +9,7 @@ ghost use Rattle.gate_matrix.specs.Questions.{HasSome, HasLone, HasOne, IsInside
 use crate::entry::Entry;
 use crate::gather::any_of;
 use crate::matrix::Matrix;
-use crate::merge::difference;
+use crate::merge::{difference, exclusive};
 use gate_trait::{Gates, Node};
 use std::alloc::{AllocError, Global};
 
@@ -73,9 +73,9 @@ pub fn equal<G: Gates>(
     ensures truth { IfOk result (λ n. (x : ℕ → Bool) → (G.node_value gates.new x n ≡ true)
         ↔ IsEqual (G.node_value gates.old x) a.now b.now) }
 {
-    let first = inside(alloc, gates, a, b)?;
-    let second = inside(alloc, gates, b, a)?;
-    gates.and(first, second)
+    let rest = exclusive(alloc, gates, a, b)?;
+    let different = some(alloc, gates, &rest)?;
+    Ok(gates.not(different))
 }
 
 /// Whether some entry's node is true, and whether the nodes of two are.

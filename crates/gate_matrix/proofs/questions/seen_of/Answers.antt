@@ -4,7 +4,7 @@ use Rattle.gate_matrix.specs.declared.entry.Entry.{Entry}
 use Rattle.gate_matrix.specs.Matrices.{truth}
 use Rattle.gate_matrix.specs.Questions.{HasSome, HasLone, HasOne, IsInside, IsEqual, more_than_one}
 use Rattle.gate_matrix.proofs.BasicLemmas.{keeps_trans, all_here, any_more}
-use Rattle.gate_matrix.proofs.QuestionLaw.{some_means, lone_means, one_means, inside_law, equal_made, inside_kept, question_made, computed, node_belongs, through, more_step}
+use Rattle.gate_matrix.proofs.QuestionLaw.{some_means, lone_means, one_means, inside_law, question_made, computed, node_belongs, through, more_step}
 use Rattle.gate_matrix.proofs.FoundLemmas.{truth_kept}
 use Rattle.gate_matrix.proofs.questions.seen_of.Goals as goal
 
