@@ -1,5 +1,5 @@
 -- Lemmas on entries, and on circuits that grow.
-use Rattle.std.proofs.Common.{◌≡◌, ℕ, suc, zero, ◌+◌, ◌-◌, ◌<◌, Bool, true, false, ◌&&◌, ◌||◌, List, [], ◌∷◌, ◌++◌, length, get_or, take, drop, map, All, Option, Some, None, Result, Ok, Err, IfOk, OnOk, sym, ap, ◌∙◌, refl, arith, subst, inl, inr, cond, drop-cons, add-one, length-drop, take_all}
+use Rattle.std.proofs.Common.{◌≡◌, ℕ, suc, zero, ◌+◌, ◌-◌, ◌<◌, Bool, true, false, ◌&&◌, ◌||◌, List, [], ◌∷◌, ◌++◌, length, get_or, take, drop, All, Option, Some, None, sym, ap, ◌∙◌, refl, arith, subst, inl, inr, cond, drop-cons, add-one, length-drop, take_all}
 use Rattle.std.specs.Option.{ForSome}
 use Rattle.std.specs.List.{list_any, AllByRecursion}
 use Rattle.std.proofs.lemmas.Bool.{cases_Bool}
@@ -7,11 +7,11 @@ use Rattle.std.proofs.lemmas.List.Elements.{recursion_from_All, All-from_recursi
 use Rattle.std.proofs.lemmas.List.Folds.{list_any_more, list_any-append}
 use Rattle.gate_trait.specs.declared.node.Node.{Node}
 use Rattle.gate_trait.specs.Built.{Keeps}
-use Rattle.core_tuples.specs.Sets.{tuple_cmp, is_same, IsTupleSet}
+use Rattle.core_tuples.specs.Sets.{is_same, IsTupleSet}
 use Rattle.core_tuples.specs.Index.{IsNumber}
-use Rattle.core_tuples.proofs.OrderedLemmas.{same_exact, or_false}
+use Rattle.core_tuples.proofs.OrderedLemmas.{or_false}
 use Rattle.gate_matrix.specs.declared.entry.Entry.{Entry}
-use Rattle.gate_matrix.specs.Matrices.{MatrixEntries, IsMatrix, tuples_of, node_at, truth_of, truth, has, AllBelong}
+use Rattle.gate_matrix.specs.Matrices.{IsMatrix, tuples_of, node_at, truth_of, has, AllBelong}
 
 -- ---- lists
 

@@ -1,20 +1,19 @@
 -- What the entries that are joined say of the join.
-use Rattle.std.proofs.Common.{◌≡◌, ℕ, zero, suc, ◌+◌, ◌-◌, ◌<◌, ◌≤◌, Bool, true, false, ◌&&◌, ◌||◌, eqb, List, [], ◌∷◌, ◌++◌, length, take, drop, get_or, refl, sym, ◌∙◌, ap, subst, arith, All, length-append, length-drop, take_all, Option, Some, cond, inl, inr, Result, Ok, Err, IfOk, ◌↔◌}
+use Rattle.std.proofs.Common.{◌≡◌, ℕ, suc, ◌+◌, ◌-◌, ◌<◌, ◌≤◌, Bool, true, ◌&&◌, ◌||◌, eqb, List, [], ◌∷◌, ◌++◌, length, take, drop, get_or, refl, sym, ◌∙◌, ap, subst, arith, All, length-append, length-drop, Result, Ok, Err, IfOk, ◌↔◌}
 use Rattle.std.specs.List.{list_any}
 use Rattle.std.proofs.lemmas.List.Elements.{All-take, All-drop, All-append}
 use Rattle.std.proofs.lemmas.List.Folds.{Any-from_list_any, list_any_at}
-use Rattle.std.proofs.lemmas.Bool.{cases_Bool}
 use Rattle.std.proofs.lemmas.Bool.Decides.{nat_tests}
 use Rattle.gate_trait.specs.declared.node.Node.{Node}
 use Rattle.gate_trait.specs.Built.{Keeps}
 use Rattle.core_tuples.specs.Index.{FitsIndex, IsNumber}
-use Rattle.core_tuples.specs.Sets.{tuple_cmp, is_same}
+use Rattle.core_tuples.specs.Sets.{is_same}
 use Rattle.core_tuples.proofs.OrderedLemmas.{both, same_exact, same_itself}
 use Rattle.gate_matrix.specs.declared.entry.Entry.{Entry}
-use Rattle.gate_matrix.specs.Matrices.{AllBelong, MatrixEntries, IsMatrix, node_at, truth, truth_of, has, has_row}
+use Rattle.gate_matrix.specs.Matrices.{AllBelong, MatrixEntries, IsMatrix, truth, has_row}
 use Rattle.gate_matrix.specs.Joined.{first_of, last_of, front_of, has_join, has_pair, has_turned, IsJoined, IsPaired, IsTurned}
 use Rattle.gate_matrix.proofs.BasicLemmas.{head_all, tail_all, all_here}
-use Rattle.gate_matrix.proofs.FoundLemmas.{node_here, found_entry, truth_here}
+use Rattle.gate_matrix.proofs.FoundLemmas.{found_entry, truth_here}
 
 pub two_values : {a b c d : Bool} → a ≡ c → b ≡ d → a && b ≡ c && d
 two_values e f = cc

@@ -1,13 +1,12 @@
 -- A merge of two matrices, step by step.
-use Rattle.std.proofs.Common.{◌≡◌, ◌⊎◌, ℕ, ◌+◌, ◌<◌, ◌≤◌, Bool, true, false, not, ◌&&◌, ◌||◌, List, [], ◌∷◌, ◌++◌, length, get_or, drop, All, Option, Some, None, Result, Ok, Err, IfOk, sym, ap, ◌∙◌, refl, arith, subst, inl, inr, append_assoc, length-drop}
+use Rattle.std.proofs.Common.{◌≡◌, ◌⊎◌, ℕ, ◌+◌, ◌<◌, ◌≤◌, Bool, true, false, ◌&&◌, ◌||◌, List, [], ◌∷◌, ◌++◌, length, get_or, drop, Option, Some, None, Result, Ok, Err, IfOk, sym, ap, ◌∙◌, refl, arith, subst, inl, inr, append_assoc, length-drop}
 use Rattle.std.specs.declared.cmp.Ordering.{Ordering}
 use Rattle.std.specs.declared.cmp.Ordering.TheVariants.{Less, Equal, Greater}
-use Rattle.std.specs.List.{AllByRecursion, list_any}
+use Rattle.std.specs.List.{AllByRecursion}
 use Rattle.std.specs.List.Sorted.{IsStrictlySortedBy}
 use Rattle.std.proofs.lemmas.Bool.{cases_lt}
 use Rattle.std.proofs.lemmas.List.{append-nil, drop_all}
-use Rattle.std.proofs.lemmas.List.Elements.{All-append, All-nil, All-cons}
-use Rattle.std.proofs.lemmas.List.Folds.{list_any-append}
+use Rattle.std.proofs.lemmas.List.Elements.{All-nil}
 use Rattle.gate_trait.specs.declared.node.Node.{Node}
 use Rattle.gate_trait.specs.Built.{Keeps}
 use Rattle.core_tuples.specs.Sets.{tuple_cmp, is_same, IsTupleSet}
@@ -19,7 +18,7 @@ use Rattle.gate_matrix.specs.declared.merge.Rule.{Rule}
 use Rattle.gate_matrix.specs.declared.merge.Rule.TheVariants.{Union, Intersection, Difference, Exclusive}
 use Rattle.gate_matrix.specs.Matrices.{MatrixEntries, IsMatrix, tuples_of, truth_of, truth, has, AllBelong}
 use Rattle.gate_matrix.specs.Merged.{combine, OptionComputes, entries_of}
-use Rattle.gate_matrix.proofs.BasicLemmas.{open_entry, tuples_append, keeps_trans, has_kept, belong_kept, head_all, tail_all, all_here, matrix_from_set, set_from_matrix}
+use Rattle.gate_matrix.proofs.BasicLemmas.{open_entry, tuples_append, keeps_trans, has_kept, belong_kept, all_here, matrix_from_set, set_from_matrix}
 use Rattle.gate_matrix.proofs.FoundLemmas.{no_more, has_truth}
 use Rattle.gate_matrix.proofs.AddedLemmas.{and_false, has_more, belong_more}
 

@@ -1,22 +1,21 @@
 -- Where a tuple stands among entries in order, and what a node that is put changes.
-use Rattle.std.proofs.Common.{◌≡◌, ◌⊎◌, ℕ, zero, suc, ◌+◌, ◌<◌, List, [], ◌∷◌, ◌++◌, length, get_or, set, take, drop, All, Bool, true, false, cond, Option, Some, None, Result, Ok, Err, OnOk, OnErr, Contains, refl, sym, ◌∙◌, ap, subst, inl, inr, arith, map, if◌then◌else◌}
+use Rattle.std.proofs.Common.{◌≡◌, ◌⊎◌, ℕ, zero, suc, ◌+◌, ◌<◌, List, [], ◌∷◌, ◌++◌, length, get_or, set, take, drop, All, Bool, false, cond, Option, Some, None, Result, Ok, Err, OnOk, OnErr, Contains, refl, sym, ◌∙◌, ap, subst, inl, inr, arith}
 use Rattle.std.specs.declared.cmp.Ordering.TheVariants.{Less, Equal, Greater}
 use Rattle.std.specs.Ordering.{is_eq}
 use Rattle.std.specs.List.{AllWithin, AllByRecursion, slice_get, insert}
 use Rattle.std.specs.List.Sorted.{IsStrictlySortedBy}
-use Rattle.std.proofs.lemmas.Bool.{cases_lt, cases_Bool, true≢false}
+use Rattle.std.proofs.lemmas.Bool.{cases_lt, cases_Bool}
 use Rattle.std.proofs.lemmas.Option.{slice_get_within}
-use Rattle.std.proofs.lemmas.List.{append-nil}
-use Rattle.std.proofs.lemmas.List.Elements.{All-set, All-append, All-take, All-drop, All-cons, All-weaker, All-contains_itself, All-contains}
+use Rattle.std.proofs.lemmas.List.Elements.{All-set, All-append, All-take, All-drop, All-cons, All-weaker, All-contains_itself}
 use Rattle.gate_trait.specs.declared.node.Node.{Node}
 use Rattle.core_tuples.specs.Index.{IsNumber}
 use Rattle.core_tuples.specs.Sets.{tuple_cmp, is_same, IsGap, IsTupleSet}
-use Rattle.core_tuples.proofs.OrderLemmas.{all_below, all_above, same_tuple, set_insert, cons_here, cons_later}
-use Rattle.core_tuples.proofs.OrderedLemmas.{same_at, same_exact, same_itself, apart}
+use Rattle.core_tuples.proofs.OrderLemmas.{all_below, all_above, same_tuple, set_insert}
+use Rattle.core_tuples.proofs.OrderedLemmas.{same_at, same_exact, apart}
 use Rattle.gate_matrix.specs.declared.entry.Entry.{Entry}
 use Rattle.gate_matrix.specs.Matrices.{MatrixEntries, IsMatrix, tuples_of, node_at, IsPut}
 use Rattle.gate_matrix.proofs.BasicLemmas.{length_tuples, tuples_append, set_from_matrix, matrix_from_set, head_all, tail_all}
-use Rattle.gate_matrix.proofs.FoundLemmas.{node_here, rec_at}
+use Rattle.gate_matrix.proofs.FoundLemmas.{node_here}
 
 -- the tuple of the entry at a place
 pub tuple_at : (es : List Entry) (i : ℕ) (d : List ℕ) (e : Entry) → i < length es → e ≡ get_or es i e → get_or (tuples_of es) i d ≡ e.tuple

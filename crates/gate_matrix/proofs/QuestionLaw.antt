@@ -1,5 +1,5 @@
 -- What the nodes of a matrix's entries say of its set.
-use Rattle.std.proofs.Common.{◌≡◌, ◌↔◌, ℕ, suc, zero, ◌+◌, ◌<◌, Bool, true, false, not, ◌&&◌, ◌||◌, List, [], ◌∷◌, ◌++◌, length, get_or, take, All, Option, Some, None, refl, sym, ◌∙◌, ap, subst, arith, inl, inr, ◌⊎◌, Result, Ok, Err, IfOk, if◌then◌else◌}
+use Rattle.std.proofs.Common.{◌≡◌, ◌↔◌, ℕ, ◌+◌, ◌<◌, Bool, true, false, not, ◌&&◌, ◌||◌, List, [], ◌∷◌, ◌++◌, length, get_or, take, Option, Some, None, refl, sym, ◌∙◌, ap, subst, inl, inr, ◌⊎◌, Result, Ok, Err, IfOk, if◌then◌else◌}
 use Rattle.std.proofs.lemmas.List.{take_more}
 use Rattle.std.specs.declared.cmp.Ordering.TheVariants.{Less}
 use Rattle.std.specs.List.{list_any, AllByRecursion}
@@ -7,14 +7,13 @@ use Rattle.std.specs.List.Sorted.{IsStrictlySortedBy}
 use Rattle.std.proofs.lemmas.Bool.{cases_Bool, true≢false, false≢true}
 use Rattle.std.proofs.lemmas.List.Folds.{Any-from_list_any, list_any_at, list_any-append}
 use Rattle.gate_trait.specs.declared.node.Node.{Node}
-use Rattle.gate_trait.specs.Built.{Keeps, Computes, xor}
+use Rattle.gate_trait.specs.Built.{Computes, xor}
 use Rattle.core_tuples.specs.Sets.{tuple_cmp, is_same}
 use Rattle.core_tuples.proofs.OrderedLemmas.{both, apart, same_exact, same_itself}
 use Rattle.gate_matrix.specs.declared.entry.Entry.{Entry}
-use Rattle.gate_matrix.specs.Matrices.{MatrixEntries, IsMatrix, tuples_of, node_at, truth, truth_of, AllBelong}
+use Rattle.gate_matrix.specs.Matrices.{MatrixEntries, IsMatrix, tuples_of, node_at, truth, truth_of}
 use Rattle.gate_matrix.specs.Merged.{OptionComputes}
-use Rattle.gate_matrix.specs.Questions.{HasSome, HasLone, HasOne, IsInside, IsEqual, more_than_one}
-use Rattle.gate_matrix.proofs.BasicLemmas.{or_joined, option_kept, found_belongs}
+use Rattle.gate_matrix.specs.Questions.{HasSome, HasLone, IsInside, IsEqual, more_than_one}
 use Rattle.gate_matrix.proofs.FoundLemmas.{rec_at, node_here, found_entry, truth_here}
 
 module _ (value : Node → Bool) (m : MatrixEntries) (i : IsMatrix m) where

@@ -1,6 +1,7 @@
 -- Rows while a circuit grows.
-use Rattle.std.proofs.Common.{◌≡◌, ◌⊎◌, ℕ, zero, suc, ◌+◌, ◌<◌, Bool, List, [], ◌∷◌, ◌++◌, length, All, Some, refl, sym, ◌∙◌, ap, subst, arith, slice_get, length-append, Contains, inl, inr, Result, Ok, Err, IfOk}
+use Rattle.std.proofs.Common.{◌≡◌, ◌⊎◌, ℕ, zero, suc, ◌+◌, ◌<◌, Bool, List, [], ◌∷◌, ◌++◌, length, All, Some, refl, sym, ◌∙◌, ap, subst, arith, slice_get, get_or, length-append, Contains, inl, inr, Result, Ok, Err, IfOk}
 use Rattle.std.proofs.lemmas.Bool.{cases_lt}
+use Rattle.std.proofs.lemmas.List.{get_or_default}
 use Rattle.std.proofs.lemmas.Option.{slice_get_within, get_or_from_slice_get}
 use Rattle.std.proofs.lemmas.List.Elements.{All-append}
 use Rattle.gate_trait.specs.declared.node.Node.{Node}
@@ -92,6 +93,9 @@ here_belongs belongs value g h keeps row all k n at = keeps.belong n (all_get (b
 
 pub contains_get : (row : List Node) (k : ℕ) (n : Node) → slice_get row k ≡ Some n → Contains row n
 contains_get row k n at = (k, slice_get_within row k n at, get_or_from_slice_get row k n n at)
+
+pub all_self : (row : List Node) → All (λ n. Contains row n) row
+all_self row k d lt = (k, lt, get_or_default row k (get_or row k d) d lt)
 
 -- nodes that all come from a row belong where those of the row do
 pub all_from : (P : Node → Type 0) (row new : List Node) → AllIn P row → All (λ n. Contains row n) new → AllIn P new

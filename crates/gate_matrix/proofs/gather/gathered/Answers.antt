@@ -1,4 +1,4 @@
-use Rattle.std.proofs.Common.{rules, ◌≡◌, ◌&&◌, ℕ, List, All, length, sym, ap, ◌∙◌, IfOk, Bool, subst}
+use Rattle.std.proofs.Common.{rules, ◌≡◌, ◌&&◌, List, All, length, sym, ap, ◌∙◌}
 use Rattle.std.proofs.lemmas.List.Sorted.{All-permutation, IsNonDecreasingBy-from_sort_by_key, list_any-IsPermutation}
 use Rattle.core_tuples.specs.Index.{IsNumber, index_of}
 use Rattle.core_tuples.specs.Sets.{is_same}

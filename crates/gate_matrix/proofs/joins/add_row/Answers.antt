@@ -1,10 +1,9 @@
-use Rattle.std.proofs.Common.{◌≡◌, ◌≤◌, ◌+◌, ◌-◌, ◌++◌, ◌∷◌, [], ◌&&◌, ◌||◌, ℕ, Bool, List, length, drop, ap, sym, ◌∙◌, subst, All, length-append, length-drop}
+use Rattle.std.proofs.Common.{◌≡◌, ◌+◌, ◌-◌, ◌++◌, ◌&&◌, ℕ, Bool, List, length, drop, ap, sym, ◌∙◌, subst, All, length-append, length-drop}
 use Rattle.std.proofs.lemmas.List.Elements.{All-push}
-use Rattle.gate_trait.specs.Built.{Keeps}
 use Rattle.core_tuples.specs.Index.{IsNumber, FitsIndex}
 use Rattle.core_tuples.specs.Sets.{is_same}
 use Rattle.gate_matrix.specs.declared.entry.Entry.{Entry}
-use Rattle.gate_matrix.specs.Matrices.{AllBelong, has, has_row}
+use Rattle.gate_matrix.specs.Matrices.{AllBelong, has}
 use Rattle.gate_matrix.proofs.BasicLemmas.{keeps_trans, all_here, any_step, any_push, slice_from, has_kept, belong_kept}
 use Rattle.gate_matrix.proofs.JoinLaw.{two_values}
 use Rattle.gate_matrix.proofs.joins.add_row.Goals as goal

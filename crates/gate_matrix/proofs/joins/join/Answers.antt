@@ -1,13 +1,13 @@
-use Rattle.std.proofs.Common.{arith, ◌≡◌, ◌≤◌, ◌+◌, ◌-◌, ◌++◌, ◌∷◌, [], ◌&&◌, eqb, ℕ, List, All, Bool, length, drop, take, get_or, ap, sym, subst, refl, ◌∙◌, length-take, take_all}
+use Rattle.std.proofs.Common.{arith, ◌≡◌, ◌≤◌, ◌+◌, ◌-◌, ◌++◌, ◌&&◌, eqb, ℕ, List, All, length, drop, take, ap, ◌∙◌, length-take, take_all}
 use Rattle.std.specs.List.{list_any}
-use Rattle.std.proofs.lemmas.List.Elements.{All-take, All-push}
+use Rattle.std.proofs.lemmas.List.Elements.{All-take}
 use Rattle.core_tuples.specs.Index.{IsNumber}
 use Rattle.core_tuples.specs.Sets.{is_same}
 use Rattle.gate_matrix.specs.declared.entry.Entry.{Entry}
 use Rattle.gate_matrix.specs.Matrices.{AllBelong, has}
-use Rattle.gate_matrix.specs.Joined.{first_of, last_of, front_of, has_join, has_pair, has_turned, IsJoined, IsPaired, IsTurned}
-use Rattle.gate_matrix.proofs.BasicLemmas.{keeps_trans, all_here, all_as, any_more, any_push, has_kept, belong_kept}
-use Rattle.gate_matrix.proofs.JoinLaw.{part_all, glued_fits, glued_columns, entry_fits, join_row, pair_row, joined_means, paired_means, turned_means, gathered_made}
+use Rattle.gate_matrix.specs.Joined.{first_of, last_of, front_of, has_join, IsJoined}
+use Rattle.gate_matrix.proofs.BasicLemmas.{keeps_trans, all_here, all_as, any_more, belong_kept}
+use Rattle.gate_matrix.proofs.JoinLaw.{part_all, glued_fits, glued_columns, entry_fits, join_row, joined_means, gathered_made}
 use Rattle.gate_matrix.proofs.MergeLaw.{arity_as}
 use Rattle.gate_matrix.proofs.joins.join.Goals as goal
 

@@ -1,5 +1,4 @@
-use Rattle.std.proofs.Common.{◌≡◌, ◌+◌, ◌-◌, ℕ, Bool, List, length, take, All}
-use Rattle.gate_trait.specs.Built.{Keeps}
+use Rattle.std.proofs.Common.{◌≡◌, ℕ, Bool, List, length, take, All}
 use Rattle.core_tuples.specs.Index.{IsNumber}
 use Rattle.gate_matrix.specs.Matrices.{AllBelong, has}
 use Rattle.gate_matrix.specs.Joined.{has_turned}

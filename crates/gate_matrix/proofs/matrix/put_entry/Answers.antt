@@ -1,9 +1,9 @@
-use Rattle.std.proofs.Common.{◌≡◌, ℕ, List, All, length, get_or, set, ap, sym, ◌∙◌, subst, Some}
-use Rattle.std.specs.List.{slice_get, insert}
+use Rattle.std.proofs.Common.{◌≡◌, ℕ, List, All, length, ap, sym, ◌∙◌, subst, Some}
+use Rattle.std.specs.List.{slice_get}
 use Rattle.core_tuples.specs.Index.{IsNumber}
 use Rattle.core_tuples.specs.Sets.{IsGap}
 use Rattle.gate_matrix.specs.declared.entry.Entry.{Entry}
-use Rattle.gate_matrix.specs.Matrices.{MatrixEntries, IsMatrix, IsPut, tuples_of}
+use Rattle.gate_matrix.specs.Matrices.{IsMatrix, IsPut, tuples_of}
 use Rattle.gate_matrix.proofs.PlaceLaw.{found_here, matrix_set, put_set, matrix_insert, put_insert}
 use Rattle.gate_matrix.proofs.matrix.put_entry.Goals as goal
 

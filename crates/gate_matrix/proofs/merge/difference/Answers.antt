@@ -1,4 +1,3 @@
-use Rattle.std.proofs.Common.{◌≡◌, ap, sym, subst, ℕ, IfOk}
 use Rattle.gate_matrix.specs.declared.merge.Rule.TheVariants.{Difference}
 use Rattle.gate_matrix.proofs.MergeLaw.{merged_made, arity_as}
 use Rattle.gate_matrix.proofs.merge.difference.Goals as goal

@@ -1,4 +1,3 @@
-use Rattle.std.proofs.Common.{◌≡◌, ap, sym, subst, ℕ, IfOk}
 use Rattle.gate_matrix.specs.declared.merge.Rule.TheVariants.{Exclusive}
 use Rattle.gate_matrix.proofs.MergeLaw.{merged_made}
 use Rattle.gate_matrix.proofs.merge.exclusive.Goals as goal

@@ -1,4 +1,4 @@
-use Rattle.std.proofs.Common.{arith, ap, ◌∙◌, ◌≡◌, ◌⊎◌, ◌<◌, ◌≤◌, ◌+◌, List, sym, inl, inr, length, subst, drop}
+use Rattle.std.proofs.Common.{arith, ap, ◌∙◌, ◌⊎◌, ◌<◌, ◌+◌, List, sym, inl, inr, length, subst, drop}
 use Rattle.gate_matrix.specs.declared.entry.Entry.{Entry}
 use Rattle.gate_matrix.specs.Matrices.{MatrixEntries, truth}
 use Rattle.gate_matrix.proofs.MergeLaw.{Merging, first_at, second_at, both_at, less_within, greater_within, equal_within, merging_none, merged_matrix, merged_truth}

@@ -1,4 +1,4 @@
-use Rattle.std.proofs.Common.{arith, ◌≡◌, ◌+◌, ◌-◌, ◌/◌, sym, ap, ◌∙◌}
+use Rattle.std.proofs.Common.{arith, ◌+◌, ◌-◌, ◌/◌, sym, ap, ◌∙◌}
 use Rattle.core_tuples.specs.Index.{index_of}
 use Rattle.gate_matrix.proofs.PlaceLaw.{less_here, greater_here, equal_here}
 use Rattle.gate_matrix.proofs.place.place_of.Goals as goal

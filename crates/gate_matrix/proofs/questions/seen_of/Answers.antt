@@ -1,11 +1,9 @@
-use Rattle.std.proofs.Common.{◌≡◌, ◌↔◌, ◌&&◌, ◌||◌, not, ℕ, Bool, List, take, length, ap, sym, subst, ◌∙◌, refl, arith, take_all}
+use Rattle.std.proofs.Common.{◌&&◌, ◌||◌, take, ap, sym, ◌∙◌}
 use Rattle.std.specs.List.{list_any}
 use Rattle.gate_matrix.specs.declared.entry.Entry.{Entry}
-use Rattle.gate_matrix.specs.Matrices.{truth}
-use Rattle.gate_matrix.specs.Questions.{HasSome, HasLone, HasOne, IsInside, IsEqual, more_than_one}
+use Rattle.gate_matrix.specs.Questions.{more_than_one}
 use Rattle.gate_matrix.proofs.BasicLemmas.{keeps_trans, all_here, any_more}
-use Rattle.gate_matrix.proofs.QuestionLaw.{some_means, lone_means, one_means, inside_law, question_made, computed, node_belongs, through, more_step}
-use Rattle.gate_matrix.proofs.FoundLemmas.{truth_kept}
+use Rattle.gate_matrix.proofs.QuestionLaw.{more_step}
 use Rattle.gate_matrix.proofs.questions.seen_of.Goals as goal
 
 pub loop-entry-preserved : goal.loop-entry-preserved

@@ -1,4 +1,4 @@
-use Rattle.std.proofs.Common.{ℕ, Bool, take}
+use Rattle.std.proofs.Common.{take}
 use Rattle.std.specs.List.{list_any}
 use Rattle.gate_trait.specs.Built.{Keeps}
 use Rattle.gate_matrix.specs.Questions.{BothCompute, more_than_one}

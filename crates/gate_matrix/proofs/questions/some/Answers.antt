@@ -1,11 +1,8 @@
-use Rattle.std.proofs.Common.{◌≡◌, ◌↔◌, ◌&&◌, not, ℕ, Bool, List, take, length, ap, sym, subst, ◌∙◌, refl, arith, take_all}
+use Rattle.std.proofs.Common.{List, ap}
 use Rattle.std.specs.List.{list_any}
 use Rattle.gate_matrix.specs.declared.entry.Entry.{Entry}
-use Rattle.gate_matrix.specs.Matrices.{truth}
-use Rattle.gate_matrix.specs.Questions.{HasSome, HasLone, HasOne, IsInside, IsEqual, more_than_one}
-use Rattle.gate_matrix.proofs.BasicLemmas.{keeps_trans, all_here, any_more}
-use Rattle.gate_matrix.proofs.QuestionLaw.{some_means, lone_means, one_means, inside_law, question_made, computed, node_belongs, through, more_step}
-use Rattle.gate_matrix.proofs.FoundLemmas.{truth_kept}
+use Rattle.gate_matrix.specs.Questions.{HasSome}
+use Rattle.gate_matrix.proofs.QuestionLaw.{some_means, question_made, computed, node_belongs, through}
 use Rattle.gate_matrix.proofs.questions.some.Goals as goal
 
 pub returns-clause-belongs : goal.returns-clause-belongs

@@ -1,9 +1,22 @@
-use Rattle.std.proofs.Common.{◌≡◌, ◌<◌, ◌≤◌, ◌⊎◌, ◌++◌, ◌∷◌, [], ℕ, List, length, All, Contains, sym, ◌∙◌, ap, subst, inl, inr, arith}
+use Rattle.std.proofs.Common.{◌≡◌, ◌⊎◌, ℕ, List, length, All, Contains, sym, ◌∙◌, ap, subst, inl, inr, refl, arith}
 use Rattle.std.proofs.lemmas.Bool.{cases_lt}
 use Rattle.gate_trait.specs.declared.node.Node.{Node}
 use Rattle.gate_temporal.specs.Rows.{row_value}
-use Rattle.gate_temporal.proofs.Kept.{value_get, push_before, push_last, long_more, contains_get, all_push}
+use Rattle.gate_temporal.proofs.Kept.{value_get, push_before, push_last, long_more, contains_get, all_push, all_self}
 use Rattle.gate_temporal.proofs.future.gone_on.Goals as goal
+
+pub loop-place-init : goal.loop-place-init
+loop-place-init c =
+    let row = c.args.row in
+    let other = c.args.other.now in
+    let start : c.len-start.result ≡ length row = c.len-start.ensures in
+    record {
+      long = sym start;
+      low = omega (arith, start);
+      same = λ k d lt. inl (all_self row k d lt);
+      front = λ value i lt. refl;
+      rest = λ value i far lt. absurd (omega (arith, start));
+    }
 
 pub loop-place-preserved : goal.loop-place-preserved
 loop-place-preserved c =

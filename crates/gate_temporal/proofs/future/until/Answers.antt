@@ -1,4 +1,4 @@
-use Rattle.std.proofs.Common.{◌≡◌, ◌<◌, ◌≤◌, ◌-◌, ℕ, Bool, false, List, length, All, Contains, sym, ◌∙◌, ap, inl, inr, arith, slice_get}
+use Rattle.std.proofs.Common.{◌≡◌, ◌<◌, ◌+◌, ◌-◌, ℕ, Bool, List, length, All, Contains, sym, ◌∙◌, ap, inl, inr, arith, slice_get}
 use Rattle.std.proofs.lemmas.Bool.{cases_lt}
 use Rattle.gate_trait.specs.declared.node.Node.{Node}
 use Rattle.gate_temporal.specs.Rows.{row_value}
@@ -41,6 +41,7 @@ returns-clause-truth g c =
     let once_long : length once ≡ len - 0 = c.in_ok-once.ensures.length in
     let later_long : length later ≡ len - (start + 1) = c.in_ok-later.ensures.length in
     let long : length twice ≡ length once = c.in_ok-twice.ensures.length in
+    let all : length twice ≡ len = omega (arith, long, once_long) in
     let F = λ (x : ℕ → Bool). row_value (value first x) f in
     let H = λ (x : ℕ → Bool). row_value (value first x) h in
     let last = λ (x : ℕ → Bool). value middle x c.node-round.result in
@@ -50,7 +51,7 @@ returns-clause-truth g c =
     let round = λ (x : ℕ → Bool).
     sym (value_get (value middle x) once (len - start - 1) c.node-round.result (ap (λ (k : ℕ). slice_get once (k - start - 1)) (sym c.len.ensures) ∙ c.node-round.ensures))
     ∙ passed x start loops in
-    let rows = λ (x : ℕ → Bool) (i : ℕ) (lt : i < len).
+    let rows : (x : ℕ → Bool) (i : ℕ) → i < len → row_value (value after x) twice (len - i - 1) ≡ until_to (F x) (H x) (last x) (len - i) i = λ x i lt.
     elim (cases_lt start i) [
       | inl far ↦
           c.in_ok-twice.ensures.front (value after x) (len - i - 1) (omega arith)
@@ -64,5 +65,5 @@ returns-clause-truth g c =
     ] in
     if_ok_to (λ (row : List Node). (v : Node → Bool) (i : ℕ) → i < length twice → row_value v row i ≡ row_value v twice (length twice - i - 1)) _
     (λ row same x i lt. until_passes (value first x) f h start i _ (last x) c.requires.lengths loops lt (round x)
-    (same (value after x) i (omega arith) ∙ ap (λ (k : ℕ). row_value (value after x) twice (k - i - 1)) (long ∙ once_long) ∙ rows x i lt))
+    (same (value after x) i (omega arith) ∙ ap (λ (k : ℕ). row_value (value after x) twice (k - i - 1)) all ∙ rows x i lt))
     c.reversed.result c.reversed.ensures.values

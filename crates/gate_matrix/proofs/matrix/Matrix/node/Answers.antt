@@ -1,6 +1,5 @@
-use Rattle.std.proofs.Common.{◌≡◌, ℕ, Bool, List, All, length, sym, ap, ◌∙◌, subst, Option, None}
+use Rattle.std.proofs.Common.{◌≡◌, All, length, sym, ap, ◌∙◌}
 use Rattle.std.proofs.lemmas.Bool.{false≢true}
-use Rattle.gate_trait.specs.declared.node.Node.{Node}
 use Rattle.core_tuples.specs.Index.{IsNumber}
 use Rattle.gate_matrix.specs.Matrices.{MatrixEntries, node_at}
 use Rattle.gate_matrix.proofs.PlaceLaw.{none_outside}

@@ -1,4 +1,4 @@
-use Rattle.std.proofs.Common.{◌≡◌, ℕ, List, length, ap, sym, ◌∙◌, subst, OnOk}
+use Rattle.std.proofs.Common.{◌≡◌, ℕ, length, ap, sym, ◌∙◌, subst, OnOk}
 use Rattle.gate_matrix.specs.Matrices.{MatrixEntries, IsMatrix, IsPut}
 use Rattle.gate_matrix.proofs.PlaceLaw.{still_matrix}
 use Rattle.gate_matrix.proofs.matrix.Matrix.put.Goals as goal
