@@ -1,7 +1,7 @@
 -- The clauses that define the gates say what the circuit says.
 use Rattle.std.proofs.Common.{◌≡◌, ℕ, zero, suc, ◌+◌, ◌<◌, ◌≤◌, Bool, true, false, ◌&&◌, ◌||◌, cond, eqb, leb, List, [], ◌∷◌, ◌++◌, length, drop, map, get_or, get_or-drop, Option, Some, None, refl, sym, ◌∙◌, ap, subst, arith, inl, inr, All, pos, neg_ℤ, ℤ}
 use Rattle.std.specs.List.{slice_get}
-use Rattle.std.proofs.lemmas.Bool.{cases_lt, cases_eq}
+use Rattle.std.proofs.lemmas.Bool.{cases_lt, cases_eq, cases_Bool}
 use Rattle.std.proofs.lemmas.Bool.Decides.{nat_tests}
 use Rattle.std.proofs.lemmas.Option.{slice_get_within, get_or_from_slice_get}
 use Rattle.gate_trait.specs.declared.node.Node.{Node}
@@ -14,9 +14,11 @@ use Rattle.gate_trait.proofs.GateLaw.{gate_law}
 use Rattle.sat_dimacs.specs.Literal.{literal_value}
 use Rattle.gate_tseitin.specs.Named.{satisfied, named_values, any_node, marked, defined, defined_where, all_defined, input_of, input_count, owns, own_count, variable_count, name_at, names_from, literal_of}
 use Rattle.gate_tseitin.specs.Reached.{HasMark, IsClosed}
+use Rattle.gate_tseitin.specs.Shown.{IsShown, AreLinked}
 use Rattle.gate_tseitin.specs.Written.{AreNumbered, Agree, IsWritten}
 use Rattle.gate_tseitin.proofs.Marks.{gate_value-marked}
-use Rattle.gate_tseitin.proofs.Definitions.{get_here, defined_values, all_from_each, where_so, alike_same, both}
+use Rattle.gate_tseitin.proofs.Definitions.{get_here, computed_values, defined_values, all_from_each, where_so, alike_same, both}
+use Rattle.gate_tseitin.proofs.Linking.{named_get, shown_values, is_shown}
 use Rattle.gate_tseitin.proofs.Naming.{length_names, named_at, mark_next, own_at, name_within, input_is}
 
 same_gate : (vs : List Bool) (v w : ℕ → Bool) (g : Gate) → ((u : ℕ) → g ≡ Input u → v u ≡ w u) → gate_value vs v g ≡ gate_value vs w g
@@ -33,11 +35,6 @@ values_agree vs v w [] h = refl
 values_agree vs v w (g ∷ gates) h =
     ap (λ (b : Bool). values_after (vs ++ b ∷ []) v gates) (same_gate vs v w g (λ u e. h zero u (ap (λ (f : Gate). Some f) e)))
     ∙ values_agree (vs ++ gate_value vs w g ∷ []) v w gates (λ k u at. h (suc k) u at)
-
-named_get : (v : ℕ → Bool) (names : List ℕ) (k : ℕ) → k < length names → get_or (named_values v names) k false ≡ v (get_or names k 0)
-named_get v [] k lt = absurd (omega arith)
-named_get v (m ∷ names) zero lt = refl
-named_get v (m ∷ names) (suc k) lt = named_get v names k (omega arith)
 
 -- a number is the variable of a marked gate
 abbrev IsOwned : List Bool → ℕ → ℕ → List Gate → ℕ → Type 0
@@ -132,89 +129,107 @@ or_false : (b : Bool) → b || false ≡ b
 or_false true = refl
 or_false false = refl
 
-module _ (marks : List Bool) (gates : List Gate) (names : List ℕ) (e : names ≡ names_from marks (input_count gates + 1) 0 gates) (i : AreNumbered gates) (layered : IsLayered gates) (closed : IsClosed marks gates) where
+module _ (marks kept : List Bool) (gates : List Gate) (names : List ℕ) (e : names ≡ names_from kept (input_count gates + 1) 0 gates) (i : AreNumbered gates) (layered : IsLayered gates) (closed : IsClosed marks gates) (link : AreLinked gates marks kept) where
   long : length names ≡ length gates
-  long = ap (λ (xs : List ℕ). length xs) e ∙ length_names marks (input_count gates + 1) 0 gates
+  long = ap (λ (xs : List ℕ). length xs) e ∙ length_names kept (input_count gates + 1) 0 gates
 
-  -- the full assignment gives each marked gate's variable the gate's value
-  full_is : (x : ℕ → Bool) (k : ℕ) (g : Gate) → slice_get gates k ≡ Some g → marked marks k ≡ true → full marks gates x (get_or names k 0) ≡ get_or (values gates x) k false
+  -- what an assignment of the variables says of the gates
+  shown : (v : ℕ → Bool) → IsShown gates kept names v (shown_values kept names gates v)
+  shown v = is_shown gates kept names v layered link.kept_each long
+
+  -- the full assignment gives each kept gate's variable the gate's value
+  full_is : (x : ℕ → Bool) (k : ℕ) (g : Gate) → slice_get gates k ≡ Some g → marked kept k ≡ true → full kept gates x (get_or names k 0) ≡ get_or (values gates x) k false
   unfolding full
   full_is x k g at mark = by_input (input_of g) refl
     where
-      by_input : (o : Option ℕ) → input_of g ≡ o → full marks gates x (get_or names k 0) ≡ get_or (values gates x) k false
+      by_input : (o : Option ℕ) → input_of g ≡ o → full kept gates x (get_or names k 0) ≡ get_or (values gates x) k false
       by_input (Some w) is =
           let there : slice_get gates k ≡ Some (Input w) = at ∙ ap (λ (f : Gate). Some f) (input_is g w is) in
-          let name : get_or names k 0 ≡ w = ap (λ (xs : List ℕ). get_or xs k 0) e ∙ named_at marks (input_count gates + 1) 0 gates k w there in
+          let name : get_or names k 0 ≡ w = ap (λ (xs : List ℕ). get_or xs k 0) e ∙ named_at kept (input_count gates + 1) 0 gates k w there in
           let small = i.within k w there in
-          ap (λ (m : ℕ). full marks gates x m) name ∙ full_agrees marks gates x w small.0 small.1 ∙ sym (gate_law gates x k (Input w) layered there)
+          ap (λ (m : ℕ). full kept gates x m) name ∙ full_agrees kept gates x w small.0 small.1 ∙ sym (gate_law gates x k (Input w) layered there)
       by_input None is =
-          let name : get_or names k 0 ≡ get_or (names_from marks (input_count gates + 1) 0 gates) k 0 = ap (λ (xs : List ℕ). get_or xs k 0) e in
-          let m = get_or (names_from marks (input_count gates + 1) 0 gates) k 0 in
+          let name : get_or names k 0 ≡ get_or (names_from kept (input_count gates + 1) 0 gates) k 0 = ap (λ (xs : List ℕ). get_or xs k 0) e in
+          let m = get_or (names_from kept (input_count gates + 1) 0 gates) k 0 in
           let z : 0 + k ≡ k = omega arith in
-          let has : marked marks (0 + k) ≡ true = ap (λ (j : ℕ). marked marks j) z ∙ mark in
-          let least = (own_at marks (input_count gates + 1) 0 gates k g at is has).0 in
+          let has : marked kept (0 + k) ≡ true = ap (λ (j : ℕ). marked kept j) z ∙ mark in
+          let least = (own_at kept (input_count gates + 1) 0 gates k g at is has).0 in
           let t : leb m (input_count gates) ≡ false = grind (arith, nat_tests) in
-          ap (λ (j : ℕ). full marks gates x j) name
-          ∙ ap (λ (b : Bool). cond b (x m) (other_value marks (input_count gates + 1) 0 gates (values gates x) m)) t
-          ∙ other_is marks (input_count gates + 1) 0 gates (values gates x) k g at is has
+          ap (λ (j : ℕ). full kept gates x j) name
+          ∙ ap (λ (b : Bool). cond b (x m) (other_value kept (input_count gates + 1) 0 gates (values gates x) m)) t
+          ∙ other_is kept (input_count gates + 1) 0 gates (values gates x) k g at is has
 
-  full_values : (x : ℕ → Bool) → values gates (full marks gates x) ≡ values gates x
-  full_values x = values_agree [] (full marks gates x) x gates (λ k u at. let w = i.within k u at in full_agrees marks gates x u w.0 w.1)
+  full_values : (x : ℕ → Bool) → values gates (full kept gates x) ≡ values gates x
+  full_values x = values_agree [] (full kept gates x) x gates (λ k u at. let w = i.within k u at in full_agrees kept gates x u w.0 w.1)
 
-  full_named : (x : ℕ → Bool) (k : ℕ) → k < length gates → marked marks k ≡ true → get_or (named_values (full marks gates x) names) k false ≡ get_or (values gates (full marks gates x)) k false
-  full_named x k lt mark =
-      let f = get_here gates k lt in
-      named_get (full marks gates x) names k (omega (arith, long)) ∙ full_is x k f.0 f.1 mark ∙ ap (λ (vs : List Bool). get_or vs k false) (sym (full_values x))
+  -- so it says of each reached gate the gate's value
+  full_says : (v x : ℕ → Bool) → v ≡ full kept gates x → (k : ℕ) → k < length gates → marked marks k ≡ true → get_or (shown_values kept names gates v) k false ≡ get_or (values gates v) k false
+  full_says v x is = computed_values (shown_values kept names gates v) v marks gates layered closed (λ k g at mark.
+      elim (cases_Bool (marked kept k)) [
+        | inl has ↦ (let lt : k < length names = omega (arith, slice_get_within gates k g at, long) in
+            inr ((shown v).named k has ∙ named_get v names k lt ∙ ap (λ (w : ℕ → Bool). w (get_or names k 0)) is ∙ full_is x k g at has
+            ∙ ap (λ (vs : List Bool). get_or vs k false) (sym (full_values x)) ∙ ap (λ (w : ℕ → Bool). get_or (values gates w) k false) (sym is)))
+        | inr none ↦ inl ((shown v).computed k g at none)
+      ])
 
-  full_defined : (x : ℕ → Bool) → all_defined (full marks gates x) marks names 0 gates ≡ true
-  full_defined x = all_from_each (full marks gates x) marks names 0 gates (λ k g at.
+  full_defined : (v x : ℕ → Bool) → v ≡ full kept gates x → all_defined (shown_values kept names gates v) v kept 0 gates ≡ true
+  full_defined v x is = all_from_each (shown_values kept names gates v) v kept 0 gates (λ k g at.
       let z : 0 + k ≡ k = omega arith in
       let lt : k < length gates = slice_get_within gates k g at in
-      let v = full marks gates x in
-      ap (λ (j : ℕ). defined_where v marks names j g) z
-      ∙ where_so (marked marks k) (defined v names k g) (λ mark.
-      alike_same (get_or (named_values v names) k false) (gate_value (named_values v names) v g)
-      (full_named x k lt mark ∙ gate_law gates v k g layered at
-      ∙ sym (gate_value-marked (named_values v names) (values gates v) marks v k (λ j below has. full_named x j (omega arith) has) g (layered k g at) (closed k g at mark)))))
+      let vs = shown_values kept names gates v in
+      ap (λ (j : ℕ). defined_where vs v kept j g) z
+      ∙ where_so (marked kept k) (defined vs v k g) (λ has.
+      let mark = link.reached k has in
+      alike_same (get_or vs k false) (gate_value vs v g)
+      (full_says v x is k lt mark ∙ gate_law gates v k g layered at
+      ∙ sym (gate_value-marked vs (values gates v) marks v k (λ j below has. full_says v x is j (omega arith) has) g (layered k g at) (closed k g at mark)))))
 
-  -- a marked node's literal has the node's value
-  node_value : (v : ℕ → Bool) → all_defined v marks names 0 gates ≡ true → (n : Node) → BelongsTo gates n → HasMark marks n → value_among (named_values v names) n ≡ value_in gates v n
-  node_value v all n there mark = ap (λ (b : Bool). xor (is_negated n) b) (defined_values v marks names gates layered closed all (number_of n) there mark)
+  -- what the variables say of a kept node is the node's value
+  node_value : (v : ℕ → Bool) → all_defined (shown_values kept names gates v) v kept 0 gates ≡ true → (n : Node) → BelongsTo gates n → HasMark kept n → value_among (named_values v names) n ≡ value_in gates v n
+  node_value v all n there mark = ap (λ (b : Bool). xor (is_negated n) b)
+      (sym ((shown v).named (number_of n) mark)
+      ∙ defined_values (shown_values kept names gates v) v marks kept gates layered closed (shown v).computed all (number_of n) there (link.reached (number_of n) mark))
 
-  literal_means : (v : ℕ → Bool) → all_defined v marks names 0 gates ≡ true → (n : Node) → BelongsTo gates n → HasMark marks n → literal_value v (literal_of names n) ≡ value_in gates v n
+  literal_means : (v : ℕ → Bool) → all_defined (shown_values kept names gates v) v kept 0 gates ≡ true → (n : Node) → BelongsTo gates n → HasMark kept n → literal_value v (literal_of names n) ≡ value_in gates v n
   literal_means v all n there mark =
       let f = get_here gates (number_of n) there in
-      literal_case v (is_negated n) (get_or names (number_of n) 0) (name_within marks gates names e i (number_of n) f.0 f.1 mark).0
+      literal_case v (is_negated n) (get_or names (number_of n) 0) (name_within kept gates names e i (number_of n) f.0 f.1 mark).0
       ∙ ap (λ (b : Bool). xor (is_negated n) b) (sym (named_get v names (number_of n) (omega (arith, long, there))))
       ∙ node_value v all n there mark
 
-  unique_at : (v w : ℕ → Bool) → all_defined v marks names 0 gates ≡ true → all_defined w marks names 0 gates ≡ true → Agree (input_count gates) v w → Agree (variable_count marks gates) v w
+  -- a kept gate's variable has the gate's value
+  variable_is : (v : ℕ → Bool) → all_defined (shown_values kept names gates v) v kept 0 gates ≡ true → (k m : ℕ) → k < length gates → marked kept k ≡ true → get_or names k 0 ≡ m → v m ≡ get_or (values gates v) k false
+  variable_is v all k m lt mark name =
+      let within : k < length names = omega (arith, long, lt) in
+      ap v (sym name) ∙ sym (named_get v names k within) ∙ sym ((shown v).named k mark)
+      ∙ defined_values (shown_values kept names gates v) v marks kept gates layered closed (shown v).computed all k lt (link.reached k mark)
+
+  unique_at : (v w : ℕ → Bool) → all_defined (shown_values kept names gates v) v kept 0 gates ≡ true → all_defined (shown_values kept names gates w) w kept 0 gates ≡ true → Agree (input_count gates) v w → Agree (variable_count kept gates) v w
   unique_at v w all_v all_w agree m above within = elim (cases_lt (input_count gates) m) [
-    | inl other ↦ (let c = own_covered marks (input_count gates + 1) 0 gates m (omega arith) (omega arith) in
+    | inl other ↦ (let c = own_covered kept (input_count gates + 1) 0 gates m (omega arith) (omega arith) in
         let k = c.0 in
         let z : k ≡ 0 + k = omega arith in
-        let mark : marked marks k ≡ true = ap (λ (j : ℕ). marked marks j) z ∙ c.2 in
+        let mark : marked kept k ≡ true = ap (λ (j : ℕ). marked kept j) z ∙ c.2 in
         let name : get_or names k 0 ≡ m = ap (λ (xs : List ℕ). get_or xs k 0) e ∙ c.3 in
-        let lt : k < length names = omega (arith, long, c.1) in
-        ap v (sym name) ∙ sym (named_get v names k lt) ∙ defined_values v marks names gates layered closed all_v k c.1 mark
+        variable_is v all_v k m c.1 mark name
         ∙ ap (λ (vs : List Bool). get_or vs k false) (values_agree [] v w gates (λ j u at. let s = i.within j u at in agree u s.0 s.1))
-        ∙ sym (defined_values w marks names gates layered closed all_w k c.1 mark) ∙ named_get w names k lt ∙ ap w name)
+        ∙ sym (variable_is w all_w k m c.1 mark name))
     | inr input ↦ agree m above (omega arith)
   ]
 
-  module _ (sure : Node) (roots : List Node) (definitions clauses : List (List ℤ)) (divided : clauses ≡ definitions ++ map (λ root. literal_of names root ∷ []) roots) (says : (v : ℕ → Bool) → satisfied v definitions ≡ (all_defined v marks names 0 gates && any_node (named_values v names) (sure ∷ []))) (sure_there : BelongsTo gates sure) (roots_there : All (λ n. BelongsTo gates n) roots) (surely : HasMark marks sure) (rooted : All (HasMark marks) roots) where
-    parts : (v : ℕ → Bool) → satisfied v definitions ≡ true → (all_defined v marks names 0 gates ≡ true) × (value_in gates v sure ≡ true)
+  module _ (sure : Node) (roots : List Node) (definitions clauses : List (List ℤ)) (divided : clauses ≡ definitions ++ map (λ root. literal_of names root ∷ []) roots) (says : (v : ℕ → Bool) (vs : List Bool) → IsShown gates kept names v vs → satisfied v definitions ≡ (all_defined vs v kept 0 gates && any_node (named_values v names) (sure ∷ []))) (sure_there : BelongsTo gates sure) (roots_there : All (λ n. BelongsTo gates n) roots) (surely : HasMark kept sure) (rooted : All (HasMark kept) roots) where
+    parts : (v : ℕ → Bool) → satisfied v definitions ≡ true → (all_defined (shown_values kept names gates v) v kept 0 gates ≡ true) × (value_in gates v sure ≡ true)
     parts v h =
-        let b = both (all_defined v marks names 0 gates) (any_node (named_values v names) (sure ∷ [])) (sym (says v) ∙ h) in
+        let b = both (all_defined (shown_values kept names gates v) v kept 0 gates) (any_node (named_values v names) (sure ∷ [])) (sym (says v (shown_values kept names gates v) (shown v)) ∙ h) in
         (b.0, sym (node_value v b.0 sure sure_there surely) ∙ sym (or_false (value_among (named_values v names) sure)) ∙ b.1)
 
-    whole : (x : ℕ → Bool) → value_in gates x sure ≡ true → satisfied (full marks gates x) definitions ≡ true
+    whole : (x : ℕ → Bool) → value_in gates x sure ≡ true → satisfied (full kept gates x) definitions ≡ true
     whole x h =
-        let v = full marks gates x in
-        says v
-        ∙ ap (λ (b : Bool). b && any_node (named_values v names) (sure ∷ [])) (full_defined x)
+        let v = full kept gates x in
+        says v (shown_values kept names gates v) (shown v)
+        ∙ ap (λ (b : Bool). b && any_node (named_values v names) (sure ∷ [])) (full_defined v x refl)
         ∙ or_false (value_among (named_values v names) sure)
-        ∙ node_value v (full_defined x) sure sure_there surely
+        ∙ node_value v (full_defined v x refl) sure sure_there surely
         ∙ ap (λ (vs : List Bool). value_among vs sure) (full_values x)
         ∙ h
 
@@ -224,14 +239,14 @@ module _ (marks : List Bool) (gates : List Gate) (names : List ℕ) (e : names �
         let lt = slice_get_within roots k root at in
         literal_means v (parts v h).0 root
         (subst (λ (n : Node). BelongsTo gates n) same (roots_there k root lt))
-        (subst (λ (n : Node). HasMark marks n) same (rooted k root lt))
+        (subst (λ (n : Node). HasMark kept n) same (rooted k root lt))
 
-    pub written : (variables : ℕ) → variables ≡ variable_count marks gates → IsWritten gates sure roots variables clauses
+    pub written : (variables : ℕ) → variables ≡ variable_count kept gates → IsWritten gates sure roots variables clauses
     written variables counted = subst (λ (c : ℕ). IsWritten gates sure roots c clauses) (sym counted) (record {
       definitions = definitions;
       literal = literal_of names;
       divided = divided;
-      extended = λ x h. (full marks gates x, full_agrees marks gates x, whole x h);
+      extended = λ x h. (full kept gates x, full_agrees kept gates x, whole x h);
       unique = λ v w hv hw agree. unique_at v w (parts v hv).0 (parts w hw).0 agree;
       surely = λ v h. (parts v h).1;
       valued = root_means;

@@ -29,9 +29,9 @@ any_node values nodes = list_any (value_among values) nodes
 abbrev pub alike : Bool → Bool → Bool
 alike a b = not (xor a b)
 
--- whether the variable of gate k has the value that the gate computes
-abbrev pub defined : (ℕ → Bool) → List ℕ → ℕ → Gate → Bool
-defined v names k g = alike (slice_index_or (named_values v names) k false) (gate_value (named_values v names) v g)
+-- whether gate k has the value that it computes, where the list has the values of the gates
+abbrev pub defined : List Bool → (ℕ → Bool) → ℕ → Gate → Bool
+defined values v k g = alike (slice_index_or values k false) (gate_value values v g)
 
 -- an input's variable is the gate's own
 abbrev pub IsNamed : List ℕ → ℕ → Gate → Type 0
@@ -46,14 +46,14 @@ IsNamed names k (Choose c a b) = Unit {0}
 abbrev pub marked : List Bool → ℕ → Bool
 marked marks k = slice_index_or marks k false
 
--- whether the gate's variable has that value, if the gate is marked
-abbrev pub defined_where : (ℕ → Bool) → List Bool → List ℕ → ℕ → Gate → Bool
-defined_where v marks names k g = not (marked marks k) || defined v names k g
+-- whether the gate has the value that it computes, if it is marked
+abbrev pub defined_where : List Bool → (ℕ → Bool) → List Bool → ℕ → Gate → Bool
+defined_where values v marks k g = not (marked marks k) || defined values v k g
 
--- whether the variables of the marked gates from number k on have the values that the gates compute
-abbrev pub all_defined : (ℕ → Bool) → List Bool → List ℕ → ℕ → List Gate → Bool
-all_defined v marks names k [] = true
-all_defined v marks names k (g ∷ gates) = defined_where v marks names k g && all_defined v marks names (k + 1) gates
+-- whether the marked gates from number k on have the values that they compute
+abbrev pub all_defined : List Bool → (ℕ → Bool) → List Bool → ℕ → List Gate → Bool
+all_defined values v marks k [] = true
+all_defined values v marks k (g ∷ gates) = defined_where values v marks k g && all_defined values v marks (k + 1) gates
 
 -- an input's variable
 abbrev pub input_of : Gate → Option ℕ

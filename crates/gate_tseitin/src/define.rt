@@ -1,13 +1,15 @@
 //! The clauses that define a gate, in both directions.
 
-ghost use Rattle.std.specs.Prelude.{◌≡◌, ◌++◌, ◌∷◌, [], map, ◌<◌, ◌≤◌, ◌^◌, ◌&&◌, ◌||◌, if◌then◌else◌, not, slice_get, Some, ℕ, Bool, All, length, OnOk, IfOk, slice_index};
+ghost use Rattle.std.specs.Prelude.{◌≡◌, ◌++◌, ◌∷◌, [], map, ◌<◌, ◌≤◌, ◌^◌, ◌&&◌, ◌||◌, if◌then◌else◌, not, slice_get, Some, ℕ, Bool, List, All, length, OnOk, IfOk, slice_index};
 ghost use Rattle.sat_dimacs.specs.Literal.{IsLiteral, IsWithin, literal_value, clause_value};
 ghost use Rattle.gate_trait.specs.NodeWords.{number_of, is_negated};
 ghost use Rattle.gate_trait.specs.Circuit.{value_among, IsAbove};
 ghost use Rattle.gate_trait.specs.Built.{xor};
 ghost use Rattle.gate_trait.specs.declared.gate.Gate.{Gate as CircuitGate};
-ghost use Rattle.gate_tseitin.specs.Named.{satisfied, named_values, any_node, alike, defined, defined_where, all_defined, IsNamed, literal_of};
+ghost use Rattle.gate_tseitin.specs.Named.{satisfied, named_values, any_node, alike, defined_where, all_defined, IsNamed, literal_of};
+ghost use Rattle.gate_tseitin.specs.Shown.{IsShown, AreFitting, all_nodes, defined_over};
 
+use crate::leaves::leaves_of;
 use crate::names::Names;
 use crate::reach::is_marked;
 use gate_store::CircuitStore;
@@ -62,28 +64,31 @@ pub fn add_clause(
     cnf.clauses.push(clause)
 }
 
-/// Adds the clauses that say that the output is true where both nodes are.
+/// Adds the clauses that say that the output is true where all nodes are: one of two literals for each node, and a long one.
 fn define_and(
     alloc: Global,
     cnf: &mut Cnf,
     names: &Names,
     output: Node,
-    a: Node,
-    b: Node,
+    nodes: &[Node],
 ) -> Result<(), AllocError>
     requires room { names.now.count ≤ cnf.old.variables }
     requires output_there { number_of output < length names.now.list.items }
-    requires a_there { number_of a < length names.now.list.items }
-    requires b_there { number_of b < length names.now.list.items }
+    requires there { All (λ n. number_of n < length names.now.list.items) nodes.now }
     ensures variables { OnOk result (cnf.new.variables ≡ cnf.old.variables) }
     ensures value { OnOk result ((v : ℕ → Bool) → satisfied v cnf.new.clauses
         ≡ (satisfied v cnf.old.clauses
         && alike (value_among (named_values v names.now.list.items) output)
-        (value_among (named_values v names.now.list.items) a && value_among (named_values v names.now.list.items) b))) }
+        (all_nodes (named_values v names.now.list.items) nodes.now))) }
 {
-    add_clause(alloc, cnf, names, &[output.opposite(), a])?;
-    add_clause(alloc, cnf, names, &[output.opposite(), b])?;
-    add_clause(alloc, cnf, names, &[output, a.opposite(), b.opposite()])
+    let mut long = Vec::new(alloc);
+    long.push(output)?;
+    for node in nodes {
+        add_clause(alloc, cnf, names, &[output.opposite(), *node])?;
+        long.push(node.opposite())?;
+    }
+    add_clause(alloc, cnf, names, &long)?;
+    Ok(())
 }
 
 /// Adds the clauses that say that the output is true where one of two nodes is.
@@ -193,80 +198,85 @@ fn define_choose(
     define_where(alloc, cnf, names, output, c.opposite(), b)
 }
 
-/// Adds the clauses that say that the gate's variable has the value that the gate computes.
+/// Adds the clauses that say that the gate's variable has the value that the gate computes, an `and` from its leaves.
 fn define(
     alloc: Global,
     cnf: &mut Cnf,
     names: &Names,
     number: u64,
     gate: Gate,
+    leaves: &[Node],
 ) -> Result<(), AllocError>
     requires room { names.now.count ≤ cnf.old.variables }
     requires there { number < length names.now.list.items }
     requires few { length names.now.list.items < 2 ^ 63 }
     requires above { IsAbove number gate }
+    requires leaves_there { All (λ n. number_of n < length names.now.list.items) leaves.now }
     requires named { IsNamed names.now.list.items number gate }
     ensures variables { OnOk result (cnf.new.variables ≡ cnf.old.variables) }
     ensures value { OnOk result ((v : ℕ → Bool) → satisfied v cnf.new.clauses
-        ≡ (satisfied v cnf.old.clauses && defined v names.now.list.items number gate)) }
+        ≡ (satisfied v cnf.old.clauses
+        && defined_over (named_values v names.now.list.items) v leaves.now number gate)) }
 {
     let output = Node::of_gate(number);
     match gate {
         Gate::Constant(true) => add_clause(alloc, cnf, names, &[output]),
         Gate::Constant(false) => add_clause(alloc, cnf, names, &[output.opposite()]),
         Gate::Input(_) => Ok(()),
-        Gate::And(a, b) => define_and(alloc, cnf, names, output, a, b),
+        Gate::And(_, _) => define_and(alloc, cnf, names, output, leaves),
         Gate::Or(a, b) => define_or(alloc, cnf, names, output, a, b),
         Gate::Xor(a, b) => define_xor(alloc, cnf, names, output, a, b),
         Gate::Choose(c, a, b) => define_choose(alloc, cnf, names, output, c, a, b),
     }
 }
 
-/// Adds the clauses of a gate, if it is marked.
-fn define_marked(
+/// Adds the clauses of the gate of this number, if it is kept.
+fn define_kept(
     alloc: Global,
     cnf: &mut Cnf,
     names: &Names,
+    store: &CircuitStore,
     marks: &[bool],
+    kept: &[bool],
     number: u64,
-    gate: Gate,
 ) -> Result<(), AllocError>
     requires room { names.now.count ≤ cnf.old.variables }
-    requires there { number < length names.now.list.items }
-    requires few { length names.now.list.items < 2 ^ 63 }
-    requires each { length marks.now ≡ length names.now.list.items }
-    requires above { IsAbove number gate }
-    requires named { IsNamed names.now.list.items number gate }
+    requires there { number < length store.now }
+    requires few { length store.now < 2 ^ 63 }
+    requires fitting { AreFitting store.now marks.now kept.now names.now.list.items }
     ensures variables { OnOk result (cnf.new.variables ≡ cnf.old.variables) }
-    ensures value { OnOk result ((v : ℕ → Bool) → satisfied v cnf.new.clauses
-        ≡ (satisfied v cnf.old.clauses && defined_where v marks.now names.now.list.items number gate)) }
+    ensures value { OnOk result ((g : CircuitGate) (v : ℕ → Bool) (vs : List Bool) →
+        slice_get store.now number ≡ Some g →
+        IsShown store.now kept.now names.now.list.items v vs → satisfied v cnf.new.clauses
+        ≡ (satisfied v cnf.old.clauses && defined_where vs v kept.now number g)) }
 {
-    if is_marked(marks, number) {
-        define(alloc, cnf, names, number, gate)
-    } else {
-        Ok(())
+    if !is_marked(kept, number) {
+        return Ok(());
     }
+    let gate = store.gate(number);
+    let leaves = leaves_of(alloc, store, marks, kept, gate)?;
+    define(alloc, cnf, names, number, gate, &leaves)?;
+    Ok(())
 }
 
-/// Adds the clauses of all marked gates.
+/// Adds the clauses of all gates that are kept. They say that each has the value that it computes.
 pub fn define_all(
     alloc: Global,
     cnf: &mut Cnf,
     names: &Names,
-    marks: &[bool],
     store: &CircuitStore,
+    marks: &[bool],
+    kept: &[bool],
 ) -> Result<(), AllocError>
     requires room { names.now.count ≤ cnf.old.variables }
-    requires each { length names.now.list.items ≡ length store.now }
-    requires marks_each { length marks.now ≡ length store.now }
-    requires named { (k : ℕ) (g : CircuitGate) → slice_get store.now k ≡ Some g →
-        IsNamed names.now.list.items k g }
+    requires fitting { AreFitting store.now marks.now kept.now names.now.list.items }
     ensures variables { OnOk result (cnf.new.variables ≡ cnf.old.variables) }
-    ensures value { OnOk result ((v : ℕ → Bool) → satisfied v cnf.new.clauses
-        ≡ (satisfied v cnf.old.clauses && all_defined v marks.now names.now.list.items 0 store.now)) }
+    ensures value { OnOk result ((v : ℕ → Bool) (vs : List Bool) →
+        IsShown store.now kept.now names.now.list.items v vs → satisfied v cnf.new.clauses
+        ≡ (satisfied v cnf.old.clauses && all_defined vs v kept.now 0 store.now)) }
 {
     for number in 0..store.gates() {
-        define_marked(alloc, cnf, names, marks, number, store.gate(number))?;
+        define_kept(alloc, cnf, names, store, marks, kept, number)?;
     }
     Ok(())
 }

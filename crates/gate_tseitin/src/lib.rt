@@ -8,9 +8,13 @@
 //! literal and needs none.
 //!
 //! [`write_clauses`] does so for the gates that `sure` or a root reaches (`reach`), and for no
-//! other. The inputs keep their numbers, which are those from 1 on; other gates have the numbers
-//! after them (`names`). The first clauses are the definitions (`define`) and the clause that
-//! `sure` is true; then comes for each root the clause of its literal alone (`write`).
+//! other. An `and` that is named only once, by an `and` and without a negation, is folded into that
+//! one and has no variable (`fold`): a tree of such is one gate over its leaves (`leaves`), which
+//! one clause of two literals for each leaf defines, and a long one. An `or` is stored as a negated
+//! `and` of negations, so the same goes for it. The inputs keep their numbers, which are those from
+//! 1 on; other gates have the numbers after them (`names`). The first clauses are the definitions
+//! (`define`) and the clause that `sure` is true; then comes for each root the clause of its literal
+//! alone (`write`).
 //!
 //! Each definition has both directions. Plaisted and Greenbaum (A structure-preserving clause form
 //! translation, 1986) leave out the one that a gate's polarity doesn't need; then several
@@ -22,6 +26,8 @@
 #![tactic(auto)]
 
 mod define;
+mod fold;
+mod leaves;
 mod names;
 mod reach;
 mod write;

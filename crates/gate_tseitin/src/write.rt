@@ -3,11 +3,13 @@
 ghost use Rattle.std.specs.Prelude.{◌≡◌, ◌+◌, ◌<◌, ◌≤◌, ◌++◌, Bool, List, All, map, length, IfOk, OnOk};
 ghost use Rattle.gate_trait.specs.NodeWords.{number_of};
 ghost use Rattle.gate_trait.specs.Circuit.{BelongsTo, IsLayered};
+ghost use Rattle.gate_tseitin.specs.Folded.{AreKept};
 ghost use Rattle.gate_tseitin.specs.Named.{unit_of, names_from, input_count, variable_count};
 ghost use Rattle.gate_tseitin.specs.Reached.{AreReached};
 ghost use Rattle.gate_tseitin.specs.Written.{AreNumbered, IsWritten};
 
 use crate::define::{add_clause, define_all};
+use crate::fold::kept_of;
 use crate::names::{Names, names_of};
 use crate::reach::reached;
 use gate_store::CircuitStore;
@@ -29,20 +31,22 @@ fn add_units(alloc: Global, cnf: &mut Cnf, names: &Names, roots: &[Node]) -> Res
     Ok(())
 }
 
-/// The clauses that define the marked gates, by these variables, and say that `sure` is true; and
+/// The clauses that define the kept gates, by these variables, and say that `sure` is true; and
 /// then the units.
 fn clauses_with(
     alloc: Global,
     store: &CircuitStore,
     names: &Names,
     marks: &[bool],
+    kept: &[bool],
     sure: Node,
     roots: &[Node],
 ) -> Result<Cnf, AllocError>
-    requires named { names.now.list.items ≡ names_from marks.now (input_count store.now + 1) 0
+    requires named { names.now.list.items ≡ names_from kept.now (input_count store.now + 1) 0
         store.now }
-    requires counted { names.now.count ≡ variable_count marks.now store.now }
+    requires counted { names.now.count ≡ variable_count kept.now store.now }
     requires reached { AreReached store.now sure roots.now marks.now }
+    requires kept { AreKept store.now sure roots.now marks.now kept.now }
     requires layered { IsLayered store.now }
     requires sure_there { BelongsTo store.now sure }
     requires roots_there { All (λ n. BelongsTo store.now n) roots.now }
@@ -55,7 +59,7 @@ fn clauses_with(
         variables: names.count,
         clauses: ClauseList::new(alloc),
     };
-    define_all(alloc, &mut cnf, names, marks, store)?;
+    define_all(alloc, &mut cnf, names, store, marks, kept)?;
     add_clause(alloc, &mut cnf, names, &[sure])?;
     add_units(alloc, &mut cnf, names, roots)?;
     Ok(cnf)
@@ -66,10 +70,12 @@ fn clauses_with(
 /// that it is true by its literal alone.
 ///
 /// The inputs are the first variables, under their own numbers, and each other gate that is reached
-/// has one of the numbers after them. For each assignment of the inputs under which `sure` is true,
-/// one and only one assignment of the first clauses extends it, and there each root's literal has
-/// the root's value. No assignment of the first clauses has `sure` false. There are no more variables
-/// than the inputs and the gates that are reached have. The only error is want of memory.
+/// has one of the numbers after them, but for an `and` that stands only once, as an operand of
+/// another that isn't negated: that one is defined by all leaves. For each assignment of the inputs
+/// under which `sure` is true, one and only one assignment of the first clauses extends it, and
+/// there each root's literal has the root's value. No assignment of the first clauses has `sure`
+/// false. There are no more variables than the inputs and the gates that are reached and not folded
+/// have. The only error is want of memory.
 pub fn write_clauses(
     alloc: Global,
     store: &CircuitStore,
@@ -84,10 +90,14 @@ pub fn write_clauses(
     ensures fewest { IfOk result (λ cnf. (marks : List Bool) →
         AreReached store.now sure roots.now marks
         → cnf.variables ≤ variable_count marks store.now) }
+    ensures folded { IfOk result (λ cnf. (marks kept : List Bool) →
+        AreReached store.now sure roots.now marks → AreKept store.now sure roots.now marks kept
+        → cnf.variables ≤ variable_count kept store.now) }
 {
     let nodes = roots.as_slice();
     let marks = reached(alloc, store, sure, nodes)?;
-    let names = names_of(alloc, store, sure, &marks)?;
-    let cnf = clauses_with(alloc, store, &names, &marks, sure, nodes)?;
+    let kept = kept_of(alloc, store, sure, nodes, &marks)?;
+    let names = names_of(alloc, store, sure, &kept)?;
+    let cnf = clauses_with(alloc, store, &names, &marks, &kept, sure, nodes)?;
     Ok(cnf)
 }

@@ -35,6 +35,28 @@ fn what_is_reached_has_a_variable(rt: HostRuntime) -> Result<(), Fail> {
     Ok(())
 }
 
+/// The clauses of `x1 and x2 and x3`, which is to be true, without further roots.
+fn written_tree(rt: &impl AllocGlobal) -> Result<Cnf, Fail> {
+    let mut store = CircuitStore::new(rt.alloc());
+    let a = store.input(1)?;
+    let b = store.input(2)?;
+    let c = store.input(3)?;
+    let inner = store.and(a, b)?;
+    let sure = store.and(inner, c)?;
+    if !are_numbered(&store) {
+        return Err("the inputs are the variables 1, 2 and 3")?;
+    }
+    Ok(write_clauses(rt.alloc(), &store, sure, &NodeList::new(rt.alloc()))?)
+}
+
+#[test]
+fn an_and_of_ands_is_one_gate(rt: HostRuntime) -> Result<(), Fail> {
+    let cnf = written_tree(&rt)?;
+    assert_eq!(rt; cnf.variables, 4);
+    assert_eq!(rt; cnf.clauses.len(), 5);
+    Ok(())
+}
+
 #[test]
 fn reads_and_writes_clauses(rt: HostRuntime) -> Result<(), Fail> {
     let text = b"c a comment\n\n  p cnf\t3 2\r\n1 -3\nc 7\n0 2 0";
