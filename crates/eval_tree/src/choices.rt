@@ -1,9 +1,8 @@
 //! Choices of atoms for the variables of a list.
 
 ghost use Rattle.std.specs.Prelude.{◌↔◌, ◌+◌, ℕ, List, [], map, length, IfOk, IsTrue};
-ghost use Rattle.core_tree.specs.Trees.{claim_of, variable_of, variable_list, no_variables};
-ghost use Rattle.core_meaning.specs.Operators.{Quantified};
-ghost use Rattle.core_meaning.specs.Meaning.{ForEach, Picked};
+ghost use Rattle.core_tree.specs.Trees.{claim_of, counted, variable_of, variable_list, no_variables};
+ghost use Rattle.core_meaning.specs.Meaning.{ForEach};
 ghost use Rattle.eval_context.specs.Settings.{world};
 ghost use Rattle.eval_steps.specs.Judged.{bodies, scope_names, HoldsIn, Says, earlier_list, AreRows, ForEachAtom, AreRowsOfAtoms};
 ghost use Rattle.eval_tree.specs.Evaluates.{Evaluates};
@@ -255,15 +254,10 @@ impl<
     ) -> Result<bool, EvaluationFault>
         requires { Evaluates self.now.deep (T.pre self.now.term) (T.post self.now.term)
             (H.pre self.now.claim) (H.post self.now.claim) }
-        ensures { IfOk result (λ b. IsTrue b ↔ Quantified quantity
-            (ForEach (world self.now.judge.now) (bodies self.now.judge.now)
-            (variable_list (map variable_of variables.now))
-            (λ names. ¬ HoldsIn self.now.judge.now (claim_of formula.now) names position)
-            (scope_names self.now.judge.now scope.now) position [])
-            (Picked (world self.now.judge.now) (bodies self.now.judge.now)
-            (variable_list (map variable_of variables.now))
-            (λ names. HoldsIn self.now.judge.now (claim_of formula.now) names position)
-            (scope_names self.now.judge.now scope.now) position [])) }
+        ensures { IfOk result (λ b. IsTrue b ↔ HoldsIn self.now.judge.now
+            (counted quantity (variable_list (map variable_of variables.now))
+            (claim_of formula.now))
+            (scope_names self.now.judge.now scope.now) position) }
     {
         let start = Earlier::Start;
         match quantity {

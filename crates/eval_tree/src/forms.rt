@@ -1,11 +1,8 @@
 //! The tuples of an expression, and the truth of a formula, form by form.
 
 ghost use Rattle.std.specs.Prelude.{◌↔◌, map, IfOk, IsTrue};
-ghost use Rattle.core_tree.specs.Trees.{term_of, claim_of, claim_list};
-ghost use Rattle.core_meaning.specs.Operators.{Connects};
-ghost use Rattle.core_meaning.specs.Meaning.{HoldEach};
-ghost use Rattle.eval_context.specs.Settings.{world};
-ghost use Rattle.eval_steps.specs.Judged.{bodies, scope_names, Means, HoldsIn, IsFound};
+ghost use Rattle.core_tree.specs.Trees.{term_of, claim_of, claim_list, connect, every};
+ghost use Rattle.eval_steps.specs.Judged.{scope_names, Means, HoldsIn, IsFound};
 ghost use Rattle.eval_tree.specs.Evaluates.{Evaluates};
 
 use crate::walk::Walk;
@@ -203,8 +200,8 @@ impl<
     ) -> Result<bool, EvaluationFault>
         requires { Evaluates self.now.deep (T.pre self.now.term) (T.post self.now.term)
             (H.pre self.now.claim) (H.post self.now.claim) }
-        ensures { IfOk result (λ b. IsTrue b ↔ HoldEach (world self.now.judge.now)
-            (bodies self.now.judge.now) (claim_list (map claim_of list.now))
+        ensures { IfOk result (λ b. IsTrue b ↔ HoldsIn self.now.judge.now
+            (every (claim_list (map claim_of list.now)))
             (scope_names self.now.judge.now scope.now) position) }
     {
         let next = deeper(deep)?;
@@ -231,10 +228,9 @@ impl<
     ) -> Result<bool, EvaluationFault>
         requires { Evaluates self.now.deep (T.pre self.now.term) (T.post self.now.term)
             (H.pre self.now.claim) (H.post self.now.claim) }
-        ensures { IfOk result (λ b. IsTrue b ↔ Connects op
-            (HoldsIn self.now.judge.now (claim_of f.now) (scope_names self.now.judge.now scope.now)
-            position) (HoldsIn self.now.judge.now (claim_of g.now)
-            (scope_names self.now.judge.now scope.now) position)) }
+        ensures { IfOk result (λ b. IsTrue b ↔ HoldsIn self.now.judge.now
+            (connect op (claim_of f.now) (claim_of g.now))
+            (scope_names self.now.judge.now scope.now) position) }
     {
         let first = self.holds(f, scope, position)?;
         match op {

@@ -1,8 +1,8 @@
 //! The temporal operators: a walk ahead for `until`, and one back for `since`.
 
 ghost use Rattle.std.specs.Prelude.{◌↔◌, ◌+◌, IfOk, IsTrue};
-ghost use Rattle.core_tree.specs.Trees.{claim_of};
-ghost use Rattle.core_meaning.specs.Operators.{Happens, HappenBoth, UntilAt, SinceAt};
+ghost use Rattle.core_tree.specs.Trees.{claim_of, temporal, temporal_pair};
+ghost use Rattle.core_meaning.specs.Operators.{UntilAt, SinceAt};
 ghost use Rattle.eval_steps.specs.Judged.{scope_names, HoldsIn, Says, SaysFirst};
 ghost use Rattle.eval_tree.specs.Evaluates.{Evaluates};
 
@@ -39,9 +39,8 @@ impl<
     ) -> Result<bool, EvaluationFault>
         requires { Evaluates self.now.deep (T.pre self.now.term) (T.post self.now.term)
             (H.pre self.now.claim) (H.post self.now.claim) }
-        ensures { IfOk result (λ b. IsTrue b ↔ Happens op
-            (λ j. HoldsIn self.now.judge.now (claim_of f.now)
-            (scope_names self.now.judge.now scope.now) j) position) }
+        ensures { IfOk result (λ b. IsTrue b ↔ HoldsIn self.now.judge.now
+            (temporal op (claim_of f.now)) (scope_names self.now.judge.now scope.now) position) }
     {
         match op {
             TemporalUnary::After => self.holds(f, scope, after(position)?),
@@ -76,11 +75,9 @@ impl<
     ) -> Result<bool, EvaluationFault>
         requires { Evaluates self.now.deep (T.pre self.now.term) (T.post self.now.term)
             (H.pre self.now.claim) (H.post self.now.claim) }
-        ensures { IfOk result (λ b. IsTrue b ↔ HappenBoth op
-            (λ j. HoldsIn self.now.judge.now (claim_of f.now)
-            (scope_names self.now.judge.now scope.now) j)
-            (λ j. HoldsIn self.now.judge.now (claim_of g.now)
-            (scope_names self.now.judge.now scope.now) j) position) }
+        ensures { IfOk result (λ b. IsTrue b ↔ HoldsIn self.now.judge.now
+            (temporal_pair op (claim_of f.now) (claim_of g.now))
+            (scope_names self.now.judge.now scope.now) position) }
     {
         match op {
             TemporalBinary::Until => self.forward(First::Each(f), g, true, scope, position),
