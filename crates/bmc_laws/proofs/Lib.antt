@@ -1,3 +1,5 @@
 pub mod Told
+mod Agreeing
 mod Decided
+mod Places
 mod TableTold

@@ -1,33 +1,25 @@
 -- Each lasso within the bounds is told by an assignment of the table's variables.
-use Rattle.std.proofs.Common.{◌≡◌, ◌↔◌, ◌⊎◌, ℕ, zero, suc, ◌+◌, ◌*◌, ◌<◌, ◌≤◌, Bool, true, false, ◌||◌, List, [], ◌∷◌, length, Contains, Option, if◌then◌else◌, get_or, Some, slice_get, inl, inr, refl, sym, ap, ◌∙◌, subst, arith}
+use Rattle.std.proofs.Common.{◌≡◌, ◌↔◌, ◌⊎◌, ℕ, zero, suc, ◌+◌, ◌<◌, ◌≤◌, Bool, true, false, ◌||◌, List, [], ◌∷◌, length, Contains, Some, slice_get, inl, inr, refl, sym, ap, ◌∙◌, subst, arith}
 use Rattle.std.proofs.lemmas.Bool.{cases_order}
-use Rattle.std.proofs.lemmas.Option.{slice_get-get_or, slice_get_within}
-use Rattle.core_tuples.specs.Sets.{TupleList, In}
+use Rattle.std.proofs.lemmas.Option.{slice_get_within}
+use Rattle.core_tuples.specs.Sets.{TupleList}
 use Rattle.core_meaning.specs.Sequence.{LassoValue}
 use Rattle.bound_uppers.specs.declared.places.Cells.{Cells}
 use Rattle.bound_uppers.specs.declared.places.Layout.{Layout}
 use Rattle.bound_uppers.specs.declared.table.Bound.{Bound}
 use Rattle.bound_uppers.specs.declared.table.Bounds.{Bounds}
-use Rattle.bound_uppers.specs.Table as rows
 use Rattle.bound_uppers.specs.Table.{variable_of, first_variable, loop_variable, earlier, cell_at, IsTable, IsRow, AreInOrder, RowsInOrder, IsLayout}
 use Rattle.bound_uppers.specs.Candidates.{IsCandidate}
-use Rattle.bmc_leaves.specs.Table.{Decodes, InState, InTable, first_at}
-use Rattle.bmc_leaves.specs.Loops.{IsLoopOf}
+use Rattle.bmc_leaves.specs.Table.{Decodes, InState, InTable}
 use Rattle.bmc_laws.specs.TableTold.{CandidatesAreTold}
+use Rattle.bmc_laws.proofs.Places.{some_same, listed_at, same_first, first_same}
 use Rattle.bmc_laws.proofs.Decided.{Decided, is_left, left_is, is_left_of, number_or, listed_or, own_or, Below, below_or, Inside, inside_or}
-
-some_same : {X : Type 0} (o : Option X) (x y : X) → o ≡ Some x → o ≡ Some y → x ≡ y
-some_same o x y e f = cc
 
 -- an item at a place below the length
 there : {X : Type 0} (xs : List X) (k : ℕ) → k < length xs → (x : X) × (slice_get xs k ≡ Some x)
 there [] k lt = absurd (omega arith)
 there (x ∷ xs) zero lt = (x, refl)
 there (x ∷ xs) (suc k) lt = there xs k (omega arith)
-
--- a tuple that is listed stands at some place
-listed_at : (ts : List (List ℕ)) (t : List ℕ) → Contains ts t → (j : ℕ) × (slice_get ts j ≡ Some t)
-listed_at ts t (j, lt, e) = (j, slice_get-get_or ts j t lt ∙ ap Some e)
 
 module _ (bounds : Bounds) (lasso : LassoValue) where
   -- a tuple is in a relation at a state
@@ -217,31 +209,21 @@ module _ (bounds : Bounds) (lasso : LassoValue) where
         let same = candidate.fixed s z r h.item other b h.is at is fixed in
         record { item = other; is = at; holds = record { item = inner.item; is = sym same ∙ inner.is; holds = inner.holds } }
 
-    same_first : (s : ℕ) (b : Bound) → b.fixed ≡ true → first_variable bounds.relations b s ≡ first_variable bounds.relations b 0
-    same_first s b e =
-        ap (λ (q : Bool). rows.first_at bounds.relations b (if q then 0 else s)) e
-        ∙ sym (ap (λ (q : Bool). rows.first_at bounds.relations b (if q then 0 else 0)) e)
-
     tells_by : (fixed : Bool) (s r j : ℕ) (b : Bound) (t : List ℕ) → b.fixed ≡ fixed → slice_get bounds.relations r ≡ Some b → s < bounds.states → slice_get b.upper.tuples j ≡ Some t → (told (first_variable bounds.relations b s + j) ≡ true) ↔ IsHere s r t
     tells_by false s r j b t e is lt at =
         row_tells s r j b t (record { relation = is; state = lt; place_in = slice_get_within b.upper.tuples j t at; own = λ f. absurd cc }) at
     tells_by true s r j b t e is lt at =
         let tells = row_tells 0 r j b t (record { relation = is; state = table.some; place_in = slice_get_within b.upper.tuples j t at; own = λ f. refl }) at in
-        let same = same_first s b e in (
+        let same = same_first bounds table s b e in (
           λ f. fixed_here 0 s r b t is e lt (tells.0 (subst (λ (m : ℕ). told (m + j) ≡ true) same f)),
           λ h. subst (λ (m : ℕ). told (m + j) ≡ true) (sym same) (tells.1 (fixed_here s 0 r b t is e table.some h)),
         )
-
-    first_same : (fixed : Bool) (s : ℕ) (b : Bound) (cells : Cells) → b.fixed ≡ fixed → ((z : ℕ) → z < bounds.states → cell_at cells z ≡ first_variable bounds.relations b z) → s < bounds.states → first_at b.fixed cells s ≡ first_variable bounds.relations b s
-    first_same true s b cells e laid lt = ap (λ (q : Bool). first_at q cells s) e ∙ laid 0 table.some ∙ sym (same_first s b e)
-    first_same false zero b cells e laid lt = ap (λ (q : Bool). first_at q cells zero) e ∙ laid zero lt
-    first_same false (suc s) b cells e laid lt = ap (λ (q : Bool). first_at q cells (suc s)) e ∙ laid (suc s) lt
 
     relation_tells : (kept : Layout) → IsLayout bounds kept → (r k : ℕ) (b : Bound) (cells : Cells) → slice_get bounds.relations r ≡ Some b → slice_get kept.relations.items r ≡ Some cells → k < bounds.states → (t : List ℕ) → InState lasso r k t ↔ InTable told b cells k t
     relation_tells kept layout r k b cells is at lt t =
         let (own, at_own, laid) = layout.cells r b is in
         let same_cells : own ≡ cells = some_same (slice_get kept.relations.items r) own cells at_own at in
-        let same = first_same b.fixed k b cells refl (λ z below. subst (λ (c : Cells). cell_at c z ≡ first_variable bounds.relations b z) same_cells (laid z below).1) lt in (
+        let same = first_same bounds table b.fixed k b cells refl (λ z below. subst (λ (c : Cells). cell_at c z ≡ first_variable bounds.relations b z) same_cells (laid z below).1) lt in (
           λ state.
               let here = from_state k r t state in
               let (j, at_j) = upper_has k r b t is here in

@@ -1,6 +1,6 @@
 -- What the assignments of an encoding tell.
-use Rattle.std.proofs.Common.{◌≡◌, ◌↔◌, ℕ, zero, suc, ◌+◌, ◌<◌, ◌≤◌, ℤ, Bool, true, false, ◌||◌, List, [], ◌∷◌, ◌++◌, map, length, get_or, slice_get, Some, All, IsTrue, refl, ap, sym, ◌∙◌, subst, arith}
-use Rattle.std.proofs.lemmas.List.Elements.{All-append, All-map}
+use Rattle.std.proofs.Common.{◌≡◌, ℕ, zero, suc, ◌+◌, ◌<◌, ℤ, Bool, true, false, ◌||◌, List, [], ◌∷◌, ◌++◌, map, length, get_or, slice_get, Some, All, IsTrue, refl, sym, subst, arith}
+use Rattle.std.proofs.lemmas.List.Elements.{All-append, All-cons, All-map}
 use Rattle.std.proofs.lemmas.Option.{slice_get_within}
 use Rattle.core_tree.specs.declared.model.Model.{Model}
 use Rattle.core_tree.specs.declared.model.Fact.{Fact}
@@ -10,8 +10,10 @@ use Rattle.core_meaning.specs.Sequence.{LassoValue}
 use Rattle.core_meaning.specs.Meaning.{no_names}
 use Rattle.core_meaning.specs.Satisfied.{HoldsAt, SatisfiesWith}
 use Rattle.bound_uppers.specs.declared.table.Bounds.{Bounds}
-use Rattle.sat_dimacs.specs.Literal.{literal_value, clause_value, value_of, IsSolution, Satisfies as SatisfiesClauses}
+use Rattle.sat_dimacs.specs.Literal.{literal_value, clause_value, value_of, IsSolution}
 use Rattle.bound_uppers.specs.Candidates.{IsCandidate, Agrees}
+use Rattle.bound_naming.specs.declared.pairs.Pair.{Pair}
+use Rattle.bound_naming.specs.Naming.{IsCanonical}
 use Rattle.bmc_laws.specs.Encoding.{unit, Tells, IsDivision, EncodesWith}
 
 -- the parts of a list of which something holds
@@ -81,17 +83,22 @@ told values literals h = let each = all_unmap (Clause values) unit literals h in
 untold : (values : List Bool) (literals : List ℤ) → All (Tells values) literals → All (Clause values) (map unit literals)
 untold values literals h = All-map (Clause values) unit literals (λ k d lt. to_unit values (get_or literals k d) (h k d lt))
 
-module _ (model : Model) (scopes : Scopes) (given : List Fact) (command : Claim) (bounds : Bounds) (variables : ℕ) (defining : List (List ℤ)) (kept facts : List ℤ) (last : ℤ) (is : IsDivision model scopes given command bounds variables defining kept facts last) where
+module _ (model : Model) (scopes : Scopes) (given : List Fact) (command : Claim) (bounds : Bounds) (all : List (List Pair)) (variables : ℕ) (defining : List (List ℤ)) (name : ℤ) (kept facts : List ℤ) (last : ℤ) (is : IsDivision model scopes given command bounds all variables defining name kept facts last) where
+  abbrev others : List ℤ
+  others = kept ++ (facts ++ last ∷ [])
+
   abbrev units_of : List ℤ
-  units_of = kept ++ (facts ++ last ∷ [])
+  units_of = name ∷ others
 
   abbrev whole : List (List ℤ)
   whole = defining ++ map unit units_of
 
-  sound_at : (values : List Bool) → IsSolution variables whole values → (lasso : LassoValue) × IsCandidate bounds lasso × Agrees bounds values lasso × SatisfiesWith model scopes lasso given command
+  sound_at : (values : List Bool) → IsSolution variables whole values → (lasso : LassoValue) × IsCandidate bounds lasso × Agrees bounds values lasso × IsCanonical bounds all lasso × SatisfiesWith model scopes lasso given command
   sound_at values solution =
       let own : IsSolution variables defining values = record { complete = solution.complete; satisfies = all_left_at (Clause values) defining (map unit units_of) solution.satisfies } in
-      let units = told values units_of (all_right (Clause values) defining (map unit units_of) solution.satisfies) in
+      let both = told values units_of (all_right (Clause values) defining (map unit units_of) solution.satisfies) in
+      let first : Tells values name = both zero name (omega arith) in
+      let units : All (Tells values) others = all_tail (Tells values) name others both in
       let found = is.lassos values own in
       let lasso = found.0 in
       let candidate = found.1 in
@@ -103,6 +110,7 @@ module _ (model : Model) (scopes : Scopes) (given : List Fact) (command : Claim)
         lasso,
         candidate,
         agrees,
+        (is.named values lasso own candidate agrees).0 first,
         record {
           keeps = keeps.0;
           declared = keeps.1;
@@ -114,26 +122,30 @@ module _ (model : Model) (scopes : Scopes) (given : List Fact) (command : Claim)
         },
       )
 
-  complete_at : (lasso : LassoValue) → IsCandidate bounds lasso → SatisfiesWith model scopes lasso given command → (values : List Bool) × IsSolution variables whole values × Agrees bounds values lasso
-  complete_at lasso candidate so =
+  complete_at : (lasso : LassoValue) → IsCandidate bounds lasso → IsCanonical bounds all lasso → SatisfiesWith model scopes lasso given command → (values : List Bool) × IsSolution variables whole values × Agrees bounds values lasso
+  complete_at lasso candidate canonical so =
       let found = is.some lasso candidate in
       let values = found.0 in
       let own = found.1 in
       let agrees = found.2 in
+      let first : Tells values name = (is.named values lasso own candidate agrees).1 canonical in
       let keeps : All (Tells values) kept = (is.keeps values lasso own candidate agrees).1 (so.keeps, so.declared) in
       let each : All (Tells values) facts = all_of (Tells values) facts (λ k literal e.
       let within : k < length given = subst (λ (n : ℕ). k < n) is.one_each (slice_get_within facts k literal e) in
       let f = there_is given k within in
       (is.fact_holds values lasso own candidate agrees k f.0 literal f.1 e).1 (of_all (λ (g : Fact). HoldsAt model scopes lasso (claim_of g.formula) no_names 0) given k f.0 so.facts_hold f.1)) in
       let end : All (Tells values) (last ∷ []) = one_of (Tells values) last ((is.command_holds values lasso own candidate agrees).1 so.command_holds) in
-      let units = All-append (Tells values) kept (facts ++ last ∷ []) keeps (All-append (Tells values) facts (last ∷ []) each end) in
+      let rest = All-append (Tells values) kept (facts ++ last ∷ []) keeps (All-append (Tells values) facts (last ∷ []) each end) in
+      let units = All-cons (Tells values) name others first rest in
       (values, record { complete = own.complete; satisfies = All-append (Clause values) defining (map unit units_of) own.satisfies (untold values units_of units) }, agrees)
 
-pub sound : (model : Model) (scopes : Scopes) (given : List Fact) (command : Claim) (bounds : Bounds) (variables : ℕ) (clauses : List (List ℤ)) → EncodesWith model scopes given command bounds variables clauses → (values : List Bool) → IsSolution variables clauses values → (lasso : LassoValue) × IsCandidate bounds lasso × Agrees bounds values lasso × SatisfiesWith model scopes lasso given command
-sound model scopes given command bounds variables clauses (defining, kept, facts, last, e, is) values solution =
-    sound_at model scopes given command bounds variables defining kept facts last is values (subst (λ (cs : List (List ℤ)). IsSolution variables cs values) e solution)
+pub sound : (model : Model) (scopes : Scopes) (given : List Fact) (command : Claim) (bounds : Bounds) (variables : ℕ) (clauses : List (List ℤ)) (encodes : EncodesWith model scopes given command bounds variables clauses) (values : List Bool) → IsSolution variables clauses values
+    → (lasso : LassoValue) × IsCandidate bounds lasso × Agrees bounds values lasso × IsCanonical bounds encodes.all lasso × SatisfiesWith model scopes lasso given command
+sound model scopes given command bounds variables clauses e values solution =
+    sound_at model scopes given command bounds e.all variables e.defining e.name e.kept e.facts e.last e.division values (subst (λ (cs : List (List ℤ)). IsSolution variables cs values) e.divided solution)
 
-pub complete : (model : Model) (scopes : Scopes) (given : List Fact) (command : Claim) (bounds : Bounds) (variables : ℕ) (clauses : List (List ℤ)) → EncodesWith model scopes given command bounds variables clauses → (lasso : LassoValue) → IsCandidate bounds lasso → SatisfiesWith model scopes lasso given command → (values : List Bool) × IsSolution variables clauses values × Agrees bounds values lasso
-complete model scopes given command bounds variables clauses (defining, kept, facts, last, e, is) lasso candidate so =
-    let found = complete_at model scopes given command bounds variables defining kept facts last is lasso candidate so in
-    (found.0, subst (λ (cs : List (List ℤ)). IsSolution variables cs found.0) (sym e) found.1, found.2)
+pub complete : (model : Model) (scopes : Scopes) (given : List Fact) (command : Claim) (bounds : Bounds) (variables : ℕ) (clauses : List (List ℤ)) (encodes : EncodesWith model scopes given command bounds variables clauses) (lasso : LassoValue) → IsCandidate bounds lasso → IsCanonical bounds encodes.all lasso
+    → SatisfiesWith model scopes lasso given command → (values : List Bool) × IsSolution variables clauses values × Agrees bounds values lasso
+complete model scopes given command bounds variables clauses e lasso candidate canonical so =
+    let found = complete_at model scopes given command bounds e.all variables e.defining e.name e.kept e.facts e.last e.division lasso candidate canonical so in
+    (found.0, subst (λ (cs : List (List ℤ)). IsSolution variables cs found.0) (sym e.divided) found.1, found.2)

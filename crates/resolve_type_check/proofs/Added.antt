@@ -1,11 +1,11 @@
 -- Rows that are added each once.
-use Rattle.std.proofs.Common.{◌≡◌, ℕ, ◌+◌, ◌<◌, Bool, true, false, cond, List, [], ◌∷◌, ◌++◌, Contains, get_or, take, length, refl, sym, ap, ◌∙◌, subst, ◌⊎◌, inl, inr, ⊎_elim}
+use Rattle.std.proofs.Common.{◌≡◌, ℕ, ◌+◌, ◌<◌, Bool, true, false, cond, [], ◌∷◌, ◌++◌, Contains, get_or, take, length, refl, sym, ap, ◌∙◌, subst, ◌⊎◌, inl, inr, ⊎_elim}
 use Rattle.std.specs.List.{IsDistinct}
 use Rattle.std.proofs.lemmas.List.{take_more}
-use Rattle.std.proofs.lemmas.List.Elements.{Contains-append_left, Contains-append_cases, Contains-push, Contains-push_cases}
+use Rattle.std.proofs.lemmas.List.Elements.{Contains-append_left, Contains-push, Contains-push_cases}
 use Rattle.std.proofs.lemmas.Map.Keys.{IsDistinct-push}
 use Rattle.core_tree.specs.Types.{TypeRow, TypeRows}
-use Rattle.resolve_type_check.specs.Same.{same_row, has_row, with_row, added, Within, SameRows, IsEachOnce}
+use Rattle.resolve_type_check.specs.Same.{same_row, has_row, with_row, added, Within, IsEachOnce}
 use Rattle.resolve_type_check.proofs.Equal.{same_row_laws, has_from}
 use Rattle.resolve_type_check.proofs.Flat.{none_in, cons_cases, head_in, tail_in}
 

@@ -1,5 +1,5 @@
 -- The rows of a field's declaration.
-use Rattle.std.proofs.Common.{◌≡◌, ◌↔◌, ℕ, ◌+◌, ◌<◌, ◌≤◌, Bool, true, List, [], ◌∷◌, length, take, get_or, All, Contains, Option, Some, None, IfSome, IsTrue, refl, sym, ap, ◌∙◌, subst}
+use Rattle.std.proofs.Common.{◌≡◌, ◌↔◌, ℕ, ◌+◌, ◌<◌, ◌≤◌, List, length, take, get_or, All, Contains, Option, Some, IfSome, sym, subst}
 use Rattle.std.proofs.lemmas.List.Elements.{All-more}
 use Rattle.core_tree.specs.declared.model.Model.{Model}
 use Rattle.core_tree.specs.declared.model.Field.{Field}
@@ -11,15 +11,15 @@ use Rattle.resolve_type_check.specs.Typed.{HasDeclaredRows}
 use Rattle.resolve_type_check.specs.Same.{SameRows}
 use Rattle.resolve_type_check.specs.Names.{SameNames, IsTypeOf}
 use Rattle.resolve_type_check.proofs.Monotone.{same_from, same_then, row_pairs_same}
-use Rattle.resolve_type_check.proofs.Typing.{names_themselves, take_all}
+use Rattle.resolve_type_check.proofs.Typing.{with_same, names_themselves, take_all}
 
-pub declared_end : (model : Model) (owner : ℕ) (e : Term) (own rows all : TypeRows) (names : NameRows) → own ≡ sig_rows model.sigs (length model.sigs) owner → names ≡ with_rows no_rows 0 own → IsTypeOf model e names rows → all ≡ row_pairs own rows → SameRows all (declared_rows model owner e)
+pub declared_end : (model : Model) (owner : ℕ) (e : Term) (own rows all : TypeRows) (names : NameRows) → SameRows own (sig_rows model.sigs (length model.sigs) owner) → names ≡ with_rows no_rows 0 own → IsTypeOf model e names rows → all ≡ row_pairs own rows → SameRows all (declared_rows model owner e)
 declared_end model owner e own rows all names is named t made =
     let sig = sig_rows model.sigs (length model.sigs) owner in
     let this = with_rows no_rows 0 sig in
-    let same : SameNames names this = subst (λ f. SameNames f this) (sym (named ∙ ap (with_rows no_rows 0) is)) (names_themselves this) in
+    let same : SameNames names this = subst (λ f. SameNames f this) (sym named) (with_same no_rows no_rows 0 own sig (names_themselves no_rows) is) in
     same_then all (row_pairs own rows) (declared_rows model owner e) (same_from all (row_pairs own rows) made)
-    (row_pairs_same own rows sig (type_of model e this) (same_from own sig is) (t this same))
+    (row_pairs_same own rows sig (type_of model e this) is (t this same))
 
 pub rows_end : (model : Model) (s : ℕ) (e : Term) (rows there found own : TypeRows) (o : Option TypeRows) → there ≡ rows → own ≡ found → o ≡ Some found → IfSome o (λ l. SameRows l (declared_rows model s e)) → SameRows there own → SameRows rows (declared_rows model s e)
 rows_end model s e rows there found own o et eo is has same =

@@ -1,9 +1,9 @@
 -- What the forms of expressions make of the types of their parts, at the end of a call.
-use Rattle.std.proofs.Common.{◌≡◌, ◌++◌, ℕ, ◌+◌, List, Option, Some, None, IfSome, map, refl, sym, ap, ap₂, ◌∙◌, subst, Vec, Box, Global}
+use Rattle.std.proofs.Common.{◌≡◌, ◌++◌, Option, Some, None, IfSome, ap₂, ◌∙◌, subst}
 use Rattle.core_tree.specs.declared.model.Model.{Model}
 use Rattle.core_tree.specs.declared.operators.RelationOp.{RelationOp}
 use Rattle.core_tree.specs.declared.operators.UnaryRelation.{UnaryRelation}
-use Rattle.core_tree.specs.Trees.{Term, Claim, unary}
+use Rattle.core_tree.specs.Trees.{Term, unary}
 use Rattle.core_tree.specs.Types.{TypeRows, NameRows, combined_rows, row_pairs}
 use Rattle.resolve_type_check.specs.Same.{SameRows}
 use Rattle.resolve_type_check.specs.Closed.{Turns}

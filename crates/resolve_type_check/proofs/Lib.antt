@@ -4,7 +4,7 @@ pub mod Flat
 pub mod Monotone
 pub mod Added
 pub mod Typing
-pub mod Up
+pub mod Rising
 pub mod FormEnds
 pub mod WalkEnds
 pub mod FieldEnds

@@ -1,13 +1,12 @@
 -- What operators make of types that have the same rows.
-use Rattle.std.proofs.Common.{◌≡◌, ℕ, zero, suc, ◌+◌, ◌-◌, ◌<◌, ◌≤◌, List, [], ◌∷◌, ◌++◌, map, reverse, length, Contains, flat_map, refl, sym, ap, ap₂, ◌∙◌, subst, arith, inl, inr, ⊎_elim}
+use Rattle.std.proofs.Common.{◌≡◌, ℕ, zero, suc, ◌+◌, ◌-◌, ◌≤◌, List, [], ◌∷◌, ◌++◌, map, reverse, length, flat_map, refl, sym, ap, ap₂, ◌∙◌, subst, arith}
 use Rattle.std.proofs.lemmas.List.{nil_from_length}
 use Rattle.std.proofs.lemmas.List.Elements.{Contains-append_left}
 use Rattle.core_tree.specs.declared.operators.RelationOp.{RelationOp}
 use Rattle.core_tree.specs.declared.operators.RelationOp.TheVariants.{Union, Difference, Intersection, Join, Override, LeftRestrict, RightRestrict}
-use Rattle.core_tree.specs.declared.operators.UnaryRelation.{UnaryRelation}
 use Rattle.core_tree.specs.declared.operators.UnaryRelation.TheVariants.{Transpose, Closure, ReflexiveClosure}
 use Rattle.core_tree.specs.declared.model.Sig.{Sig}
-use Rattle.core_tree.specs.Types.{TypeRow, TypeRows, option_rows, row_meet, row_join, first_meets, last_meets, row_pairs, each_pair, closed_rows, combined_rows, unary_rows, top_rows}
+use Rattle.core_tree.specs.Types.{TypeRow, TypeRows, option_rows, row_meet, row_join, first_meets, last_meets, row_pairs, each_pair, closed_rows, combined_rows, top_rows}
 use Rattle.resolve_type_check.specs.Same.{Within, SameRows, IsEachOnce}
 use Rattle.resolve_type_check.specs.Closed.{AreWalks, IsClosed, Turns}
 use Rattle.std.proofs.lemmas.List.Concat.{flat_map-cons, flat_map_single}

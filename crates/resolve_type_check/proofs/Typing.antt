@@ -6,9 +6,9 @@ use Rattle.core_tree.specs.declared.operators.RelationOp.{RelationOp}
 use Rattle.core_tree.specs.declared.operators.UnaryRelation.{UnaryRelation}
 use Rattle.core_tree.specs.declared.tree.Variable.{Variable}
 use Rattle.core_tree.specs.declared.operators.Multiplicity.{Multiplicity}
-use Rattle.core_tree.specs.Trees.{Term, Claim, Variables, Binder, term_of, variable_of, combine, product, unary, choose_term, let_term, no_variables, more_variables, variable_list}
+use Rattle.core_tree.specs.Trees.{Term, Claim, Variables, Binder, term_of, variable_of, combine, product, unary, choose_term, let_term, no_variables, variable_list}
 use Rattle.core_tree.specs.Types.{TypeRow, TypeRows, NameRows, with_rows, row_pairs, combined_rows, type_of}
-use Rattle.resolve_type_check.specs.Same.{Within, SameRows}
+use Rattle.resolve_type_check.specs.Same.{SameRows}
 use Rattle.resolve_type_check.specs.Closed.{Turns}
 use Rattle.resolve_type_check.specs.Names.{SameNames, variable_types, types_after, IsTypeOf, IsTypeOfVariables}
 use Rattle.resolve_type_check.proofs.Flat.{into_flat, from_flat, into_map, from_map, head_in, only_in}

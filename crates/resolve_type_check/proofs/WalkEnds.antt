@@ -1,5 +1,5 @@
 -- What the walk over an expression says at the end of each of its forms.
-use Rattle.std.proofs.Common.{◌≡◌, ℕ, ◌∷◌, List, length, map, Option, Some, Result, IfOk, IfSome, refl, sym, ap, ◌∙◌, subst, Vec, Box, Global}
+use Rattle.std.proofs.Common.{◌≡◌, ℕ, List, length, map, Option, Some, Result, IfOk, IfSome, sym, ◌∙◌, subst, Vec, Box, Global}
 use Rattle.core_tree.specs.declared.model.Model.{Model}
 use Rattle.core_tree.specs.declared.model.Sig.{Sig as ModelSig}
 use Rattle.core_tree.specs.declared.operators.RelationOp.{RelationOp}
@@ -8,24 +8,27 @@ use Rattle.core_tree.specs.declared.operators.Multiplicity.{Multiplicity}
 use Rattle.core_tree.specs.declared.tree.Variable.{Variable}
 use Rattle.core_tree.specs.declared.tree.Formula.{Formula}
 use Rattle.core_tree.specs.declared.tree.Expr.{Expr, Name, Combine, Product, Unary, Prime, Choose, Comprehension, Let}
-use Rattle.core_tree.specs.Trees.{Term, term_of, claim_of, variable_of, variable_list, let_term, comprehension}
+use Rattle.core_tree.specs.Trees.{Term, term_of, claim_of, variable_of, variable_list, let_term}
 use Rattle.core_tree.proofs.RowLemmas.{comprehension_is}
 use Rattle.core_tree.specs.Types.{TypeRows, NameRows, with_rows, sig_rows, typed_as, type_of}
 use Rattle.resolve_type_check.specs.declared.names.NamedRows.{NamedRows}
 use Rattle.resolve_type_check.specs.Same.{SameRows}
-use Rattle.resolve_type_check.specs.Names.{names_of, SameNames, IsTypeOf, IsTypeOfVariables}
+use Rattle.resolve_type_check.specs.Names.{names_of, IsTypeOf, IsTypeOfVariables}
 use Rattle.resolve_type_check.specs.Forms.{Typed, Combines, Multiplies, Chooses, Applies}
 use Rattle.resolve_type_check.proofs.Results.{if_ok, if_some}
 use Rattle.resolve_type_check.proofs.Monotone.{same_from, same_then}
 use Rattle.resolve_type_check.proofs.Typing.{let_typed}
 
 -- the rows of a sig that an expression names
-pub sig_typed : (sigs there : List ModelSig) (s : ℕ) (rows : TypeRows) → there ≡ sigs → rows ≡ sig_rows there (length there) (typed_as there s) → rows ≡ sig_rows sigs (length sigs) (typed_as sigs s)
-sig_typed sigs there s rows e is = is ∙ ap (λ (l : List ModelSig). sig_rows l (length l) (typed_as l s)) e
+pub sig_typed : (sigs there : List ModelSig) (s : ℕ) (rows : TypeRows) → there ≡ sigs → SameRows rows (sig_rows there (length there) (typed_as there s)) → SameRows rows (sig_rows sigs (length sigs) (typed_as sigs s))
+sig_typed sigs there s rows e is = subst (λ (l : List ModelSig). SameRows rows (sig_rows l (length l) (typed_as l s))) e is
 
 module _ (model : Model) (names : NameRows) where
   pub fixed_end : {y : Expr} (x : Expr) (rows all : TypeRows) → x ≡ y → ((n : NameRows) → type_of model (term_of y) n ≡ rows) → all ≡ rows → IsTypeOf model (term_of x) names all
   fixed_end {y = y} x rows all e is same = subst (λ (z : Expr). IsTypeOf model (term_of z) names all) (sym e) (λ n p. same_from all (type_of model (term_of y) n) (same ∙ sym (is n)))
+
+  pub same_end : {y : Expr} (x : Expr) (rows all : TypeRows) → x ≡ y → ((n : NameRows) → type_of model (term_of y) n ≡ rows) → SameRows all rows → IsTypeOf model (term_of x) names all
+  same_end {y = y} x rows all e is same = subst (λ (z : Expr). IsTypeOf model (term_of z) names all) (sym e) (λ n p. same_then all rows (type_of model (term_of y) n) same (same_from rows (type_of model (term_of y) n) (sym (is n))))
 
   pub name_end : (x : Expr) (k : ℕ) (all : TypeRows) → x ≡ Name k → all ≡ names k → IsTypeOf model (term_of x) names all
   name_end x k all e same = subst (λ (z : Expr). IsTypeOf model (term_of z) names all) (sym e) (λ n p. same_then all (names k) (n k) (same_from all (names k) same) (p.at k))

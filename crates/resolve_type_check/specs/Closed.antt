@@ -1,6 +1,5 @@
 -- Types that are closed under joins.
 use Rattle.std.specs.Prelude.{ℕ, suc, ◌≤◌, List, length}
-use Rattle.std.specs.List.{IsDistinct}
 use Rattle.core_tree.specs.declared.model.Sig.{Sig}
 use Rattle.core_tree.specs.declared.operators.UnaryRelation.{UnaryRelation}
 use Rattle.core_tree.specs.Types.{TypeRows, closed_rows, unary_rows}

@@ -1,5 +1,5 @@
 -- What the forms of expressions make of the types of their parts, where these have any.
-use Rattle.std.specs.Prelude.{ℕ, Option, IfSome}
+use Rattle.std.specs.Prelude.{Option, IfSome}
 use Rattle.core_tree.specs.declared.model.Model.{Model}
 use Rattle.core_tree.specs.declared.operators.RelationOp.{RelationOp}
 use Rattle.core_tree.specs.declared.operators.UnaryRelation.{UnaryRelation}

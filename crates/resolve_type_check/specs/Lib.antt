@@ -4,3 +4,4 @@ pub mod Same
 pub mod Closed
 pub mod Names
 pub mod Forms
+pub mod Levels

@@ -1,5 +1,5 @@
 -- Rows as sets: lists that have the same rows, in whatever order and however often.
-use Rattle.std.specs.Prelude.{ℕ, ◌==◌, Bool, true, false, cond, ◌&&◌, List, [], ◌∷◌, ◌++◌, Contains}
+use Rattle.std.specs.Prelude.{◌==◌, Bool, true, false, cond, ◌&&◌, [], ◌∷◌, ◌++◌, Contains}
 use Rattle.std.specs.List.{list_any, IsDistinct}
 use Rattle.core_tree.specs.declared.model.Column.{Column}
 use Rattle.core_tree.specs.declared.model.Column.TheVariants.{Sig as SigColumn, Int as IntColumn}

@@ -1,5 +1,5 @@
 -- The types of a model's fields as their declarations say.
-use Rattle.std.specs.Prelude.{◌↔◌, List, IfSome, Contains, All}
+use Rattle.std.specs.Prelude.{◌↔◌, IfSome, Contains, All}
 use Rattle.core_tree.specs.declared.model.Model.{Model}
 use Rattle.core_tree.specs.declared.model.Field.{Field}
 use Rattle.core_tree.specs.Types.{TypeRow}

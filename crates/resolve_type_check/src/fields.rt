@@ -6,10 +6,10 @@ ghost use Rattle.core_tree.specs.Models.{declared_rows};
 ghost use Rattle.resolve_type_check.specs.Typed.{HasDeclaredRows, HasTypes};
 ghost use Rattle.resolve_type_check.specs.Same.{SameRows};
 
+use crate::levels::rows_of_sig;
 use crate::names::{NamedRowsList, with_name};
 use crate::operators::product_type;
 use crate::sets::have_same;
-use crate::sigs::rows_of_sig;
 use crate::walk::type_of;
 use core_tree::{Expr, Field, Model, RowList};
 use std::alloc::{AllocError, Global};

@@ -3,6 +3,7 @@
 
 mod fields;
 mod forms;
+mod levels;
 mod names;
 mod operators;
 mod pairs;

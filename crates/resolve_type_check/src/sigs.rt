@@ -1,8 +1,7 @@
 //! As which sig a sig stands in a type, and where two of them meet.
 
 ghost use Rattle.std.specs.Prelude.{◌≡◌, ◌++◌, ◌∷◌, [], ◌<◌, ◌^◌, length, IfOk, OnOk};
-ghost use Rattle.std.specs.List.{flat_map};
-ghost use Rattle.core_tree.specs.Types.{is_under, meet, parent_rows, kind_rows, sig_rows, literal_parent, standing, top_row, top_rows, typed_as};
+ghost use Rattle.core_tree.specs.Types.{is_under, meet, literal_parent, standing, top_row, top_rows, typed_as};
 ghost use Rattle.resolve_type_check.specs.Steps.{parent_of, parent_at, standing_parent, meet_sigs, standing_rows};
 
 use core_tree::{Column, Row, RowList, Sig, SigKind};
@@ -97,7 +96,7 @@ pub fn meet(sigs: &[Sig], a: Column, b: Column) -> Option<Column>
 }
 
 /// Adds the row of one column.
-fn add_column(alloc: Global, column: Column, all: &mut RowList) -> Result<(), AllocError>
+pub fn add_column(alloc: Global, column: Column, all: &mut RowList) -> Result<(), AllocError>
     ensures { OnOk result (all.new ≡ all.old ++ (column ∷ []) ∷ []) }
 {
     let mut row = Row::new(alloc);
@@ -105,85 +104,16 @@ fn add_column(alloc: Global, column: Column, all: &mut RowList) -> Result<(), Al
     all.push(row)
 }
 
-/// Adds the rows of a sig, going up at most so far.
-#[cycle(rows)]
-pub fn add_sig(
+/// Adds the row of the sig as which a sig stands.
+pub fn add_standing(
     alloc: Global,
     sigs: &[Sig],
-    steps: usize,
     sig: u32,
     all: &mut RowList,
 ) -> Result<(), AllocError>
-    ensures { OnOk result (all.new ≡ all.old ++ sig_rows sigs.now steps sig) }
-{
-    if steps == 0 {
-        return Ok(());
-    }
-    match sigs.get(sig as usize) {
-        None => Ok(()),
-        Some(there) => match &there.kind {
-            SigKind::Top => add_standing(alloc, sigs, sig, all),
-            SigKind::Extends(_) => add_standing(alloc, sigs, sig, all),
-            SigKind::Subset(parents) => add_parents(
-                alloc,
-                sigs,
-                steps - 1,
-                parents.as_slice(),
-                all,
-            ),
-        },
-    }
-}
-
-/// Adds the row of the sig as which a sig stands.
-fn add_standing(alloc: Global, sigs: &[Sig], sig: u32, all: &mut RowList) -> Result<(), AllocError>
     ensures { OnOk result (all.new ≡ all.old ++ standing_rows sigs.now sig) }
 {
     add_column(alloc, Column::Sig(standing(sigs, sigs.len(), sig)), all)
-}
-
-/// Adds the rows of a parent.
-#[cycle(rows)]
-fn add_parent(
-    alloc: Global,
-    sigs: &[Sig],
-    steps: usize,
-    parent: Column,
-    all: &mut RowList,
-) -> Result<(), AllocError>
-    ensures { OnOk result (all.new ≡ all.old ++ parent_rows (sig_rows sigs.now steps) parent) }
-{
-    match parent {
-        Column::Int => add_column(alloc, Column::Int, all),
-        Column::Sig(sig) => add_sig(alloc, sigs, steps, sig, all),
-    }
-}
-
-/// Adds the rows of parents.
-#[cycle(rows)]
-fn add_parents(
-    alloc: Global,
-    sigs: &[Sig],
-    steps: usize,
-    parents: &[Column],
-    all: &mut RowList,
-) -> Result<(), AllocError>
-    ensures { OnOk result (all.new ≡ all.old ++ flat_map (parent_rows (sig_rows sigs.now steps))
-        parents.now) }
-{
-    for parent in parents {
-        add_parent(alloc, sigs, steps, *parent, all)?;
-    }
-    Ok(())
-}
-
-/// The rows of a sig.
-pub fn rows_of_sig(alloc: Global, sigs: &[Sig], sig: u32) -> Result<RowList, AllocError>
-    ensures { IfOk result (λ all. all ≡ sig_rows sigs.now (length sigs.now) sig) }
-{
-    let mut all = RowList::new(alloc);
-    add_sig(alloc, sigs, sigs.len(), sig, &mut all)?;
-    Ok(all)
 }
 
 /// As which sig this one is typed where an expression names it: a literal's as `String`.
@@ -200,21 +130,13 @@ fn literal_parent(sig: u32, there: &Sig) -> u32
 }
 
 /// As which sig an expression's sig is typed.
-fn typed_as(sigs: &[Sig], sig: u32) -> u32
+pub fn typed_as(sigs: &[Sig], sig: u32) -> u32
     ensures { result ≡ typed_as sigs.now sig }
 {
     match sigs.get(sig as usize) {
         None => sig,
         Some(there) => literal_parent(sig, there),
     }
-}
-
-/// The rows of a sig that an expression names.
-pub fn rows_of_named(alloc: Global, sigs: &[Sig], sig: u32) -> Result<RowList, AllocError>
-    ensures { IfOk result (λ all. all ≡ sig_rows sigs.now (length sigs.now)
-        (typed_as sigs.now sig)) }
-{
-    rows_of_sig(alloc, sigs, typed_as(sigs, sig))
 }
 
 /// Adds the row of a top-level sig.

@@ -6,10 +6,11 @@ ghost use Rattle.core_tree.specs.Trees.{term_of, variable_of, variable_list};
 ghost use Rattle.resolve_type_check.specs.Names.{names_of, IsTypeOf, IsTypeOfVariables};
 
 use crate::forms::{combine_types, either_types, product_types, turn_types};
+use crate::levels::rows_of_named;
 use crate::names::{NamedRows, look_up, names_copy, with_name};
 use crate::operators::{pairs_of_tops, product_type};
 use crate::pairs::rows_copy;
-use crate::sigs::{int_rows, rows_of_named, rows_of_tops};
+use crate::sigs::{int_rows, rows_of_tops};
 use core_tree::{Expr, Model, Row, RowList, Variable};
 use std::alloc::{AllocError, Global};
 

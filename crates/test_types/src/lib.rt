@@ -1,4 +1,4 @@
-//! A test of the check of fields' types, which no program calls.
+//! A test of the check of fields' types.
 #![tactic(auto)]
 
 #[cfg(test)]

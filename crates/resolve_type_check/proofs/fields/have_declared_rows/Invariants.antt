@@ -1,4 +1,4 @@
-use Rattle.std.proofs.Common.{◌≡◌, All, take}
+use Rattle.std.proofs.Common.{All, take}
 use Rattle.resolve_type_check.specs.Typed.{HasDeclaredRows}
 use Rattle.resolve_type_check.proofs.fields.have_declared_rows.Given as goal
 

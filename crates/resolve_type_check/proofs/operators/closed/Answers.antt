@@ -1,4 +1,4 @@
-use Rattle.std.proofs.Common.{◌≡◌, IfSome, subst}
+use Rattle.std.proofs.Common.{IfSome, subst}
 use Rattle.core_tree.specs.Types.{TypeRows}
 use Rattle.resolve_type_check.specs.Closed.{AreWalks, IsClosed}
 use Rattle.resolve_type_check.proofs.Results.{if_ok, if_some}

@@ -1,4 +1,4 @@
-use Rattle.std.proofs.Common.{◌≡◌, ◌++◌, Option, IfSome, sym, subst}
+use Rattle.std.proofs.Common.{◌++◌, Option, IfSome, sym, subst}
 use Rattle.core_tree.specs.declared.operators.UnaryRelation.{UnaryRelation}
 use Rattle.core_tree.specs.Types.{TypeRows}
 use Rattle.resolve_type_check.specs.Same.{SameRows}

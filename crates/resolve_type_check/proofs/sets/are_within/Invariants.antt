@@ -1,4 +1,4 @@
-use Rattle.std.proofs.Common.{◌≡◌, take}
+use Rattle.std.proofs.Common.{take}
 use Rattle.resolve_type_check.specs.Same.{Within}
 use Rattle.resolve_type_check.proofs.sets.are_within.Given as goal
 

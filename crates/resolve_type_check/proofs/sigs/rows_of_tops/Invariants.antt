@@ -1,4 +1,4 @@
-use Rattle.std.proofs.Common.{◌≡◌, ◌++◌, ◌<◌, ◌^◌, drop, length}
+use Rattle.std.proofs.Common.{◌≡◌, ◌++◌, drop}
 use Rattle.core_tree.specs.Types.{top_rows}
 use Rattle.resolve_type_check.proofs.sigs.rows_of_tops.Given as goal
 

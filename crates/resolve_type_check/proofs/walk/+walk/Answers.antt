@@ -1,20 +1,20 @@
-use Rattle.std.proofs.Common.{◌≡◌, [], ◌∷◌, List, length, map, Option, IfOk, IfSome, refl, sym, ap, ap₂, ◌∙◌, subst}
+use Rattle.std.proofs.Common.{◌≡◌, [], ◌∷◌, List, length, Option, IfOk, IfSome, refl, ap, ap₂, ◌∙◌, subst}
 use Rattle.core_tree.specs.declared.model.Sig.{Sig as ModelSig}
 use Rattle.core_tree.specs.declared.model.Column.TheVariants.{Int as IntColumn}
-use Rattle.core_tree.specs.Trees.{term_of, variable_of, variable_list}
-use Rattle.core_tree.specs.Types.{TypeRows, NameRows, with_rows, sig_rows, typed_as, top_rows, row_pairs, rows_or_none}
+use Rattle.core_tree.specs.Trees.{term_of}
+use Rattle.core_tree.specs.Types.{TypeRows, with_rows, sig_rows, typed_as, top_rows, row_pairs, rows_or_none}
 use Rattle.std.specs.List.{slice_get}
 use Rattle.resolve_type_check.specs.declared.names.NamedRows.{NamedRows}
 use Rattle.resolve_type_check.specs.Names.{names_of, IsTypeOf}
 use Rattle.resolve_type_check.specs.Forms.{Typed}
-use Rattle.resolve_type_check.proofs.Typing.{IsSoFar, so_far_first, so_far_more, so_far_all}
-use Rattle.resolve_type_check.proofs.WalkEnds.{sig_typed, fixed_end, name_end, prime_end, unary_end, combine_end, product_end, choose_end, variables_end, let_end}
+use Rattle.resolve_type_check.proofs.Typing.{so_far_more}
+use Rattle.resolve_type_check.proofs.WalkEnds.{sig_typed, fixed_end, same_end, name_end, prime_end, unary_end, combine_end, product_end, choose_end, variables_end, let_end}
 use Rattle.resolve_type_check.proofs.walk.+walk.Goals as goal
 
 pub type_of-returns-in_ok-rows_of_named-in-Sig : goal.type_of-returns-in_ok-rows_of_named-in-Sig
 type_of-returns-in_ok-rows_of_named-in-Sig t c =
     let sigs = c.args.model.now.sigs in
-    fixed_end c.args.model.now (names_of c.args.names.now) c.args.expr.now (sig_rows sigs (length sigs) (typed_as sigs c.in-Sig.sig)) c.in_ok-rows_of_named-in-Sig.field-0 c.in-Sig.is (λ n. refl)
+    same_end c.args.model.now (names_of c.args.names.now) c.args.expr.now (sig_rows sigs (length sigs) (typed_as sigs c.in-Sig.sig)) c.in_ok-rows_of_named-in-Sig.field-0 c.in-Sig.is (λ n. refl)
     (sig_typed sigs c.as_slice-sigs.result.now c.in-Sig.sig c.in_ok-rows_of_named-in-Sig.field-0 c.as_slice-sigs.ensures c.in_ok-rows_of_named-in-Sig.ensures)
 
 pub type_of-returns-in_ok-rows_of_field-in-Field : goal.type_of-returns-in_ok-rows_of_field-in-Field
