@@ -1,4 +1,4 @@
--- What is learnt contains no clause, where the levels below the last were propagated to their ends.
+-- What is learnt contains no attached clause, where the levels below the last were propagated to their ends.
 use Rattle.std.proofs.Common.{ℕ, ◌-◌, ◌<◌, ◌≤◌, ◌≡◌, ℤ, pos, neg_ℤ, List, [], length, get_or, take, refl, sym, ap, ◌∙◌, ⊎_elim, arith}
 use Rattle.std.specs.List.{Contains}
 use Rattle.std.proofs.lemmas.List.Elements.{Contains-get_or}
@@ -37,7 +37,7 @@ one_last s literals x y h c d e f =
     sym is_x ∙ (ap (value_at literals) same ∙ is_y)
 
 pub learnt_new : (s : Search) (literals : List ℤ) → Stands s → IsArena s.literals s.ends s.variables → ((l : ℤ) → Contains literals l → Fails s l) → IsAsserting s literals → AreWhole s → AreFilled s → IsNew s literals
-learnt_new s literals t arena fails asserting whole filled i within part = ⊎_elim
+learnt_new s literals t arena fails asserting whole filled i within attached part = ⊎_elim
     (λ (none : length s.limits < 1).
     let nil : literals ≡ [] = asserting.empty (omega (arith, none)) in
     let x = value_at (clause_at s i) 0 in
@@ -54,7 +54,7 @@ learnt_new s literals t arena fails asserting whole filled i within part = ⊎_e
     let c = part x (clause_has s i open_one.0 arena within open_one.2) in
     let d = part y (clause_has s i open_one.1 arena within open_one.3) in
     open_one.4 (one_last s literals x y asserting c d (last_level s x t (fails x c) open_one.5.1) (last_level s y t (fails y d) open_one.6.1)))
-    (whole (length s.limits - 1) i (omega (arith, some)) within))
+    (whole (length s.limits - 1) i (omega (arith, some)) within attached))
     (cases_lt (length s.limits) 1)
 
 -- ---- the level to go back to

@@ -6,7 +6,7 @@ use Rattle.std.proofs.lemmas.Bool.{cases_lt}
 use Rattle.sat_trail.specs.Literal.{index}
 use Rattle.sat_trail.specs.Assignment.{value_at}
 use Rattle.sat_trail.specs.Watched.{IsFalseIn}
-use Rattle.sat_trail.specs.State.{Search, clause_at}
+use Rattle.sat_trail.specs.State.{Search, clause_at, IsAttached}
 use Rattle.sat_analysis.specs.Noted.{HasVariable}
 use Rattle.sat_analysis.specs.Resolved.{Stands, Fails, base, reason_at, IsTaken, IsExplained, AllFail, IsMet, IsBack, IsFound, IsGone, IsLow, IsSpread, IsSpreadTo}
 use Rattle.sat_analysis.proofs.Noting.{longer_trans, longer_at, has_longer, covered_longer}
@@ -17,14 +17,14 @@ use Rattle.sat_analysis.proofs.Trailing.{new_before, fails_longer, place_fails, 
 pub explained_longer : (s : Search) (old new : List ℤ) (j : ℕ) → (ts : List ℤ) × (new ≡ old ++ ts) → IsExplained s old j → IsExplained s new j
 explained_longer s old new j l h = record { within = h.within; forced = h.forced; covered = covered_longer old new (reason_at s j) l h.covered }
 
-pub back_start : (s : Search) (i place : ℕ) (old new : List ℤ) (steps : List ℕ) → Stands s → i < length s.ends → IsFalseIn s.literals s.ends s.assignment.trail i → old ≡ [] → steps ≡ [] → place ≡ length s.assignment.trail → IsTaken (clause_at s i) old new
+pub back_start : (s : Search) (i place : ℕ) (old new : List ℤ) (steps : List ℕ) → Stands s → i < length s.ends → IsAttached s i → IsFalseIn s.literals s.ends s.assignment.trail i → old ≡ [] → steps ≡ [] → place ≡ length s.assignment.trail → IsTaken (clause_at s i) old new
     → IsBack s (clause_at s i) new steps place
-back_start s i place old new steps t within f none empty all taken = record {
+back_start s i place old new steps t within attached f none empty all taken = record {
   fails = λ q b. false_member s i (value_at new q) f (taken.from q (omega (arith, ap length none)) b).0;
   conflict = taken.covered;
   resolved = λ j c. absurd (omega (arith, c.1, ap length empty));
   done = λ j a b l m. absurd (omega (arith, all, b, l));
-  left = λ whole some. let j = left_first s i new t within f taken.covered whole some in (j.0, j.1, omega (arith, all, j.2), j.3);
+  left = λ whole some. let j = left_first s i new t within attached f taken.covered whole some in (j.0, j.1, omega (arith, all, j.2), j.3);
 }
 
 -- nothing is noted at the place

@@ -7,7 +7,7 @@ use Rattle.sat_trail.specs.Literal.{index, IsLiteral}
 use Rattle.sat_trail.specs.Assignment.{value_at}
 use Rattle.sat_trail.specs.Watched.{start_of, InClause, IsFalseIn, IsTrueIn}
 use Rattle.sat_trail.specs.Sound.{IsOpen}
-use Rattle.sat_trail.specs.State.{Search, clause_at}
+use Rattle.sat_trail.specs.State.{Search, clause_at, IsAttached}
 use Rattle.sat_trail.specs.Reasons.{level_of, reason_of, IsReason}
 use Rattle.sat_analysis.specs.Noted.{HasVariable}
 use Rattle.sat_analysis.specs.Resolved.{Stands, Fails, level, base, AreWhole, IsCovered, reason_at, IsTaken, AllFail, IsMet, IsLow}
@@ -209,9 +209,9 @@ not_opened s j t up before c =
     (cases_lt c.0 (length s.limits - 1))
 
 -- where every level below the last was propagated to its end, a false clause has a literal of the last level
-pub left_first : (s : Search) (i : ℕ) (noted : List ℤ) → Stands s → i < length s.ends → IsFalseIn s.literals s.ends s.assignment.trail i → IsCovered noted (clause_at s i)
+pub left_first : (s : Search) (i : ℕ) (noted : List ℤ) → Stands s → i < length s.ends → IsAttached s i → IsFalseIn s.literals s.ends s.assignment.trail i → IsCovered noted (clause_at s i)
     → AreWhole s → 0 < length s.limits → (j : ℕ) × (base s ≤ j) × (j < length s.assignment.trail) × IsMet s noted j
-left_first s i noted t within f covered whole some =
+left_first s i noted t within attached f covered whole some =
     let trail = s.assignment.trail in
     ⊎_elim
     (λ (true_one : IsTrueIn s.literals s.ends (take (base s) trail) i).
@@ -228,7 +228,7 @@ left_first s i noted t within f covered whole some =
     (cases_lt at.0 (base s)) in
     let member = member_clause s i x p open_one.2 refl (nonzero s.variables x (fails_literal s x t fails)) in
     (at.0, up, at.1, subst (HasVariable noted) (sym (index_at s x at.0 at.2)) (covered_member noted (clause_at s i) x covered member)))
-    (whole (length s.limits - 1) i (omega (arith, some)) within)
+    (whole (length s.limits - 1) i (omega (arith, some)) within attached)
 
 -- ---- lists by places
 

@@ -3,7 +3,7 @@ use Rattle.std.specs.Prelude.{ℕ, ◌<◌, ◌≤◌, ◌≡◌, ◌≢◌, ◌
 use Rattle.std.specs.List.{Contains}
 use Rattle.sat_trail.specs.Assignment.{value_at}
 use Rattle.sat_trail.specs.Sound.{IsFree}
-use Rattle.sat_trail.specs.State.{Search, clause_at}
+use Rattle.sat_trail.specs.State.{Search, clause_at, IsAttached}
 use Rattle.sat_trail.specs.Reasons.{AreApart}
 use Rattle.sat_analysis.specs.Resolved.{Fails, level, AreWhole}
 use Rattle.sat_analysis.specs.Hints.{Passes}
@@ -29,9 +29,9 @@ pub record IsSecond (s : Search) (literals : List ℤ) (second : ℕ) : Type 0 w
 abbrev pub AreFilled : Search → Type 0
 AreFilled s = (i : ℕ) → i < length s.ends → 0 < length (clause_at s i)
 
--- no clause has all of its literals among these
+-- no attached clause has all of its literals among these
 abbrev pub IsNew : Search → List ℤ → Type 0
-IsNew s literals = (i : ℕ) → i < length s.ends → ((l : ℤ) → Contains (clause_at s i) l → Contains literals l) → ⊥
+IsNew s literals = (i : ℕ) → i < length s.ends → IsAttached s i → ((l : ℤ) → Contains (clause_at s i) l → Contains literals l) → ⊥
 
 -- two different literals are free
 abbrev pub HasTwoFree : List ℤ → List ℤ → Type 0
@@ -40,7 +40,7 @@ HasTwoFree trail literals =
 
 -- The clause is false, follows by its hints, leaves one literal at the level to go back to, and has no variable twice.
 -- Where every level below the last was propagated to its end, two different literals of it were free at the end of each
--- level below the one to go back to; and if no clause is empty, it contains none of them.
+-- level below the one to go back to; and if no clause is empty, it contains no attached one.
 pub record IsLearnt (s : Search) (literals : List ℤ) (hints : List ℕ) (second : ℕ) : Type 0 where
   pub fails : (l : ℤ) → Contains literals l → Fails s l
   pub passes : Passes s literals hints

@@ -5,7 +5,7 @@ use Rattle.sat_trail.specs.Literal.{index, IsLiteral}
 use Rattle.sat_trail.specs.Assignment.{value_at}
 use Rattle.sat_trail.specs.Watched.{IsTrueIn}
 use Rattle.sat_trail.specs.Sound.{IsOpen}
-use Rattle.sat_trail.specs.State.{Search, clause_at}
+use Rattle.sat_trail.specs.State.{Search, clause_at, IsAttached}
 use Rattle.sat_trail.specs.Reasons.{reason_of, AreReasoned, AreApart}
 use Rattle.sat_analysis.specs.Noted.{HasVariable}
 
@@ -27,11 +27,11 @@ level s l = slice_index s.assignment.levels (index l)
 abbrev pub base : Search → ℕ
 base s = slice_index s.limits (length s.limits - 1)
 
--- every level below the last was propagated to its end: where the next one began, each clause was true or had two
+-- every level below the last was propagated to its end: where the next one began, each attached clause was true or had two
 -- different free literals
 abbrev pub AreWhole : Search → Type 0
 AreWhole s =
-    (f i : ℕ) → f < length s.limits → i < length s.ends → IsTrueIn s.literals s.ends (take (slice_index s.limits f) s.assignment.trail) i ⊎ IsOpen s.literals s.ends (take (slice_index s.limits f) s.assignment.trail) i
+    (f i : ℕ) → f < length s.limits → i < length s.ends → IsAttached s i → IsTrueIn s.literals s.ends (take (slice_index s.limits f) s.assignment.trail) i ⊎ IsOpen s.literals s.ends (take (slice_index s.limits f) s.assignment.trail) i
 
 -- each literal of a clause has the variable of a noted literal
 abbrev pub IsCovered : List ℤ → List ℤ → Type 0

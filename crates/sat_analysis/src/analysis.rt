@@ -29,7 +29,7 @@ ghost use Rattle.std.specs.List.{All, Contains};
 ghost use Rattle.sat_trail.specs.Literal.{IsLiteral};
 ghost use Rattle.sat_trail.specs.Assignment.{value_at};
 ghost use Rattle.sat_trail.specs.Watched.{IsFalseIn};
-ghost use Rattle.sat_trail.specs.State.{clause_at};
+ghost use Rattle.sat_trail.specs.State.{clause_at, IsAttached};
 ghost use Rattle.sat_trail.specs.Reasons.{AreApart};
 ghost use Rattle.sat_analysis.specs.Resolved.{Stands, AllFail, IsClosed};
 ghost use Rattle.sat_analysis.specs.Hints.{IsAnalysed};
@@ -90,17 +90,18 @@ impl Analysis {
         &literals[..self.met.min(literals.len())]
     }
 
-    /// Learns from a clause that is false on the trail.
+    /// Learns from an attached clause that is false on the trail.
     ///
     /// `literals`, `hints` and `back_to` then tell what was learnt. Every literal is false on the trail, and the hints
     /// show the clause. It is empty at level 0. Above, one literal is of the last level, where every level below was
-    /// propagated to its end; and then it contains no clause of the trail, if none of these is empty. The only error is
-    /// want of memory.
+    /// propagated to its end; and then it contains no attached clause, if no clause of the trail is empty. The only error
+    /// is want of memory.
     pub fn learn(&mut self, trail: &Trail, conflict: u64) -> Result<(), AllocError>
         requires variables { self.old.variables ≡ trail.now.variables }
         requires conflict { (0 < conflict) × (conflict ≤ length trail.now.ends)
             × IsFalseIn trail.now.literals trail.now.ends trail.now.assignment.trail
             (conflict - 1) }
+        requires attached { IsAttached trail.now (conflict - 1) }
         ensures variables { self.new.variables ≡ self.old.variables }
         ensures literals { OnOk result (All (IsLiteral trail.now.variables)
             self.new.literals.items) }
@@ -153,6 +154,7 @@ fn resolve_all(
     requires variables { noted.old.variables ≡ trail.now.variables }
     requires conflict { (0 < conflict) × (conflict ≤ length trail.now.ends)
         × IsFalseIn trail.now.literals trail.now.ends trail.now.assignment.trail (conflict - 1) }
+    requires attached { IsAttached trail.now (conflict - 1) }
     requires none { (noted.old.literals ≡ []) × (places.old.items ≡ []) × (learnt.old.items ≡ [])
         × (dropped.old.items ≡ []) }
     ensures variables { noted.new.variables ≡ noted.old.variables }

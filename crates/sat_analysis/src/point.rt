@@ -2,7 +2,7 @@
 
 ghost use Rattle.std.specs.Prelude.{◌≡◌, ℕ, ℤ, ◌+◌, ◌-◌, ◌<◌, ◌≤◌, ◌↔◌, [], List, length, IfOk, OnOk, IsTrue, IsFalse};
 ghost use Rattle.sat_trail.specs.Watched.{IsFalseIn};
-ghost use Rattle.sat_trail.specs.State.{clause_at};
+ghost use Rattle.sat_trail.specs.State.{clause_at, IsAttached};
 ghost use Rattle.std.specs.List.{All};
 ghost use Rattle.sat_trail.specs.Literal.{IsLiteral};
 ghost use Rattle.sat_analysis.specs.Resolved.{Stands, base, IsMet, IsMetIn, IsBack, IsFound};
@@ -120,7 +120,7 @@ fn take_place(
     Ok(false)
 }
 
-/// Resolves from a false clause back to the first unique implication point, and gives its place on the trail, if there
+/// Resolves from an attached false clause back to the first unique implication point, and gives its place on the trail, if there
 /// is one. The places of the literals that are resolved away are added to `places`.
 pub(crate) fn find_point(
     trail: &Trail,
@@ -132,6 +132,7 @@ pub(crate) fn find_point(
     requires variables { noted.old.variables ≡ trail.now.variables }
     requires conflict { (0 < conflict) × (conflict ≤ length trail.now.ends)
         × IsFalseIn trail.now.literals trail.now.ends trail.now.assignment.trail (conflict - 1) }
+    requires attached { IsAttached trail.now (conflict - 1) }
     requires none { (noted.old.literals ≡ []) × (places.old.items ≡ []) }
     ensures variables { noted.new.variables ≡ noted.old.variables }
     ensures found { IfOk result (IsFound trail.now (clause_at trail.now (conflict - 1))

@@ -8,7 +8,7 @@
 //!
 //! A bump adds `step` to a weight. It comes for every variable that was met between the conflict
 //! and the first UIP, whether or not the learnt clause has it. A decay makes `step` larger by a
-//! 19th of itself, so that what was added before counts 19/20. Weights are whole numbers: where
+//! 12th of itself, so that what was added before counts 12/13. Weights are whole numbers: where
 //! the step or a weight passes 2^58, all are shifted down by 30 bits. That keeps the order, but
 //! may make equal what was different, such as small old weights.
 //!
@@ -38,7 +38,7 @@ const LIMIT: u64 = 1 << 58;
 const SHIFT: u32 = 30;
 
 /// By the how manieth part of itself a decay raises what later bumps add.
-const DECAY: u64 = 19;
+const DECAY: u64 = 12;
 
 /// Notes the sign of a variable.
 fn note_sign(signs: &mut [bool], variable: usize, is_true: bool) {
@@ -49,7 +49,7 @@ fn note_sign(signs: &mut [bool], variable: usize, is_true: bool) {
 
 /// Picks a free variable of greatest weight, with the sign that it had last; at first it is false.
 ///
-/// Weights are whole numbers that a bump raises and that count 19/20 after a decay: in place of lowering all of them
+/// Weights are whole numbers that a bump raises and that count 12/13 after a decay: in place of lowering all of them
 /// a decay raises what later bumps add. Where numbers grow too great, all are scaled down, which keeps their order.
 /// The free variables wait in a heap. One that is found assigned is set aside, and waits again once a pick before
 /// it has been undone.

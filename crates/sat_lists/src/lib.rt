@@ -1,9 +1,16 @@
-//! Disjoint linked lists of nodes in two flat arrays, which never allocate once a node is there.
+//! Lists of nodes, one of which at a time is walked while nodes of it go to other lists.
+//!
+//! The nodes of a list lie side by side in memory, so a walk reads them in turn. It has a place
+//! that is read next, and one that is written next: a node that stays is written back, behind
+//! those that stayed before, and one that leaves goes to the end of its other list.
 #![tactic(auto)]
 
-ghost use Rattle.std.specs.Prelude.{◌≡◌, ◌<◌, ◌≤◌, ◌+◌, ◌-◌, ◌^◌, [], ◌∷◌, length, slice_index, IfOk, OnErr, MatchOption, replicate, drop, IfSome, OnOk, slice_set, ◌++◌, vec_len, vec_capacity};
-ghost use Rattle.sat_lists.specs.Linked.{added, detached, settled};
+ghost use Rattle.std.specs.Prelude.{◌≡◌, ◌<◌, ◌≤◌, ◌+◌, [], ◌∷◌, length, IfOk, OnErr, OnOk, MatchOption, replicate, drop, vec_len, vec_capacity, ◌++◌};
+ghost use Rattle.sat_lists.specs.Nodes.{AreAtRest, added, begun, settled, finished, retained};
 
+mod rows;
+
+use crate::rows::{cut_at, empty_lists, len_at, push_at, read_at, retain_all, write_at};
 use std::alloc::{AllocError, Global};
 use std::marker::Model;
 
@@ -19,110 +26,148 @@ pub fn push_in_room<T: Drop>(items: &mut Vec<T>, item: T)
     }
 }
 
-/// The most nodes, so that a pointer to one fits in 32 bits, which keeps the links in nearer memory.
-const MOST_NODES: usize = 4_294_967_290;
+/// The largest number of a pair's first node, so that a node fits in 32 bits, which keeps the lists in nearer memory.
+const LAST_PAIR: usize = 4_294_967_290;
 
-/// Makes the next node, in front of a list.
-fn add(heads: &mut Vec<u32>, next: &mut Vec<u32>, list: usize)
-    requires in_range { list < vec_len heads.old }
-    requires room { vec_len next.old < vec_capacity next.old }
-    requires few { vec_len next.old + 1 < 2 ^ 32 }
-    ensures heads { heads.new.items ≡ slice_set heads.old.items list (vec_len next.old + 1) }
-    ensures next { next.new.items ≡ next.old.items ++ slice_index heads.old.items list ∷ [] }
-    ensures capacity { vec_capacity next.old ≤ vec_capacity next.new }
-{
-    let first = heads[list];
-    push_in_room(next, first);
-    heads[list] = next.len() as u32;
-}
-
-/// Lists of nodes. Each node is on one list, or on the loose one that is being taken apart.
+/// Lists of nodes, which are numbers. One list at a time is walked: its nodes are loose until they are settled, each on
+/// a list.
 #[derive(Drop)]
 pub struct NodeLists {
-    heads: Vec<u32>,
-    next: Vec<u32>,
-    loose: u32,
+    lists: Vec<Vec<u32>>,
+    /// The list that is walked, or how many lists there are.
+    walked: usize,
+    /// The place of the first loose node on it.
+    next: usize,
+    /// How many of its first places have nodes that stay.
+    kept: usize,
+    /// Where it ends.
+    last: usize,
 }
 
 impl Model for NodeLists {
-    ghost use Rattle.sat_lists.specs.Linked.{Lists, linked, IsLinked};
+    ghost use Rattle.sat_lists.specs.Nodes.{Lists, rows, walking, IsWalk};
 
     ghost Value = { Lists };
 
-    ghost view = { λ s. linked s.heads.items s.next.items s.loose };
+    ghost view = { λ s. walking (rows s.lists.items) s.walked s.next s.kept };
 
-    ghost invariant = { λ s. IsLinked s.heads.items s.next.items s.loose };
+    ghost invariant = { λ s. IsWalk (rows s.lists.items) s.walked s.next s.kept s.last };
 }
 
 impl NodeLists {
-    /// This many empty lists, and no node.
+    /// This many empty lists.
     pub fn new(alloc: Global, lists: usize) -> Result<NodeLists, AllocError>
         ensures { IfOk result (λ v. v ≡ record {
           lists = replicate lists [];
           loose = [];
-          nodes = 0;
+          walked = lists;
         }) }
     {
+        let empty = empty_lists(alloc, lists)?;
         Ok(NodeLists {
-            heads: vec![in alloc; 0; lists]?,
-            next: Vec::new(alloc),
-            loose: 0,
+            lists: empty,
+            walked: lists,
+            next: 0,
+            kept: 0,
+            last: 0,
         })
     }
 
-    /// Makes the next two nodes, each in front of a list. The only error is want of memory, which is also that there
-    /// are about 2^32 nodes.
-    pub fn add_pair(&mut self, one: usize, two: usize) -> Result<(), AllocError>
+    /// Adds a node at the end of a list, and the next one at the end of another. The only error is want of memory, which
+    /// is also that a node doesn't fit in 32 bits.
+    pub fn add_pair(&mut self, one: usize, two: usize, node: usize) -> Result<(), AllocError>
+        requires at_rest { AreAtRest self.old }
         requires one { one < length self.old.lists }
         requires two { two < length self.old.lists }
-        ensures ok { OnOk result (self.new ≡ added (added self.old one) two) }
+        ensures ok { OnOk result (self.new ≡ added (added self.old one node) two (node + 1)) }
         ensures err { OnErr result (self.new ≡ self.old) }
     {
-        if self.next.len() > MOST_NODES {
+        if node > LAST_PAIR {
             return Err(AllocError);
         }
-        self.next.reserve(2)?;
-        add(&mut self.heads, &mut self.next, one);
-        add(&mut self.heads, &mut self.next, two);
+        let len = len_at(&self.lists, one);
+        push_at(&mut self.lists, one, node as u32)?;
+        if push_at(&mut self.lists, two, node as u32 + 1).is_err() {
+            cut_at(&mut self.lists, one, len);
+            return Err(AllocError);
+        }
         Ok(())
     }
 
-    /// Makes a list the loose one, and leaves it empty.
+    /// Begins to walk a list: its nodes are loose.
     #[inline]
-    pub fn detach(&mut self, list: usize)
+    pub fn begin(&mut self, list: usize)
+        requires at_rest { AreAtRest self.old }
         requires in_range { list < length self.old.lists }
-        requires none_loose { self.old.loose ≡ [] }
-        ensures { self.new ≡ detached self.old list }
+        ensures { self.new ≡ begun self.old list }
     {
-        self.loose = self.heads[list];
-        self.heads[list] = 0;
+        self.walked = list;
+        self.next = 0;
+        self.kept = 0;
+        self.last = len_at(&self.lists, list);
     }
 
-    /// The first node of the loose list.
+    /// The first loose node.
     #[inline]
     pub fn first(&self) -> Option<usize>
-        ensures first { MatchOption result (self.now.loose ≡ [])
+        ensures { MatchOption result (self.now.loose ≡ [])
             (λ k. self.now.loose ≡ k ∷ drop 1 self.now.loose) }
-        ensures in_range { IfSome result (λ k. k < self.now.nodes) }
     {
-        if self.loose == 0 {
-            None
-        } else {
-            Some(self.loose as usize - 1)
+        if self.next == self.last {
+            return None;
         }
+        Some(read_at(&self.lists, self.walked, self.next) as usize)
     }
 
-    /// Moves the first node of the loose list to the front of a list.
+    /// Puts the first loose node back on the walked list.
     #[inline]
-    pub fn settle(&mut self, list: usize)
+    pub fn keep(&mut self)
+        requires { 0 < length self.old.loose }
+        ensures { self.new ≡ settled self.old self.old.walked }
+    {
+        let node = read_at(&self.lists, self.walked, self.next);
+        write_at(&mut self.lists, self.walked, self.kept, node);
+        self.next += 1;
+        self.kept += 1;
+    }
+
+    /// Puts the first loose node on a list. The only error is want of memory.
+    #[inline]
+    pub fn settle(&mut self, list: usize) -> Result<(), AllocError>
         requires in_range { list < length self.old.lists }
         requires some_loose { 0 < length self.old.loose }
-        ensures { self.new ≡ settled self.old list }
+        ensures ok { OnOk result (self.new ≡ settled self.old list) }
+        ensures err { OnErr result (self.new ≡ self.old) }
     {
-        let node = self.loose as usize - 1;
-        self.loose = self.next[node];
-        self.next[node] = self.heads[list];
-        self.heads[list] = node as u32 + 1;
+        if list == self.walked {
+            self.keep();
+            return Ok(());
+        }
+        let node = read_at(&self.lists, self.walked, self.next);
+        push_at(&mut self.lists, list, node)?;
+        self.next += 1;
+        Ok(())
+    }
+
+    /// Ends the walk, once no node is loose.
+    #[inline]
+    pub fn finish(&mut self)
+        requires { self.old.loose ≡ [] }
+        ensures { self.new ≡ finished self.old }
+    {
+        cut_at(&mut self.lists, self.walked, self.kept);
+        self.walked = self.lists.len();
+        self.next = 0;
+        self.kept = 0;
+        self.last = 0;
+    }
+
+    /// Takes the nodes 2 i and 2 i + 1 of each marked i out of all lists.
+    pub fn retain(&mut self, marks: &[bool])
+        requires { AreAtRest self.old }
+        ensures { self.new ≡ retained marks.now self.old }
+    {
+        retain_all(&mut self.lists, marks);
     }
 }
 
@@ -134,19 +179,35 @@ mod tests {
     #[test]
     fn nodes_go_from_one_list_to_another(rt: HostRuntime) -> Result<(), Fail> {
         let mut lists = NodeLists::new(rt.alloc(), 3)?;
-        lists.add_pair(0, 1)?;
-        lists.add_pair(0, 2)?;
-        lists.detach(0);
-        // The latest node stands first.
-        assert_eq!(rt; lists.first(), Some(2));
-        lists.settle(1);
+        lists.add_pair(0, 1, 0)?;
+        lists.add_pair(0, 2, 2)?;
+        lists.begin(0);
+        // The earliest node stands first.
         assert_eq!(rt; lists.first(), Some(0));
-        lists.settle(0);
-        assert_eq!(rt; lists.first(), None);
-        lists.detach(1);
+        lists.settle(1)?;
         assert_eq!(rt; lists.first(), Some(2));
-        lists.settle(2);
+        lists.keep();
+        assert_eq!(rt; lists.first(), None);
+        lists.finish();
+        lists.begin(1);
         assert_eq!(rt; lists.first(), Some(1));
+        lists.settle(2)?;
+        assert_eq!(rt; lists.first(), Some(0));
+        lists.settle(1)?;
+        assert_eq!(rt; lists.first(), None);
+        Ok(())
+    }
+
+    #[test]
+    fn marked_pairs_leave_all_lists(rt: HostRuntime) -> Result<(), Fail> {
+        let mut lists = NodeLists::new(rt.alloc(), 2)?;
+        lists.add_pair(0, 1, 0)?;
+        lists.add_pair(0, 1, 2)?;
+        lists.retain(&[true]);
+        lists.begin(0);
+        assert_eq!(rt; lists.first(), Some(2));
+        lists.keep();
+        assert_eq!(rt; lists.first(), None);
         Ok(())
     }
 }

@@ -15,8 +15,7 @@ use Rattle.sat_trail.specs.Literal.{index}
 use Rattle.sat_trail.specs.Assignment.{value_at}
 use Rattle.sat_trail.specs.State.{Search}
 use Rattle.sat_trail.specs.Reasons.{AreApart}
-use Rattle.sat_analysis.specs.Learnt.{IsNew}
-use Rattle.sat_solver.specs.News.{behind, AreNew, AreHeld}
+use Rattle.sat_solver.specs.News.{behind, AreNew, AreHeld, IsNewBeside}
 
 -- ---- tests
 
@@ -74,7 +73,7 @@ part_of clause other e l c =
     let at : get_or other c.0 l ≡ l = c.2 in
     among_member clause l (pick (among clause l) (λ no. false≢true (sym (list_all_at (among clause) other c.0 l c.1 (ap (among clause) at ∙ no)) ∙ e)))
 
-pub new_clause : (s : Search) (earlier : List (List ℤ)) (clause : List ℤ) → AreHeld s earlier → AreApart clause → IsNew s clause → IsNewClause earlier clause
+pub new_clause : (s : Search) (earlier : List (List ℤ)) (clause : List ℤ) → AreHeld s earlier → AreApart clause → IsNewBeside s clause → IsNewClause earlier clause
 new_clause s earlier clause held apart fresh = (
   apart_distinct clause apart,
   All-from_get_or (λ (other : List ℤ). list_all (among clause) other ≡ false) earlier [] (λ k b. not_true (list_all (among clause) (get_or earlier k [])) (λ e.

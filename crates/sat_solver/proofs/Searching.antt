@@ -1,5 +1,5 @@
 -- A search goes on: literals are forced, levels are opened and taken back, and lemmas are added.
-use Rattle.std.proofs.Common.{ℕ, zero, suc, ◌+◌, ◌-◌, ◌*◌, ◌<◌, ◌≤◌, ◌≡◌, ◌≢◌, ◌^◌, ℤ, pos, negsuc, neg_ℤ, Bool, true, false, not, ◌↔◌, List, [], ◌∷◌, ◌++◌, length, get_or, take, Option, Some, None, IfSome, IfNone, Result, Ok, Err, IsOk, refl, sym, ap, subst, ◌∙◌, inl, inr, ◌⊎◌, ⊎_elim, arith, mul_comm, length-append}
+use Rattle.std.proofs.Common.{ℕ, zero, suc, ◌+◌, ◌-◌, ◌*◌, ◌<◌, ◌≤◌, ◌≡◌, ◌≢◌, ◌^◌, ℤ, pos, negsuc, neg_ℤ, Bool, true, false, not, ◌↔◌, List, [], ◌∷◌, ◌++◌, length, get_or, set, take, Option, Some, None, IfSome, IfNone, Result, Ok, Err, IsOk, refl, sym, ap, subst, ◌∙◌, inl, inr, ◌⊎◌, ⊎_elim, arith, mul_comm, length-append}
 use Rattle.std.specs.List.{All, Contains}
 use Rattle.std.proofs.lemmas.Bool.{cases_lt}
 use Rattle.std.proofs.lemmas.List.{get_or_default}
@@ -18,17 +18,20 @@ use Rattle.sat_trail.specs.Literal.{index, sign, IsLiteral}
 use Rattle.sat_trail.specs.Assignment.{value_at, IsTold}
 use Rattle.sat_trail.specs.Watched.{IsArena, IsTrueIn}
 use Rattle.sat_trail.specs.Sound.{IsFree, IsOpen}
-use Rattle.sat_trail.specs.State.{Search, clause_at, Keeps, Adds}
+use Rattle.sat_trail.specs.State.{Search, clause_at, Keeps, Adds, IsAttached}
 use Rattle.sat_trail.specs.Reasons.{AreReasoned}
 use Rattle.sat_analysis.specs.Resolved.{AreWhole}
 use Rattle.sat_analysis.specs.Learnt.{AreFilled, IsAsserting, IsLearnt}
+use Rattle.sat_dropped.specs.Entries.{Entries, list_at, HasEntry, entry_count, AreFiled}
 use Rattle.sat_solver.specs.Shared.{AreShared}
-use Rattle.sat_solver.specs.News.{behind, AreNew, AreHeld}
+use Rattle.sat_solver.specs.News.{behind, AreNew, AreHeld, AreFirst}
+use Rattle.sat_solver.specs.Covered.{AreCovered, IsIndexed, HasNoPart, Drops}
 use Rattle.sat_solver.specs.Searched.{IsSearch, AreTrue, IsFull}
 use Rattle.sat_solver.specs.Remaining.{remaining}
-use Rattle.sat_solver.specs.Turn.{IsKept, AreWithin, left}
+use Rattle.sat_solver.specs.Turn.{IsKept, AreWithin, GoesOn, left}
 use Rattle.sat_solver.proofs.Sharing.{same_clause, shared_start, shared_kept, passes_step, lemma_passes, lemma_shared}
-use Rattle.sat_solver.proofs.Wholeness.{clause_has, IsSettled, whole_flat, whole_longer, whole_opened, whole_undone, whole_added, two_free_undone}
+use Rattle.sat_solver.proofs.Wholeness.{clause_has, IsSettled, whole_flat, whole_longer, whole_opened, whole_undone, whole_added, whole_fewer, two_free_undone}
+use Rattle.sat_solver.proofs.Covering.{indexed_moved, indexed_added, indexed_none, covered_same, covered_added, covered_back, covered_fewer, first_same, first_added, first_back, first_fewer, filled_settled, new_beside, covered_start, first_start}
 use Rattle.sat_solver.proofs.News.{new_clause, behind_push, new_push, last_filled, filled_lemma, spends_by, further}
 use Rattle.sat_solver.proofs.Counting.{fewer, within_powers, some_powers}
 
@@ -55,13 +58,6 @@ filled_more s t clause added some h i b = ⊎_elim
     subst (λ (xs : List ℤ). 0 < length xs) (sym (ap (clause_at t) is ∙ added.last)) some)
     (cases_lt i (length s.ends))
 
--- where each clause is settled, none is empty
-pub filled_settled : (s : Search) → IsArena s.literals s.ends s.variables → ((i : ℕ) → i < length s.ends → IsSettled s.literals s.ends s.assignment.trail i) → AreFilled s
-filled_settled s arena all i b = ⊎_elim
-    (λ (one : IsTrueIn s.literals s.ends s.assignment.trail i). let c = clause_has s i one.0 arena b one.1 in omega (arith, c.1))
-    (λ (two : IsOpen s.literals s.ends s.assignment.trail i). let c = clause_has s i two.0 arena b two.2 in omega (arith, c.1))
-    (all i b)
-
 -- a clause that is learnt above level 0 is learnt where none is empty
 filled_above : (s : Search) (literals : List ℤ) (lines : List Line) → IsAsserting s literals → 0 < length literals → AreFilled s ⊎ ((length s.limits ≡ 0) × (length lines ≡ 0)) → AreFilled s
 filled_above s literals lines asserting some h = ⊎_elim
@@ -71,14 +67,18 @@ filled_above s literals lines asserting some h = ⊎_elim
 
 -- ---- steps
 
-pub search_starts : (s : Search) (formula : List (List ℤ)) (lines : List Line) (state : State) → Keeps s formula → s.limits ≡ [] → lines ≡ [] → state ≡ start formula → AreLemmas (start formula) lines state → IsSearch formula lines state s
-search_starts s formula lines state keeps flat none is lemmas =
+pub search_starts : (s : Search) (formula : List (List ℤ)) (lines : List Line) (state : State) (count : ℕ) (d : Entries) → Keeps s formula → s.limits ≡ [] → lines ≡ [] → state ≡ start formula → AreLemmas (start formula) lines state
+    → count ≡ length formula → d.variables ≡ s.variables → ((c : ℕ) → (list_at d.signatures c ≡ []) × (list_at d.numbers c ≡ [])) → IsSearch formula lines state s count d
+search_starts s formula lines state count d keeps flat none is lemmas first variables empty =
     let held : AreHeld s formula = λ k b. (k, omega (arith, b, keeps.count), keeps.each k b) in
     record {
       lemmas = lemmas;
       shared = subst (AreShared s) (sym is) (shared_start s formula keeps);
-      held = held;
+      first = first;
+      held = first_start s formula keeps;
       earlier = subst (λ (ls : List Line). AreHeld s (behind formula ls)) (sym none) held;
+      covered = covered_start s d formula keeps;
+      indexed = indexed_none s d variables empty;
       whole = whole_flat s flat;
       filled = inr (ap length flat, ap length none);
       filled_too = λ all i b.
@@ -88,14 +88,17 @@ search_starts s formula lines state keeps flat none is lemmas =
       fewer = subst (λ (ls : List Line). length ls + remaining s.variables (behind formula ls) ≤ remaining s.variables formula) (sym none) (omega arith);
     }
 
--- no clause changes
-pub search_moved : (s t : Search) (formula : List (List ℤ)) (lines : List Line) (state : State) → t.literals ≡ s.literals → t.ends ≡ s.ends → t.variables ≡ s.variables → AreWhole t → AreFilled s ⊎ ((length t.limits ≡ 0) × (length lines ≡ 0)) → IsSearch formula lines state s
-    → IsSearch formula lines state t
-search_moved s t formula lines state literals ends variables whole filled h = record {
+-- no clause changes, but which are attached and have entries may
+search_moved : (s t : Search) (formula : List (List ℤ)) (lines : List Line) (state : State) (count : ℕ) (d e : Entries) → t.literals ≡ s.literals → t.ends ≡ s.ends → t.variables ≡ s.variables → AreFirst t formula → AreCovered t e → IsIndexed t e → AreWhole t
+    → AreFilled s ⊎ ((length t.limits ≡ 0) × (length lines ≡ 0)) → IsSearch formula lines state s count d → IsSearch formula lines state t count e
+search_moved s t formula lines state count d e literals ends variables held covered indexed whole filled h = record {
   lemmas = h.lemmas;
   shared = shared_kept s t state literals ends h.shared;
-  held = held_moved s t formula literals ends h.held;
+  first = h.first;
+  held = held;
   earlier = held_moved s t (behind formula lines) literals ends h.earlier;
+  covered = covered;
+  indexed = indexed;
   whole = whole;
   filled = ⊎_elim (λ (f : AreFilled s). inl (filled_moved s t literals ends f)) (λ (flat : (length t.limits ≡ 0) × (length lines ≡ 0)). inr flat) filled;
   filled_too = λ all. filled_moved s t literals ends (h.filled_too all);
@@ -103,90 +106,106 @@ search_moved s t formula lines state literals ends variables whole filled h = re
   fewer = subst (λ (n : ℕ). length lines + remaining n (behind formula lines) ≤ remaining n formula) (sym variables) h.fewer;
 }
 
+-- nor does what is attached
+search_same : (s t : Search) (formula : List (List ℤ)) (lines : List Line) (state : State) (count : ℕ) (d : Entries) → t.literals ≡ s.literals → t.ends ≡ s.ends → t.variables ≡ s.variables → t.attached ≡ s.attached → AreWhole t
+    → AreFilled s ⊎ ((length t.limits ≡ 0) × (length lines ≡ 0)) → IsSearch formula lines state s count d → IsSearch formula lines state t count d
+search_same s t formula lines state count d literals ends variables attached whole filled h =
+    search_moved s t formula lines state count d d literals ends variables (first_same s t formula literals ends attached h.held) (covered_same s t d ends attached h.covered) (indexed_moved s t d literals ends variables h.indexed) whole filled h
+
+-- no clause is empty, or none was met
+filled_flat : (s t : Search) (lines : List Line) → (length s.limits ≡ 0 → length t.limits ≡ 0) → AreFilled s ⊎ ((length s.limits ≡ 0) × (length lines ≡ 0)) → AreFilled s ⊎ ((length t.limits ≡ 0) × (length lines ≡ 0))
+filled_flat s t lines flat h = ⊎_elim (λ (f : AreFilled s). inl f) (λ (none : (length s.limits ≡ 0) × (length lines ≡ 0)). inr (flat none.0, none.1)) h
+
 -- the trail goes back and has the learnt clause
-pub kept_whole : (s u t : Search) (literals : List ℤ) (hints : List ℕ) (back : ℕ) → AreReasoned s → IsArena s.literals s.ends s.variables → u.literals ≡ s.literals → u.ends ≡ s.ends → u.variables ≡ s.variables
+pub kept_whole : (s u t : Search) (literals : List ℤ) (hints : List ℕ) (back : ℕ) → AreReasoned s → IsArena s.literals s.ends s.variables → length s.attached ≡ length s.ends → u.literals ≡ s.literals → u.ends ≡ s.ends → u.variables ≡ s.variables → u.attached ≡ s.attached
     → u.assignment.trail ≡ take (get_or s.limits back (length s.assignment.trail)) s.assignment.trail → u.limits ≡ take back s.limits → Adds u t literals → t.assignment ≡ u.assignment → t.limits ≡ u.limits → IsLearnt s literals hints back → AreWhole s → AreWhole t
-kept_whole s u t literals hints back r arena same_literals same_ends same_variables trail limits added assignment same_limits learnt whole =
+kept_whole s u t literals hints back r arena flags same_literals same_ends same_variables attached trail limits added assignment same_limits learnt whole =
     let arena_u : IsArena u.literals u.ends u.variables =
     subst (λ (l : List ℤ). IsArena l u.ends u.variables) (sym same_literals) (subst (λ (e : List ℕ). IsArena s.literals e u.variables) (sym same_ends) (subst (λ (n : ℕ). IsArena s.literals s.ends n) (sym same_variables) arena)) in
-    whole_added u t literals arena_u added assignment same_limits (λ f a. two_free_undone s u back f literals r trail limits a (learnt.two_free whole)) (whole_undone s u back r same_literals same_ends trail limits whole)
+    let flags_u : length u.attached ≡ length u.ends = omega (arith, flags, ap length attached, ap length same_ends) in
+    whole_added u t literals arena_u flags_u added assignment same_limits (λ f a. two_free_undone s u back f literals r trail limits a (learnt.two_free whole)) (whole_undone s u back r same_literals same_ends attached trail limits whole)
 
 -- a learnt clause is new
-learnt_is_new : (s : Search) (formula : List (List ℤ)) (lines : List Line) (state : State) (literals : List ℤ) (hints : List ℕ) (back : ℕ) → IsSearch formula lines state s → IsLearnt s literals hints back → AreFilled s → IsNewClause (behind formula lines) literals
-learnt_is_new s formula lines state literals hints back h learnt filled = new_clause s (behind formula lines) literals h.earlier learnt.apart (learnt.fresh h.whole filled)
+learnt_is_new : (s : Search) (formula : List (List ℤ)) (lines : List Line) (state : State) (count : ℕ) (d : Entries) (literals : List ℤ) (hints : List ℕ) (back : ℕ) → IsSearch formula lines state s count d → HasNoPart s d literals → IsLearnt s literals hints back → AreFilled s
+    → IsNewClause (behind formula lines) literals
+learnt_is_new s formula lines state count d literals hints back h none learnt filled = new_clause s (behind formula lines) literals h.earlier learnt.apart (new_beside s d literals h.covered (learnt.fresh h.whole filled) none)
 
 -- a lemma that was kept leaves fewer clauses that can be new
-fewer_behind : (s : Search) (formula : List (List ℤ)) (lines lines' : List Line) (state : State) (id : ℕ) (literals : List ℤ) (hints : List ℕ) (back : ℕ) → IsSearch formula lines state s → IsLearnt s literals hints back → All (IsLiteral s.variables) literals → AreFilled s
+fewer_behind : (s : Search) (formula : List (List ℤ)) (lines lines' : List Line) (state : State) (count : ℕ) (d : Entries) (id : ℕ) (literals : List ℤ) (hints : List ℕ) (back : ℕ) → IsSearch formula lines state s count d → HasNoPart s d literals → IsLearnt s literals hints back → All (IsLiteral s.variables) literals → AreFilled s
     → lines' ≡ lines ++ Lemma id literals hints ∷ [] → remaining s.variables (behind formula lines') < remaining s.variables (behind formula lines)
-fewer_behind s formula lines lines' state id literals hints back h learnt over filled pushed =
+fewer_behind s formula lines lines' state count d id literals hints back h none learnt over filled pushed =
     let next : behind formula lines' ≡ literals ∷ behind formula lines = ap (behind formula) pushed ∙ behind_push formula lines id literals hints in
     subst (λ (cs : List (List ℤ)). remaining s.variables cs < remaining s.variables (behind formula lines)) (sym next)
-    (fewer s.variables (behind formula lines) literals over learnt.apart (learnt_is_new s formula lines state literals hints back h learnt filled).1)
+    (fewer s.variables (behind formula lines) literals over learnt.apart (learnt_is_new s formula lines state count d literals hints back h none learnt filled).1)
 
-pub kept_added : (s u t : Search) (formula : List (List ℤ)) (lines lines' : List Line) (state state' : State) (id : ℕ) (literals : List ℤ) (hints : List ℕ) (back : ℕ) → IsSearch formula lines state s → IsLearnt s literals hints back → All (IsLiteral s.variables) literals → t.variables ≡ s.variables
-    → u.literals ≡ s.literals → u.ends ≡ s.ends → Adds u t literals → id ≡ length t.ends → AreWhole t → lines' ≡ lines ++ Lemma id literals hints ∷ [] → step state (Lemma id literals hints) ≡ Ok state' → AreLemmas (start formula) lines' state'
-    → IsSearch formula lines' state' t
-kept_added s u t formula lines lines' state state' id literals hints back h learnt over variables same_literals same_ends added is whole pushed passes lemmas =
+pub kept_added : (s u t : Search) (formula : List (List ℤ)) (lines lines' : List Line) (state state' : State) (count : ℕ) (d : Entries) (id : ℕ) (literals : List ℤ) (hints : List ℕ) (back : ℕ) → IsSearch formula lines state s count d → HasNoPart s d literals → IsLearnt s literals hints back → All (IsLiteral s.variables) literals → t.variables ≡ s.variables
+    → u.literals ≡ s.literals → u.ends ≡ s.ends → u.attached ≡ s.attached → length s.attached ≡ length s.ends → Adds u t literals → id ≡ length t.ends → AreWhole t → lines' ≡ lines ++ Lemma id literals hints ∷ [] → step state (Lemma id literals hints) ≡ Ok state' → AreLemmas (start formula) lines' state'
+    → IsSearch formula lines' state' t count d
+kept_added s u t formula lines lines' state state' count d id literals hints back h none learnt over variables same_literals same_ends attached flags added is whole pushed passes lemmas =
     let some : 0 < length literals = filled_lemma id literals hints (last_filled lines (start formula) state' id literals hints (subst (λ (ls : List Line). AreLemmas (start formula) ls state') pushed lemmas)) in
     let filled = filled_above s literals lines learnt.asserting some h.filled in
     let next : with_clause state id literals ≡ state' = let both : Ok (with_clause state id literals) ≡ Ok state' = sym (lemma_passes s u t state id literals hints h.shared same_literals same_ends added is learnt.passes) ∙ passes in cc in
     let filled_u = filled_moved s u same_literals same_ends filled in
+    let flags_u : length u.attached ≡ length u.ends = omega (arith, flags, ap length attached, ap length same_ends) in
     record {
       lemmas = lemmas;
       shared = subst (AreShared t) next (lemma_shared s u t state id literals h.shared same_literals same_ends added is);
-      held = held_more u t formula literals added (held_moved s u formula same_literals same_ends h.held);
+      first = h.first;
+      held = first_added u t formula literals flags_u added (first_same s u formula same_literals same_ends attached h.held);
       earlier = subst (λ (ls : List Line). AreHeld t (behind formula ls)) (sym pushed) (subst (AreHeld t) (sym (behind_push formula lines id literals hints)) (held_new u t (behind formula lines) literals added (held_moved s u (behind formula lines) same_literals same_ends h.earlier)));
+      covered = covered_added u t literals d flags_u added (covered_same s u d same_ends attached h.covered);
+      indexed = indexed_added s u t literals d same_literals same_ends variables added h.indexed;
       whole = whole;
       filled = inl (filled_more u t literals added some filled_u);
       filled_too = λ all. filled_more u t literals added some filled_u;
-      fresh = subst (AreNew formula) (sym pushed) (new_push formula lines id literals hints h.fresh (learnt_is_new s formula lines state literals hints back h learnt filled));
+      fresh = subst (AreNew formula) (sym pushed) (new_push formula lines id literals hints h.fresh (learnt_is_new s formula lines state count d literals hints back h none learnt filled));
       fewer = subst (λ (n : ℕ). length lines' + remaining n (behind formula lines') ≤ remaining n formula) (sym variables)
-          (omega (arith, h.fewer, ap length pushed, length-append lines (Lemma id literals hints ∷ []), fewer_behind s formula lines lines' state id literals hints back h learnt over filled pushed));
+          (omega (arith, h.fewer, ap length pushed, length-append lines (Lemma id literals hints ∷ []), fewer_behind s formula lines lines' state count d id literals hints back h none learnt over filled pushed));
     }
 
-pub kept : (s u t : Search) (formula : List (List ℤ)) (lines lines' : List Line) (state state' : State) (id : ℕ) (literals : List ℤ) (hints : List ℕ) (back : ℕ) (taken : Taken) → IsSearch formula lines state s → IsLearnt s literals hints back → All (IsLiteral s.variables) literals → t.variables ≡ s.variables
-    → u.literals ≡ s.literals → u.ends ≡ s.ends → Adds u t literals → id ≡ length t.ends → AreWhole t → IsTaken (Lemma id literals hints) lines state taken lines' state' → Leaves formula taken lines' state' → IsKept formula taken lines' state' t
-kept s u t formula lines lines' state state' id literals hints back Added h learnt over variables same_literals same_ends added is whole taken leaves =
-    kept_added s u t formula lines lines' state state' id literals hints back h learnt over variables same_literals same_ends added is whole taken.0 taken.1 leaves
-kept s u t formula lines lines' state state' id literals hints back Refuted h learnt over variables same_literals same_ends added is whole taken leaves = (
+pub kept : (s u t : Search) (formula : List (List ℤ)) (lines lines' : List Line) (state state' : State) (count : ℕ) (d : Entries) (id : ℕ) (literals : List ℤ) (hints : List ℕ) (back : ℕ) (taken : Taken) → IsSearch formula lines state s count d → HasNoPart s d literals → IsLearnt s literals hints back → All (IsLiteral s.variables) literals → t.variables ≡ s.variables
+    → u.literals ≡ s.literals → u.ends ≡ s.ends → u.attached ≡ s.attached → length s.attached ≡ length s.ends → Adds u t literals → id ≡ length t.ends → AreWhole t → IsTaken (Lemma id literals hints) lines state taken lines' state' → Leaves formula taken lines' state' → IsKept formula taken lines' state' t count d
+kept s u t formula lines lines' state state' count d id literals hints back Added h none learnt over variables same_literals same_ends attached flags added is whole taken leaves =
+    kept_added s u t formula lines lines' state state' count d id literals hints back h none learnt over variables same_literals same_ends attached flags added is whole taken.0 taken.1 leaves
+kept s u t formula lines lines' state state' count d id literals hints back Refuted h none learnt over variables same_literals same_ends attached flags added is whole taken leaves = (
   leaves,
-  λ all. subst (AreNew formula) (sym taken.0) (new_push formula lines id literals hints h.fresh (learnt_is_new s formula lines state literals hints back h learnt (h.filled_too all))),
+  λ all. subst (AreNew formula) (sym taken.0) (new_push formula lines id literals hints h.fresh (learnt_is_new s formula lines state count d literals hints back h none learnt (h.filled_too all))),
 )
-kept s u t formula lines lines' state state' id literals hints back Failed h learnt over variables same_literals same_ends added is whole taken leaves =
+kept s u t formula lines lines' state state' count d id literals hints back Failed h none learnt over variables same_literals same_ends attached flags added is whole taken leaves =
     let both : Ok (with_clause state id literals) ≡ Err taken.2 = sym (lemma_passes s u t state id literals hints h.shared same_literals same_ends added is learnt.passes) ∙ taken.3 in absurd (cc)
 
 -- a lemma that was added leaves fewer clauses that can be new
-pub kept_fewer : (s : Search) (formula : List (List ℤ)) (lines lines' : List Line) (state state' : State) (id : ℕ) (literals : List ℤ) (hints : List ℕ) (back : ℕ) (taken : Taken) → IsSearch formula lines state s → IsLearnt s literals hints back → All (IsLiteral s.variables) literals
+pub kept_fewer : (s : Search) (formula : List (List ℤ)) (lines lines' : List Line) (state state' : State) (count : ℕ) (d : Entries) (id : ℕ) (literals : List ℤ) (hints : List ℕ) (back : ℕ) (taken : Taken) → IsSearch formula lines state s count d → HasNoPart s d literals → IsLearnt s literals hints back → All (IsLiteral s.variables) literals
     → IsTaken (Lemma id literals hints) lines state taken lines' state' → Leaves formula taken lines' state' → taken ≡ Added → remaining s.variables (behind formula lines') < remaining s.variables (behind formula lines)
-kept_fewer s formula lines lines' state state' id literals hints back Added h learnt over taken leaves is =
+kept_fewer s formula lines lines' state state' count d id literals hints back Added h none learnt over taken leaves is =
     let some : 0 < length literals = filled_lemma id literals hints (last_filled lines (start formula) state' id literals hints (subst (λ (ls : List Line). AreLemmas (start formula) ls state') taken.0 leaves)) in
-    fewer_behind s formula lines lines' state id literals hints back h learnt over (filled_above s literals lines learnt.asserting some h.filled) taken.0
-kept_fewer s formula lines lines' state state' id literals hints back Refuted h learnt over taken leaves is = absurd (cc)
-kept_fewer s formula lines lines' state state' id literals hints back Failed h learnt over taken leaves is = absurd (cc)
+    fewer_behind s formula lines lines' state count d id literals hints back h none learnt over (filled_above s literals lines learnt.asserting some h.filled) taken.0
+kept_fewer s formula lines lines' state state' count d id literals hints back Refuted h none learnt over taken leaves is = absurd (cc)
+kept_fewer s formula lines lines' state state' count d id literals hints back Failed h none learnt over taken leaves is = absurd (cc)
 
 -- a budget is spent: what is learnt now would be one lemma more
 ok_is : (r : Result State ℕ) (next : State) → r ≡ Ok next → IsOk r
 ok_is r next e = subst (λ (x : Result State ℕ). IsOk x) (sym e) refl
 
-spent : (s : Search) (formula : List (List ℤ)) (lines : List Line) (state : State) (literals : List ℤ) (hints : List ℕ) (back : ℕ) → IsSearch formula lines state s → IsLearnt s literals hints back → Spends formula (length lines) lines
-spent s formula lines state literals hints back h learnt =
+spent : (s : Search) (formula : List (List ℤ)) (lines : List Line) (state : State) (count : ℕ) (d : Entries) (literals : List ℤ) (hints : List ℕ) (back : ℕ) → IsSearch formula lines state s count d → HasNoPart s d literals → IsLearnt s literals hints back → Spends formula (length lines) lines
+spent s formula lines state count d literals hints back h none learnt =
     let id = length s.ends + 1 in
     let passes = ok_is (step state (Lemma id literals hints)) (with_clause state id literals) (passes_step s state id literals hints h.shared refl learnt.passes) in
     spends_by lines (start formula) state formula (length lines) refl h.lemmas h.fresh
-    (Lemma id literals hints, further state (behind formula lines) id literals hints passes (λ some. learnt_is_new s formula lines state literals hints back h learnt (filled_above s literals lines learnt.asserting some h.filled)))
+    (Lemma id literals hints, further state (behind formula lines) id literals hints passes (λ some. learnt_is_new s formula lines state count d literals hints back h none learnt (filled_above s literals lines learnt.asserting some h.filled)))
 
 -- and so there were fewer lemmas than clauses that could be new
-spent_few : (s : Search) (formula : List (List ℤ)) (lines : List Line) (state : State) (literals : List ℤ) (hints : List ℕ) (back : ℕ) → IsSearch formula lines state s → IsLearnt s literals hints back → All (IsLiteral s.variables) literals → length lines < 3 ^ s.variables
-spent_few s formula lines state literals hints back h learnt over = ⊎_elim
+spent_few : (s : Search) (formula : List (List ℤ)) (lines : List Line) (state : State) (count : ℕ) (d : Entries) (literals : List ℤ) (hints : List ℕ) (back : ℕ) → IsSearch formula lines state s count d → HasNoPart s d literals → IsLearnt s literals hints back → All (IsLiteral s.variables) literals → length lines < 3 ^ s.variables
+spent_few s formula lines state count d literals hints back h none learnt over = ⊎_elim
     (λ (f : AreFilled s).
-    let less = fewer s.variables (behind formula lines) literals over learnt.apart (learnt_is_new s formula lines state literals hints back h learnt f).1 in
+    let less = fewer s.variables (behind formula lines) literals over learnt.apart (learnt_is_new s formula lines state count d literals hints back h none learnt f).1 in
     omega (arith, less, h.fewer, within_powers s.variables formula))
     (λ (flat : (length s.limits ≡ 0) × (length lines ≡ 0)). omega (arith, flat.1, some_powers s.variables))
     h.filled
 
-pub spent_turn : (s : Search) (formula : List (List ℤ)) (lines : List Line) (state : State) (literals : List ℤ) (hints : List ℕ) (back : ℕ) (budget : Option ℕ) → budget ≡ Some (length lines) → IsSearch formula lines state s → IsLearnt s literals hints back → All (IsLiteral s.variables) literals
+pub spent_turn : (s : Search) (formula : List (List ℤ)) (lines : List Line) (state : State) (count : ℕ) (d : Entries) (literals : List ℤ) (hints : List ℕ) (back : ℕ) (budget : Option ℕ) → budget ≡ Some (length lines) → IsSearch formula lines state s count d → HasNoPart s d literals → IsLearnt s literals hints back → All (IsLiteral s.variables) literals
     → (budget ≡ Some (length lines)) × AreLemmas (start formula) lines state × Spends formula (length lines) lines × (length lines < 3 ^ s.variables)
-spent_turn s formula lines state literals hints back budget is h learnt over = (is, h.lemmas, spent s formula lines state literals hints back h learnt, spent_few s formula lines state literals hints back h learnt over)
+spent_turn s formula lines state count d literals hints back budget is h none learnt over = (is, h.lemmas, spent s formula lines state count d literals hints back h none learnt, spent_few s formula lines state count d literals hints back h none learnt over)
 
 -- ---- a full trail
 
@@ -212,33 +231,30 @@ none_free s x full literals literal free =
     (λ (opposite : value_at trail j.0 ≡ neg_ℤ x). free.1 (at_contains trail (neg_ℤ x) j.0 j.1 opposite))
     (by_index s.variables s.variables (value_at trail j.0) x (literals j.0 (pos 0) j.1) literal j.2)
 
-pub full_true : (s : Search) (formula : List (List ℤ)) → IsArena s.literals s.ends s.variables → All (IsLiteral s.variables) s.assignment.trail → AreHeld s formula → IsFull s
-    → ((i : ℕ) → i < length s.ends → IsSettled s.literals s.ends s.assignment.trail i) → AreTrue formula s.assignment.trail
-full_true s formula arena literals held full all k b =
-    let i = held k b in
+pub full_true : (s : Search) (formula : List (List ℤ)) → IsArena s.literals s.ends s.variables → All (IsLiteral s.variables) s.assignment.trail → AreFirst s formula → IsFull s
+    → ((i : ℕ) → IsAttached s i → IsSettled s.literals s.ends s.assignment.trail i) → AreTrue formula s.assignment.trail
+full_true s formula arena literals first full all k b =
+    let held = first k b in
     ⊎_elim
-    (λ (one : IsTrueIn s.literals s.ends s.assignment.trail i.0). (value_at s.literals one.0, subst (λ (xs : List ℤ). Contains xs (value_at s.literals one.0)) i.2 (clause_has s i.0 one.0 arena i.1 one.1), one.2))
-    (λ (two : IsOpen s.literals s.ends s.assignment.trail i.0).
-    let fits = (arena.ordered i.0 i.1).1 in
+    (λ (one : IsTrueIn s.literals s.ends s.assignment.trail k). (value_at s.literals one.0, subst (λ (xs : List ℤ). Contains xs (value_at s.literals one.0)) held.2 (clause_has s k one.0 arena held.0 one.1), one.2))
+    (λ (two : IsOpen s.literals s.ends s.assignment.trail k).
+    let fits = (arena.ordered k held.0).1 in
     let inside : two.0 < length s.literals = omega (arith, two.2.1, fits) in
     absurd (none_free s (value_at s.literals two.0) full literals (arena.literal two.0 inside) two.5))
-    (all i.0 i.1)
+    (all k held.1)
 
 -- ---- the measure
 
-pub left_lemma : (variables : ℕ) (formula : List (List ℤ)) (lines lines' : List Line) (trail trail' : List ℤ) → remaining variables (behind formula lines') < remaining variables (behind formula lines) → left variables formula lines' trail' < left variables formula lines trail
-left_lemma variables formula lines lines' trail trail' up =
-    let w = variables + 1 in
-    let a = remaining variables (behind formula lines') in
-    let b = remaining variables (behind formula lines) in
-    let below = mul-add-lt a w (variables - length trail') b up (omega arith) in
+-- a number of two parts, of which the latter is below a bound, falls with the former
+falls_first : (w a b x y : ℕ) → a < b → x < w → a * w + x < b * w + y
+falls_first w a b x y less small =
+    let below = mul-add-lt a w x b less small in
     let turned : w * b ≡ b * w = mul_comm w b in
     omega (arith, below, turned)
 
-pub left_literal : (variables : ℕ) (formula : List (List ℤ)) (lines lines' : List Line) (trail trail' : List ℤ) → lines' ≡ lines → length trail < length trail' → length trail' ≤ variables → left variables formula lines' trail' < left variables formula lines trail
-left_literal variables formula lines lines' trail trail' same longer fits =
-    let is = ap (λ (ls : List Line). remaining variables (behind formula ls) * (variables + 1)) same in
-    omega (arith, is, longer, fits)
+-- and with the latter
+falls_last : (w a b x y : ℕ) → a ≡ b → x < y → a * w + x < b * w + y
+falls_last w a b x y same less = let is = ap (λ (n : ℕ). n * w) same in omega (arith, is, less)
 
 -- ---- free variables by their values
 
@@ -303,23 +319,37 @@ pub none_full : (s : Search) (values : List ℤ) (r : Option ℤ) → IsTold s.a
 none_full s values (Some l) told size h = tt
 none_full s values None told size h = full_by s values told size h
 
--- a level is opened where each clause is settled
-pub search_opened : (s t : Search) (l : ℤ) (formula : List (List ℤ)) (lines : List Line) (state : State) → AreReasoned s → IsArena s.literals s.ends s.variables → t.literals ≡ s.literals → t.ends ≡ s.ends → t.variables ≡ s.variables → t.limits ≡ s.limits ++ length s.assignment.trail ∷ [] → t.assignment.trail ≡ s.assignment.trail ++ l ∷ []
-    → ((i : ℕ) → i < length s.ends → IsSettled s.literals s.ends s.assignment.trail i) → IsSearch formula lines state s → IsSearch formula lines state t
-search_opened s t l formula lines state r arena literals ends variables limits trail all h =
-    search_moved s t formula lines state literals ends variables (whole_opened s t l r literals ends limits trail all h.whole) (inl (filled_settled s arena all)) h
+-- a level is opened where each attached clause is settled
+pub search_opened : (s t : Search) (l : ℤ) (formula : List (List ℤ)) (lines : List Line) (state : State) (count : ℕ) (d : Entries) → AreReasoned s → IsArena s.literals s.ends s.variables → t.literals ≡ s.literals → t.ends ≡ s.ends → t.variables ≡ s.variables → t.attached ≡ s.attached
+    → t.limits ≡ s.limits ++ length s.assignment.trail ∷ [] → t.assignment.trail ≡ s.assignment.trail ++ l ∷ [] → ((i : ℕ) → IsAttached s i → IsSettled s.literals s.ends s.assignment.trail i) → IsSearch formula lines state s count d → IsSearch formula lines state t count d
+search_opened s t l formula lines state count d r arena literals ends variables attached limits trail all h =
+    search_same s t formula lines state count d literals ends variables attached (whole_opened s t l r literals ends attached limits trail all h.whole) (inl (filled_settled s d arena h.covered h.indexed all)) h
 
 -- literals are forced
-pub search_longer : (s t : Search) (formula : List (List ℤ)) (lines : List Line) (state : State) → AreReasoned s → t.literals ≡ s.literals → t.ends ≡ s.ends → t.variables ≡ s.variables → t.limits ≡ s.limits → (ts : List ℤ) × (t.assignment.trail ≡ s.assignment.trail ++ ts) → IsSearch formula lines state s → IsSearch formula lines state t
-search_longer s t formula lines state r literals ends variables limits longer h =
-    search_moved s t formula lines state literals ends variables (whole_longer s t r literals ends limits longer h.whole)
-    (⊎_elim (λ (f : AreFilled s). inl f) (λ (flat : (length s.limits ≡ 0) × (length lines ≡ 0)). inr (ap length limits ∙ flat.0, flat.1)) h.filled) h
+pub search_longer : (s t : Search) (formula : List (List ℤ)) (lines : List Line) (state : State) (count : ℕ) (d : Entries) → AreReasoned s → t.literals ≡ s.literals → t.ends ≡ s.ends → t.variables ≡ s.variables → t.attached ≡ s.attached → t.limits ≡ s.limits
+    → (ts : List ℤ) × (t.assignment.trail ≡ s.assignment.trail ++ ts) → IsSearch formula lines state s count d → IsSearch formula lines state t count d
+search_longer s t formula lines state count d r literals ends variables attached limits longer h =
+    search_same s t formula lines state count d literals ends variables attached (whole_longer s t r literals ends attached limits longer h.whole) (filled_flat s t lines (λ e. ap length limits ∙ e) h.filled) h
 
 -- the trail goes back to level 0
-pub search_restarted : (s t : Search) (formula : List (List ℤ)) (lines : List Line) (state : State) → t.literals ≡ s.literals → t.ends ≡ s.ends → t.variables ≡ s.variables → t.limits ≡ [] → IsSearch formula lines state s → IsSearch formula lines state t
-search_restarted s t formula lines state literals ends variables flat h =
-    search_moved s t formula lines state literals ends variables (whole_flat t flat)
-    (⊎_elim (λ (f : AreFilled s). inl f) (λ (none : (length s.limits ≡ 0) × (length lines ≡ 0)). inr (ap length flat, none.1)) h.filled) h
+pub search_restarted : (s t : Search) (formula : List (List ℤ)) (lines : List Line) (state : State) (count : ℕ) (d : Entries) → t.literals ≡ s.literals → t.ends ≡ s.ends → t.variables ≡ s.variables → t.attached ≡ s.attached → t.limits ≡ [] → IsSearch formula lines state s count d
+    → IsSearch formula lines state t count d
+search_restarted s t formula lines state count d literals ends variables attached flat h =
+    search_same s t formula lines state count d literals ends variables attached (whole_flat t flat) (filled_flat s t lines (λ e. ap length flat) h.filled) h
+
+-- a dropped lemma is attached again, at level 0
+pub search_back : (s t : Search) (formula : List (List ℤ)) (lines : List Line) (state : State) (count : ℕ) (d e : Entries) (number : ℕ) → length s.attached ≡ length s.ends → (0 < number) × (number ≤ length s.ends) → t.literals ≡ s.literals → t.ends ≡ s.ends → t.variables ≡ s.variables
+    → t.attached ≡ set s.attached (number - 1) true → t.limits ≡ [] → IsIndexed s e → ((n : ℕ) → HasEntry d n → HasEntry e n ⊎ (Some number ≡ Some n)) → IsSearch formula lines state s count d → IsSearch formula lines state t count e
+search_back s t formula lines state count d e number flags within literals ends variables is flat indexed others h =
+    search_moved s t formula lines state count d e literals ends variables (first_back s t formula number flags within literals ends is h.held) (covered_back s t d e number flags within ends is others h.covered) (indexed_moved s t e literals ends variables indexed)
+    (whole_flat t flat) (filled_flat s t lines (λ z. ap length flat) h.filled) h
+
+-- some lemmas are dropped
+pub search_fewer : (s t : Search) (formula : List (List ℤ)) (lines : List Line) (state : State) (count : ℕ) (d e : Entries) → t.literals ≡ s.literals → t.ends ≡ s.ends → t.variables ≡ s.variables → t.assignment ≡ s.assignment → t.limits ≡ s.limits → Drops s t count e
+    → ((n : ℕ) → HasEntry d n → HasEntry e n) → IsIndexed s e → IsSearch formula lines state s count d → IsSearch formula lines state t count e
+search_fewer s t formula lines state count d e literals ends variables assignment limits drops kept indexed h =
+    search_moved s t formula lines state count d e literals ends variables (first_fewer s t formula count e h.first literals ends drops h.held) (covered_fewer s t d e count ends drops kept h.covered) (indexed_moved s t e literals ends variables indexed)
+    (whole_fewer s t literals ends assignment limits drops.only h.whole) (filled_flat s t lines (λ z. ap length limits ∙ z) h.filled) h
 
 -- ---- a lemma that was taken
 
@@ -347,9 +377,48 @@ learnt_as s literals clause numbers hints back same_clause same_hints h =
 
 -- ---- the measure, after a step
 
-pub left_turn : (n m : ℕ) (formula : List (List ℤ)) (lines lines' : List Line) (trail trail' : List ℤ) → m ≡ n → length trail' ≤ m
-    → (remaining n (behind formula lines') < remaining n (behind formula lines)) ⊎ ((lines' ≡ lines) × (length trail < length trail')) → left m formula lines' trail' < left n formula lines trail
-left_turn n m formula lines lines' trail trail' same within h = subst (λ (k : ℕ). left k formula lines' trail' < left n formula lines trail) (sym same) (⊎_elim
-    (λ (less : remaining n (behind formula lines') < remaining n (behind formula lines)). left_lemma n formula lines lines' trail trail' less)
-    (λ (longer : (lines' ≡ lines) × (length trail < length trail')). left_literal n formula lines lines' trail trail' longer.0 longer.1 (omega (arith, within, same)))
+rests_below : (n : ℕ) (trail : List ℤ) → n - length trail < n + 1
+rests_below n trail = omega arith
+
+left_falls : (n w : ℕ) (formula : List (List ℤ)) (lines lines' : List Line) (d d' : Entries) (trail trail' : List ℤ) → entry_count d' < w → length trail' ≤ n → GoesOn n formula lines d trail lines' d' trail'
+    → (remaining n (behind formula lines') * w + entry_count d') * (n + 1) + (n - length trail') < (remaining n (behind formula lines) * w + entry_count d) * (n + 1) + (n - length trail)
+left_falls n w formula lines lines' d d' trail trail' few within h =
+    let r = remaining n (behind formula lines) in
+    let r' = remaining n (behind formula lines') in
+    let e = entry_count d in
+    let e' = entry_count d' in
+    ⊎_elim
+    (λ (less : r' < r). falls_first (n + 1) (r' * w + e') (r * w + e) (n - length trail') (n - length trail) (falls_first w r' r e' e less few) (rests_below n trail'))
+    (λ (other : ((lines' ≡ lines) × (e' < e)) ⊎ ((lines' ≡ lines) × (e' ≡ e) × (length trail < length trail'))). ⊎_elim
+    (λ (back : (lines' ≡ lines) × (e' < e)).
+    let same : r' ≡ r = ap (λ (ls : List Line). remaining n (behind formula ls)) back.0 in
+    falls_first (n + 1) (r' * w + e') (r * w + e) (n - length trail') (n - length trail) (falls_last w r' r e' e same back.1) (rests_below n trail'))
+    (λ (longer : (lines' ≡ lines) × (e' ≡ e) × (length trail < length trail')).
+    let same : r' * w + e' ≡ r * w + e = ap (λ (ls : List Line). remaining n (behind formula ls) * w + e') longer.0 ∙ ap (λ (x : ℕ). r * w + x) longer.1 in
+    falls_last (n + 1) (r' * w + e') (r * w + e) (n - length trail') (n - length trail) same (omega (arith, longer.2, within)))
+    other)
+    h
+
+pub left_turn : (n m : ℕ) (formula : List (List ℤ)) (lines lines' : List Line) (d d' : Entries) (trail trail' : List ℤ) → m ≡ n → entry_count d' < 2 ^ 64 → length trail' ≤ m → GoesOn n formula lines d trail lines' d' trail'
+    → left m formula lines' d' trail' < left n formula lines d trail
+left_turn n m formula lines lines' d d' trail trail' same few within h =
+    subst (λ (k : ℕ). left k formula lines' d' trail' < left n formula lines d trail) (sym same) (left_falls n (2 ^ 64) formula lines lines' d d' trail trail' few (omega (arith, within, same)) h)
+
+-- ---- dropped lemmas, from one step to the next
+
+pub indexed_by : (s : Search) (d e : Entries) → IsIndexed s d → e.variables ≡ d.variables → AreFiled s e.signatures e.numbers → IsIndexed s e
+indexed_by s d e h variables filed = record { variables = variables ∙ h.variables; filed = filed }
+
+pub none_by : (s : Search) (d : Entries) (given literals : List ℤ) → given ≡ literals → HasNoPart s d given → HasNoPart s d literals
+none_by s d given literals is h = subst (λ (xs : List ℤ). HasNoPart s d xs) is h
+
+pub search_by : (formula : List (List ℤ)) (lines : List Line) (state : State) (s : Search) (count : ℕ) (d e : Entries) → e ≡ d → IsSearch formula lines state s count d → IsSearch formula lines state s count e
+search_by formula lines state s count d e is h = subst (λ (x : Entries). IsSearch formula lines state s count x) (sym is) h
+
+-- a conflict's turn goes on with one lemma more, or with a dropped lemma back
+pub goes_on : (n m : ℕ) (formula : List (List ℤ)) (lines lines' : List Line) (d d' : Entries) (trail trail' : List ℤ) → n ≡ m → (remaining n (behind formula lines') < remaining n (behind formula lines)) ⊎ ((lines' ≡ lines) × (entry_count d' < entry_count d))
+    → GoesOn m formula lines d trail lines' d' trail'
+goes_on n m formula lines lines' d d' trail trail' same h = subst (λ (k : ℕ). GoesOn k formula lines d trail lines' d' trail') same (⊎_elim
+    (λ (less : remaining n (behind formula lines') < remaining n (behind formula lines)). inl less)
+    (λ (back : (lines' ≡ lines) × (entry_count d' < entry_count d)). inr (inl back))
     h)

@@ -1,5 +1,5 @@
 -- Every level below the last stays propagated to its end, as literals are put and taken back and clauses are added.
-use Rattle.std.proofs.Common.{ℕ, ◌+◌, ◌-◌, ◌<◌, ◌≤◌, ◌≡◌, ℤ, pos, List, [], ◌∷◌, ◌++◌, length, get_or, take, drop, refl, sym, ap, subst, ◌∙◌, inl, inr, ◌⊎◌, ⊎_elim, arith, length-take, length-drop, length-append, get_or-drop}
+use Rattle.std.proofs.Common.{ℕ, ◌+◌, ◌-◌, ◌<◌, ◌≤◌, ◌≡◌, ℤ, pos, Bool, true, false, List, [], ◌∷◌, ◌++◌, length, get_or, take, drop, refl, sym, ap, subst, ◌∙◌, inl, inr, ◌⊎◌, ⊎_elim, arith, length-take, length-drop, length-append, get_or-drop}
 use Rattle.std.specs.List.{Contains}
 use Rattle.std.proofs.lemmas.List.{get_or-take, get_or_default, get_or_past, get_or_append_left, get_or_push, take-append-le, take-take, take_all}
 use Rattle.std.proofs.lemmas.List.Elements.{Contains-get_or}
@@ -7,7 +7,7 @@ use Rattle.std.proofs.lemmas.Bool.{cases_lt}
 use Rattle.sat_trail.specs.Assignment.{value_at}
 use Rattle.sat_trail.specs.Watched.{start_of, InClause, IsTrueIn, IsArena}
 use Rattle.sat_trail.specs.Sound.{IsFree, IsOpen}
-use Rattle.sat_trail.specs.State.{Search, clause_at, Adds}
+use Rattle.sat_trail.specs.State.{Search, clause_at, Adds, IsAttached}
 use Rattle.sat_trail.specs.Reasons.{AreReasoned}
 use Rattle.sat_analysis.specs.Resolved.{AreWhole}
 use Rattle.sat_analysis.specs.Learnt.{HasTwoFree}
@@ -71,26 +71,42 @@ settled_two t trail clause j same h =
     let q = there h.1 h.3 in
     inr (p.0, q.0, p.1, q.1, λ e. h.4 (sym p.2 ∙ (e ∙ q.2)), subst (IsFree trail) (sym p.2) h.5, subst (IsFree trail) (sym q.2) h.6)
 
+-- ---- attached clauses
+
+pub attached_same : (s t : Search) (i : ℕ) → t.attached ≡ s.attached → IsAttached s i → IsAttached t i
+attached_same s t i same h = ap (λ (bs : List Bool). get_or bs i false) same ∙ h
+
+-- of a clause that was there before another was added
+attached_old : (s t : Search) (clause : List ℤ) (i : ℕ) → length s.attached ≡ length s.ends → Adds s t clause → i < length s.ends → IsAttached t i → IsAttached s i
+attached_old s t clause i flags added old here = sym (get_or_append_left s.attached (true ∷ []) false i (omega (arith, old, flags))) ∙ (sym (ap (λ (bs : List Bool). get_or bs i false) added.attached) ∙ here)
+
+pub attached_more : (s t : Search) (clause : List ℤ) (i : ℕ) → length s.attached ≡ length s.ends → Adds s t clause → i < length s.ends → IsAttached s i → IsAttached t i
+attached_more s t clause i flags added old here = ap (λ (bs : List Bool). get_or bs i false) added.attached ∙ (get_or_append_left s.attached (true ∷ []) false i (omega (arith, old, flags)) ∙ here)
+
+pub attached_last : (s t : Search) (clause : List ℤ) → length s.attached ≡ length s.ends → Adds s t clause → IsAttached t (length s.ends)
+attached_last s t clause flags added = ap (λ (bs : List Bool). get_or bs (length s.ends) false) added.attached ∙ get_or_push s.attached true false (length s.ends) flags
+
 -- ---- steps
 
 -- no level is open
 pub whole_flat : (s : Search) → s.limits ≡ [] → AreWhole s
-whole_flat s e f i h b = absurd (omega (arith, h, ap length e))
+whole_flat s e f i h b attached = absurd (omega (arith, h, ap length e))
 
 -- literals are forced
-pub whole_longer : (s t : Search) → AreReasoned s → t.literals ≡ s.literals → t.ends ≡ s.ends → t.limits ≡ s.limits → (ts : List ℤ) × (t.assignment.trail ≡ s.assignment.trail ++ ts) → AreWhole s → AreWhole t
-whole_longer s t r literals ends limits longer h f i a b =
+pub whole_longer : (s t : Search) → AreReasoned s → t.literals ≡ s.literals → t.ends ≡ s.ends → t.attached ≡ s.attached → t.limits ≡ s.limits → (ts : List ℤ) × (t.assignment.trail ≡ s.assignment.trail ++ ts) → AreWhole s → AreWhole t
+whole_longer s t r literals ends attached limits longer h f i a b here =
     let below : f < length s.limits = omega (arith, a, ap length limits) in
     let opened = r.opened f below in
     let at : get_or t.limits f 0 ≡ get_or s.limits f 0 = ap (λ (ns : List ℕ). get_or ns f 0) limits in
     let front : take (get_or t.limits f 0) t.assignment.trail ≡ take (get_or s.limits f 0) s.assignment.trail =
     ap (λ (n : ℕ). take n t.assignment.trail) at ∙ (ap (take (get_or s.limits f 0)) longer.1 ∙ take-append-le (get_or s.limits f 0) s.assignment.trail longer.0 (omega (arith, opened))) in
-    settled_at s.literals t.literals s.ends t.ends (take (get_or s.limits f 0) s.assignment.trail) (take (get_or t.limits f 0) t.assignment.trail) i literals ends front (h f i below (omega (arith, b, ap length ends)))
+    settled_at s.literals t.literals s.ends t.ends (take (get_or s.limits f 0) s.assignment.trail) (take (get_or t.limits f 0) t.assignment.trail) i literals ends front (h f i below (omega (arith, b, ap length ends)) (attached_same t s i (sym attached) here))
 
 -- a level is opened, where each clause is settled
-pub whole_opened : (s t : Search) (l : ℤ) → AreReasoned s → t.literals ≡ s.literals → t.ends ≡ s.ends → t.limits ≡ s.limits ++ length s.assignment.trail ∷ [] → t.assignment.trail ≡ s.assignment.trail ++ l ∷ []
-    → ((i : ℕ) → i < length s.ends → IsSettled s.literals s.ends s.assignment.trail i) → AreWhole s → AreWhole t
-whole_opened s t l r literals ends limits trail all h f i a b =
+pub whole_opened : (s t : Search) (l : ℤ) → AreReasoned s → t.literals ≡ s.literals → t.ends ≡ s.ends → t.attached ≡ s.attached → t.limits ≡ s.limits ++ length s.assignment.trail ∷ [] → t.assignment.trail ≡ s.assignment.trail ++ l ∷ []
+    → ((i : ℕ) → IsAttached s i → IsSettled s.literals s.ends s.assignment.trail i) → AreWhole s → AreWhole t
+whole_opened s t l r literals ends attached limits trail all h f i a b here =
+    let there = attached_same t s i (sym attached) here in
     let within : i < length s.ends = omega (arith, b, ap length ends) in
     let size = length-append s.limits (length s.assignment.trail ∷ []) in
     ⊎_elim
@@ -99,14 +115,14 @@ whole_opened s t l r literals ends limits trail all h f i a b =
     let at : get_or t.limits f 0 ≡ get_or s.limits f 0 = ap (λ (ns : List ℕ). get_or ns f 0) limits ∙ get_or_append_left s.limits (length s.assignment.trail ∷ []) 0 f old in
     let front : take (get_or t.limits f 0) t.assignment.trail ≡ take (get_or s.limits f 0) s.assignment.trail =
     ap (λ (n : ℕ). take n t.assignment.trail) at ∙ (ap (take (get_or s.limits f 0)) trail ∙ take-append-le (get_or s.limits f 0) s.assignment.trail (l ∷ []) (omega (arith, opened))) in
-    settled_at s.literals t.literals s.ends t.ends (take (get_or s.limits f 0) s.assignment.trail) (take (get_or t.limits f 0) t.assignment.trail) i literals ends front (h f i old within))
+    settled_at s.literals t.literals s.ends t.ends (take (get_or s.limits f 0) s.assignment.trail) (take (get_or t.limits f 0) t.assignment.trail) i literals ends front (h f i old within there))
     (λ (new : length s.limits ≤ f).
     let is : length s.limits ≡ f = omega (arith, new, a, ap length limits, size) in
     let n = length s.assignment.trail in
     let at : get_or t.limits f 0 ≡ n = ap (λ (ns : List ℕ). get_or ns f 0) limits ∙ get_or_push s.limits n 0 f is in
     let front : take (get_or t.limits f 0) t.assignment.trail ≡ s.assignment.trail =
     ap (λ (m : ℕ). take m t.assignment.trail) at ∙ (ap (take n) trail ∙ (take-append-le n s.assignment.trail (l ∷ []) (omega arith) ∙ take_all n s.assignment.trail (omega arith))) in
-    settled_at s.literals t.literals s.ends t.ends s.assignment.trail (take (get_or t.limits f 0) t.assignment.trail) i literals ends front (all i within))
+    settled_at s.literals t.literals s.ends t.ends s.assignment.trail (take (get_or t.limits f 0) t.assignment.trail) i literals ends front (all i there))
     (cases_lt f (length s.limits))
 
 -- what stays of the trail is the same up to the end of each level below
@@ -126,13 +142,13 @@ front_undone s t level f r trail limits low below =
     ap (λ (n : ℕ). take n t.assignment.trail) at ∙ (ap (take (get_or s.limits f 0)) trail ∙ take-take (get_or s.limits f 0) m s.assignment.trail kept)
 
 -- levels are taken back
-pub whole_undone : (s t : Search) (level : ℕ) → AreReasoned s → t.literals ≡ s.literals → t.ends ≡ s.ends → t.assignment.trail ≡ take (get_or s.limits level (length s.assignment.trail)) s.assignment.trail → t.limits ≡ take level s.limits → AreWhole s → AreWhole t
-whole_undone s t level r literals ends trail limits h f i a b =
+pub whole_undone : (s t : Search) (level : ℕ) → AreReasoned s → t.literals ≡ s.literals → t.ends ≡ s.ends → t.attached ≡ s.attached → t.assignment.trail ≡ take (get_or s.limits level (length s.assignment.trail)) s.assignment.trail → t.limits ≡ take level s.limits → AreWhole s → AreWhole t
+whole_undone s t level r literals ends attached trail limits h f i a b here =
     let size = length-take level s.limits in
     let low : f < level = omega (arith, a, ap length limits, size) in
     let below : f < length s.limits = omega (arith, a, ap length limits, size) in
     settled_at s.literals t.literals s.ends t.ends (take (get_or s.limits f 0) s.assignment.trail) (take (get_or t.limits f 0) t.assignment.trail) i literals ends (front_undone s t level f r trail limits low below)
-    (h f i below (omega (arith, b, ap length ends)))
+    (h f i below (omega (arith, b, ap length ends)) (attached_same t s i (sym attached) here))
 
 -- two different literals stay free at the end of a level that is kept
 pub two_free_undone : (s t : Search) (level f : ℕ) (clause : List ℤ) → AreReasoned s → t.assignment.trail ≡ take (get_or s.limits level (length s.assignment.trail)) s.assignment.trail → t.limits ≡ take level s.limits → f < length t.limits
@@ -144,16 +160,24 @@ two_free_undone s t level f clause r trail limits a two =
     subst (λ (xs : List ℤ). HasTwoFree xs clause) (sym (front_undone s t level f r trail limits low below)) (two f low)
 
 -- a clause is added that has two different free literals at the end of each level below the last
-pub whole_added : (s t : Search) (clause : List ℤ) → IsArena s.literals s.ends s.variables → Adds s t clause → t.assignment ≡ s.assignment → t.limits ≡ s.limits
+pub whole_added : (s t : Search) (clause : List ℤ) → IsArena s.literals s.ends s.variables → length s.attached ≡ length s.ends → Adds s t clause → t.assignment ≡ s.assignment → t.limits ≡ s.limits
     → ((f : ℕ) → f < length s.limits → HasTwoFree (take (get_or s.limits f 0) s.assignment.trail) clause) → AreWhole s → AreWhole t
-whole_added s t clause arena added assignment limits two h f i a b =
+whole_added s t clause arena flags added assignment limits two h f i a b here =
     let below : f < length s.limits = omega (arith, a, ap length limits) in
     let trail : take (get_or t.limits f 0) t.assignment.trail ≡ take (get_or s.limits f 0) s.assignment.trail =
     ap (λ (ns : List ℕ). take (get_or ns f 0) t.assignment.trail) limits ∙ ap (λ x. take (get_or s.limits f 0) x.trail) assignment in
     settled_at t.literals t.literals t.ends t.ends (take (get_or s.limits f 0) s.assignment.trail) (take (get_or t.limits f 0) t.assignment.trail) i refl refl trail
     (⊎_elim
-    (λ (old : i < length s.ends). settled_moved s t (take (get_or s.limits f 0) s.assignment.trail) i i arena old (added.others i old) (h f i below old))
+    (λ (old : i < length s.ends). settled_moved s t (take (get_or s.limits f 0) s.assignment.trail) i i arena old (added.others i old) (h f i below old (attached_old s t clause i flags added old here)))
     (λ (new : length s.ends ≤ i).
     let is : i ≡ length s.ends = omega (arith, new, b, added.count) in
     settled_two t (take (get_or s.limits f 0) s.assignment.trail) clause i (ap (clause_at t) is ∙ added.last) (two f below))
     (cases_lt i (length s.ends)))
+
+-- some clauses are detached
+pub whole_fewer : (s t : Search) → t.literals ≡ s.literals → t.ends ≡ s.ends → t.assignment ≡ s.assignment → t.limits ≡ s.limits → ((i : ℕ) → IsAttached t i → IsAttached s i) → AreWhole s → AreWhole t
+whole_fewer s t literals ends assignment limits only h f i a b here =
+    let trail : take (get_or t.limits f 0) t.assignment.trail ≡ take (get_or s.limits f 0) s.assignment.trail =
+    ap (λ (ns : List ℕ). take (get_or ns f 0) t.assignment.trail) limits ∙ ap (λ x. take (get_or s.limits f 0) x.trail) assignment in
+    settled_at s.literals t.literals s.ends t.ends (take (get_or s.limits f 0) s.assignment.trail) (take (get_or t.limits f 0) t.assignment.trail) i literals ends trail
+    (h f i (omega (arith, a, ap length limits)) (omega (arith, b, ap length ends)) (only i here))

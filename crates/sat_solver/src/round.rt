@@ -9,15 +9,19 @@ ghost use Rattle.sat_trail.specs.Literal as spec;
 ghost use Rattle.sat_trail.specs.Assignment.{value_at};
 ghost use Rattle.sat_trail.specs.Sound.{IsFree, IsOpen};
 ghost use Rattle.sat_trail.specs.Watched.{IsTrueIn, IsFalseIn};
+ghost use Rattle.sat_trail.specs.State.{IsAttached};
 ghost use Rattle.sat_analysis.specs.Learnt.{IsLearnt};
 ghost use Rattle.sat_solver.specs.Shared.{AreShared};
+ghost use Rattle.sat_dropped.specs.Entries.{Entries, HasEntry, entry_count};
+ghost use Rattle.sat_solver.specs.Covered.{IsIndexed, HasNoPart};
 ghost use Rattle.sat_solver.specs.Searched.{IsSearch, IsFull};
 ghost use Rattle.sat_solver.specs.News.{behind};
 ghost use Rattle.sat_solver.specs.Remaining.{remaining};
-ghost use Rattle.sat_solver.specs.Turn.{IsKept, IsTurn, AreWithin};
+ghost use Rattle.sat_solver.specs.Turn.{IsKept, IsTurn, AreWithin, GoesOn};
 
 use crate::load::{clause_of, count_of, hints_of, is_literal, level_count};
 use crate::pace::Pace;
+use crate::store::{Store, reduce};
 use sat_analysis::Analysis;
 use sat_decide::Chooser;
 use sat_lemmas::{LemmaLog, Taken};
@@ -94,13 +98,14 @@ fn free_literal(trail: &Trail, picked: i64) -> Option<i64>
 
 /// Makes a free literal true, if there is one.
 fn decide<C: Chooser>(trail: &mut Trail, chooser: &mut C) -> Turn
-    requires settled { (i : ℕ) → i < length trail.old.ends →
+    requires settled { (i : ℕ) → IsAttached trail.old i →
         IsTrueIn trail.old.literals trail.old.ends trail.old.assignment.trail i
         ⊎ IsOpen trail.old.literals trail.old.ends trail.old.assignment.trail i }
     ensures variables { trail.new.variables ≡ trail.old.variables }
     ensures turn { (formula : List (List ℤ)) (budget : Option ℕ) (lines : List Line)
-        (state : State) → IsSearch formula lines state trail.old →
-        IsTurn formula budget result lines state trail.new }
+        (state : State) (count : ℕ) (d : Entries) →
+        IsSearch formula lines state trail.old count d →
+        IsTurn formula budget result lines state trail.new count d }
     ensures longer { result ≡ Turn.On → length trail.new.assignment.trail
         ≡ length trail.old.assignment.trail + 1 }
 {
@@ -141,12 +146,17 @@ fn keep(
     ensures variables { trail.new.variables ≡ trail.old.variables }
     ensures passes { IfOk result (λ taken. taken ≢ Taken.Failed) }
     ensures more { OnOk result (length log.new.lines ≡ length log.old.lines + 1) }
-    ensures fewer { (formula : List (List ℤ)) → IsSearch formula log.old.lines log.old.checker
-        trail.old →
+    ensures indexed { (d : Entries) → IsIndexed trail.old d →
+        OnOk result (IsIndexed trail.new d) }
+    ensures fewer { (formula : List (List ℤ)) (count : ℕ) (d : Entries) →
+        IsSearch formula log.old.lines log.old.checker trail.old count d →
+        HasNoPart trail.old d analysis.now.literals.items →
         IfOk result (λ taken. taken ≡ Taken.Added → remaining trail.old.variables (behind formula log.new.lines) < remaining trail.old.variables (behind formula log.old.lines)) }
-    ensures taken { (formula : List (List ℤ)) → IsSearch formula log.old.lines log.old.checker
-        trail.old →
-        IfOk result (λ taken. IsKept formula taken log.new.lines log.new.checker trail.new) }
+    ensures taken { (formula : List (List ℤ)) (count : ℕ) (d : Entries) →
+        IsSearch formula log.old.lines log.old.checker trail.old count d →
+        HasNoPart trail.old d analysis.now.literals.items →
+        IfOk result (λ taken.
+        IsKept formula taken log.new.lines log.new.checker trail.new count d) }
 {
     // for the proof: this call's clauses say what a trail keeps
     let _literals = trail.trail();
@@ -159,25 +169,116 @@ fn keep(
 }
 
 /// Goes back to level 0 where this is due, and lets old weights count less.
-fn count_conflict<C: Chooser>(trail: &mut Trail, learnt: &[i64], chooser: &mut C, pace: &mut Pace)
+fn count_conflict<C: Chooser>(trail: &mut Trail, levels: u64, chooser: &mut C, pace: &mut Pace)
     ensures variables { trail.new.variables ≡ trail.old.variables }
-    ensures search { (formula : List (List ℤ)) (lines : List Line) (state : State) →
-        IsSearch formula lines state trail.old → IsSearch formula lines state trail.new }
+    ensures indexed { (d : Entries) → IsIndexed trail.old d → IsIndexed trail.new d }
+    ensures search { (formula : List (List ℤ)) (lines : List Line) (state : State) (count : ℕ)
+        (d : Entries) → IsSearch formula lines state trail.old count d →
+        IsSearch formula lines state trail.new count d }
 {
     chooser.decay();
-    // A variable that has been undone keeps the level that it had last.
-    pace.take_levels(level_count(trail, learnt));
+    pace.take_levels(levels);
     if pace.is_restart_due() {
         trail.undo_to(0);
     }
 }
 
-/// Learns from a false clause, and keeps it unless the budget is spent.
+/// Goes on behind a new lemma: it may go back to level 0, and may drop lemmas.
+fn go_on<C: Chooser>(
+    alloc: Global,
+    trail: &mut Trail,
+    literals: &[i64],
+    store: &mut Store,
+    chooser: &mut C,
+    pace: &mut Pace,
+) -> Result<(), AllocError>
+    requires indexed { IsIndexed trail.old store.old.dropped }
+    ensures variables { trail.new.variables ≡ trail.old.variables }
+    ensures search { (formula : List (List ℤ)) (lines : List Line) (state : State) →
+        IsSearch formula lines state trail.old store.old.first store.old.dropped →
+        OnOk result (IsSearch formula lines state trail.new store.new.first store.new.dropped) }
+{
+    // A variable that has been undone keeps the level that it had last.
+    let levels = level_count(trail, literals);
+    count_conflict(trail, levels, chooser, pace);
+    store.policy.add(levels, literals.len())?;
+    if !store.policy.is_due() {
+        return Ok(());
+    }
+    reduce(alloc, trail, store)?;
+    Ok(())
+}
+
+/// Attaches a dropped lemma again, at level 0.
+fn take_back(trail: &mut Trail, number: u64) -> Result<(), AllocError>
+    requires number { (0 < number) × (number ≤ length trail.old.ends) }
+    ensures variables { trail.new.variables ≡ trail.old.variables }
+    ensures search { (formula : List (List ℤ)) (lines : List Line) (state : State) (count : ℕ)
+        (d e : Entries) → IsSearch formula lines state trail.old count d →
+        IsIndexed trail.old e →
+        ((n : ℕ) → HasEntry d n → HasEntry e n ⊎ (Some number ≡ Some n)) →
+        OnOk result (IsSearch formula lines state trail.new count e) }
+{
+    // for the proof: this call's clauses say what a trail keeps
+    let _literals = trail.trail();
+    trail.undo_to(0);
+    trail.attach(number)?;
+    Ok(())
+}
+
+/// Keeps what was learnt and goes on behind it, unless the budget is spent.
+fn take_lemma<C: Chooser>(
+    alloc: Global,
+    log: &mut LemmaLog,
+    trail: &mut Trail,
+    analysis: &Analysis,
+    store: &mut Store,
+    chooser: &mut C,
+    pace: &mut Pace,
+    budget: Option<u64>,
+) -> Result<Turn, AllocError>
+    requires shared { AreShared trail.old log.old.checker }
+    requires indexed { IsIndexed trail.old store.old.dropped }
+    requires room { AreWithin budget log.old.lines }
+    requires literals { All (IsLiteral trail.old.variables) analysis.now.literals.items }
+    requires learnt { IsLearnt trail.old analysis.now.literals.items analysis.now.hints.items
+        analysis.now.back_to }
+    requires none { HasNoPart trail.old store.old.dropped analysis.now.literals.items }
+    ensures variables { trail.new.variables ≡ trail.old.variables }
+    ensures turn { (formula : List (List ℤ)) → IsSearch formula log.old.lines log.old.checker
+        trail.old store.old.first store.old.dropped →
+        IfOk result (λ turn. IsTurn formula budget turn log.new.lines log.new.checker trail.new
+        store.new.first store.new.dropped) }
+    ensures room { OnOk result (AreWithin budget log.new.lines) }
+    ensures fewer { (formula : List (List ℤ)) → IsSearch formula log.old.lines log.old.checker
+        trail.old store.old.first store.old.dropped →
+        IfOk result (λ turn. turn ≡ Turn.On → remaining trail.old.variables (behind formula log.new.lines) < remaining trail.old.variables (behind formula log.old.lines)) }
+{
+    // What is learnt under a spent budget is the further lemma, which isn't kept.
+    if is_spent(budget, log.lines.len()) {
+        return Ok(Turn::Spent);
+    }
+    bump_all(chooser, analysis.met());
+    store.policy.note_all(store.first, &analysis.hints);
+    let taken = keep(alloc, log, trail, analysis)?;
+    match taken {
+        Taken::Added => {
+            go_on(alloc, trail, &analysis.literals, store, chooser, pace)?;
+            Ok(Turn::On)
+        }
+        Taken::Refuted => Ok(Turn::Refuted),
+        Taken::Failed => unreachable!(),
+    }
+}
+
+/// Learns from a false clause. Where what is learnt contains a dropped lemma, it isn't kept, and the dropped one is
+/// attached again in its place.
 fn take_conflict<C: Chooser>(
     alloc: Global,
     log: &mut LemmaLog,
     trail: &mut Trail,
     analysis: &mut Analysis,
+    store: &mut Store,
     chooser: &mut C,
     pace: &mut Pace,
     budget: Option<u64>,
@@ -185,33 +286,36 @@ fn take_conflict<C: Chooser>(
 ) -> Result<Turn, AllocError>
     requires analysis { analysis.old.variables ≡ trail.old.variables }
     requires shared { AreShared trail.old log.old.checker }
+    requires indexed { IsIndexed trail.old store.old.dropped }
     requires room { AreWithin budget log.old.lines }
     requires conflict { (0 < conflict) × (conflict ≤ length trail.old.ends)
         × IsFalseIn trail.old.literals trail.old.ends trail.old.assignment.trail (conflict - 1) }
+    requires attached { IsAttached trail.old (conflict - 1) }
     ensures analysis { analysis.new.variables ≡ analysis.old.variables }
     ensures variables { trail.new.variables ≡ trail.old.variables }
     ensures turn { (formula : List (List ℤ)) → IsSearch formula log.old.lines log.old.checker
-        trail.old →
-        IfOk result (λ turn. IsTurn formula budget turn log.new.lines log.new.checker trail.new) }
+        trail.old store.old.first store.old.dropped →
+        IfOk result (λ turn. IsTurn formula budget turn log.new.lines log.new.checker trail.new
+        store.new.first store.new.dropped) }
     ensures room { OnOk result (AreWithin budget log.new.lines) }
-    ensures fewer { (formula : List (List ℤ)) → IsSearch formula log.old.lines log.old.checker
-        trail.old →
-        IfOk result (λ turn. turn ≡ Turn.On → remaining trail.old.variables (behind formula log.new.lines) < remaining trail.old.variables (behind formula log.old.lines)) }
+    ensures on { (formula : List (List ℤ)) → IsSearch formula log.old.lines log.old.checker
+        trail.old store.old.first store.old.dropped →
+        IfOk result (λ turn. turn ≡ Turn.On →
+        (remaining trail.old.variables (behind formula log.new.lines) < remaining trail.old.variables (behind formula log.old.lines))
+        ⊎ ((log.new.lines ≡ log.old.lines)
+        × (entry_count store.new.dropped < entry_count store.old.dropped))) }
 {
     analysis.learn(trail, conflict)?;
-    // What is learnt under a spent budget is the further lemma, which isn't kept.
-    if is_spent(budget, log.lines.len()) {
-        return Ok(Turn::Spent);
-    }
-    bump_all(chooser, analysis.met());
-    let taken = keep(alloc, log, trail, analysis)?;
-    match taken {
-        Taken::Added => {
-            count_conflict(trail, &analysis.literals, chooser, pace);
+    match store.dropped.take_part(trail, analysis.literals.as_slice()) {
+        Some(number) => {
+            store.policy.note(store.first, number);
+            take_back(trail, number)?;
             Ok(Turn::On)
         }
-        Taken::Refuted => Ok(Turn::Refuted),
-        Taken::Failed => unreachable!(),
+        None => {
+            let turn = take_lemma(alloc, log, trail, analysis, store, chooser, pace, budget)?;
+            Ok(turn)
+        }
     }
 }
 
@@ -221,30 +325,36 @@ pub(crate) fn take_turn<C: Chooser>(
     log: &mut LemmaLog,
     trail: &mut Trail,
     analysis: &mut Analysis,
+    store: &mut Store,
     chooser: &mut C,
     pace: &mut Pace,
     budget: Option<u64>,
 ) -> Result<Turn, AllocError>
     requires analysis { analysis.old.variables ≡ trail.old.variables }
     requires shared { AreShared trail.old log.old.checker }
+    requires indexed { IsIndexed trail.old store.old.dropped }
     requires room { AreWithin budget log.old.lines }
     ensures analysis { analysis.new.variables ≡ analysis.old.variables }
     ensures variables { trail.new.variables ≡ trail.old.variables }
     ensures turn { (formula : List (List ℤ)) → IsSearch formula log.old.lines log.old.checker
-        trail.old →
-        IfOk result (λ turn. IsTurn formula budget turn log.new.lines log.new.checker trail.new) }
+        trail.old store.old.first store.old.dropped →
+        IfOk result (λ turn. IsTurn formula budget turn log.new.lines log.new.checker trail.new
+        store.new.first store.new.dropped) }
     ensures room { OnOk result (AreWithin budget log.new.lines) }
     ensures on { (formula : List (List ℤ)) → IsSearch formula log.old.lines log.old.checker
-        trail.old →
+        trail.old store.old.first store.old.dropped →
         IfOk result (λ turn. turn ≡ Turn.On →
-        (remaining trail.old.variables (behind formula log.new.lines) < remaining trail.old.variables (behind formula log.old.lines))
-        ⊎ ((log.new.lines ≡ log.old.lines) × (length trail.old.assignment.trail < length trail.new.assignment.trail))) }
+        GoesOn trail.old.variables formula log.old.lines store.old.dropped
+        trail.old.assignment.trail log.new.lines store.new.dropped trail.new.assignment.trail) }
 {
     // for the proof: this call's clauses say what a trail keeps
     let _literals = trail.trail();
-    match trail.propagate() {
+    let found = trail.propagate()?;
+    match found {
         Some(conflict) => {
-            let turn = take_conflict(alloc, log, trail, analysis, chooser, pace, budget, conflict)?;
+            let turn = take_conflict(
+                alloc, log, trail, analysis, store, chooser, pace, budget, conflict,
+            )?;
             Ok(turn)
         }
         None => Ok(decide(trail, chooser)),

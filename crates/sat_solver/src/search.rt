@@ -10,7 +10,9 @@ ghost use Rattle.sat_solver.specs.Turn.{AreNewIn, AreFew};
 use crate::lent::Lent;
 use crate::load::truths_of;
 use crate::pace::Pace;
+use crate::policy::Dropping;
 use crate::round::{Turn, take_turn};
+use crate::store::Store;
 use base_types::Assignment;
 use sat_analysis::Analysis;
 use sat_decide::Chooser;
@@ -34,16 +36,17 @@ fn answer(alloc: Global, trail: &Trail) -> Result<Assignment, AllocError>
 }
 
 /// Searches for an assignment that satisfies the clauses, or for lines that refute them. Under a budget it stops where
-/// there are so many lemmas and one more could be learnt.
+/// there are so many lemmas and one more could be learnt. It drops lemmas as it is told.
 ///
 /// Each lemma of a refutation is new where no clause is empty, and so is each lemma of a spent budget in any case. A
 /// refutation has no more lemmas than the budget, and a budget of 3 to the power of the number of variables or more isn't
 /// spent. The chooser picks what is tried; `start` is called on it once. The only error is want of memory.
-pub fn solve_with<C: Chooser>(
+pub fn solve_dropping<C: Chooser>(
     alloc: Global,
     cnf: &Cnf,
     chooser: &mut C,
     budget: Option<u64>,
+    dropping: Dropping,
 ) -> Result<Outcome, AllocError>
     ensures answer { IfOk result (IsAnswer cnf.now.variables cnf.now.clauses budget) }
     ensures spends { IfOk result (Answers cnf.now.variables cnf.now.clauses budget) }
@@ -52,7 +55,9 @@ pub fn solve_with<C: Chooser>(
 {
     let mut trail = Trail::new(alloc, cnf)?;
     let mut log = LemmaLog::new(alloc, cnf)?;
-    let mut analysis = Analysis::new(alloc, trail.values().len())?;
+    let variables = trail.values().len();
+    let mut analysis = Analysis::new(alloc, variables)?;
+    let mut store = Store::new(alloc, cnf, variables, dropping)?;
     let mut pace = Pace::new();
     chooser.start(cnf.variables)?;
     'turns: loop {
@@ -61,12 +66,14 @@ pub fn solve_with<C: Chooser>(
             &mut log,
             &mut trail,
             &mut analysis,
+            &mut store,
             chooser,
             &mut pace,
             budget,
         )?;
-        // for the proof: this call's clauses say what a trail keeps
+        // for the proof: these calls' clauses say what a trail keeps, and that entries are few
         let _literals = trail.trail();
+        let _count = store.dropped.len();
         match turn {
             Turn::On => {}
             Turn::Refuted => {
@@ -83,6 +90,21 @@ pub fn solve_with<C: Chooser>(
             }
         }
     }
+}
+
+/// Searches as `solve_dropping` does, and drops now and then the lemmas that served least.
+pub fn solve_with<C: Chooser>(
+    alloc: Global,
+    cnf: &Cnf,
+    chooser: &mut C,
+    budget: Option<u64>,
+) -> Result<Outcome, AllocError>
+    ensures answer { IfOk result (IsAnswer cnf.now.variables cnf.now.clauses budget) }
+    ensures spends { IfOk result (Answers cnf.now.variables cnf.now.clauses budget) }
+    ensures fresh { IfOk result (AreNewIn cnf.now.clauses) }
+    ensures few { IfOk result (AreFew cnf.now.variables budget) }
+{
+    solve_dropping(alloc, cnf, chooser, budget, Dropping::Idle)
 }
 
 /// Searches as `solve_with` does, by a boxed chooser.

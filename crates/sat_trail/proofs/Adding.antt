@@ -1,18 +1,18 @@
 -- What is true of the clauses stays true once another clause is added after them.
-use Rattle.std.proofs.Common.{ℕ, zero, suc, ◌+◌, ◌-◌, ◌*◌, ◌/◌, ◌<◌, ◌≤◌, ◌≡◌, ◌≢◌, ℤ, pos, neg_ℤ, List, [], ◌∷◌, ◌++◌, length, get_or, take, drop, refl, sym, ap, subst, ◌∙◌, inl, inr, ◌⊎◌, ⊎_elim, arith, length-set, length-append, length-drop}
+use Rattle.std.proofs.Common.{ℕ, zero, suc, ◌+◌, ◌-◌, ◌*◌, ◌/◌, ◌<◌, ◌≤◌, ◌≡◌, ◌≢◌, ℤ, pos, neg_ℤ, Bool, true, false, List, [], ◌∷◌, ◌++◌, length, get_or, take, drop, refl, sym, ap, subst, ◌∙◌, inl, inr, ◌⊎◌, ⊎_elim, arith, length-set, length-append, length-drop}
 use Rattle.std.specs.List.{Contains, All}
-use Rattle.std.proofs.lemmas.List.{get_or-set_same, get_or-set_other, get_or_append_left, get_or-append-add, get_or_at, set_past, append_assoc, append-nil, take-append-le, take_all, drop-append-le}
+use Rattle.std.proofs.lemmas.List.{get_or_append_left, get_or-append-add, get_or_at, get_or_past, append_assoc, append-nil, take-append-le, take_all, drop-append-le}
 use Rattle.std.proofs.lemmas.List.Elements.{Contains-append_left, Contains-push, All-take, All-drop, All-from_get_or}
 use Rattle.std.proofs.lemmas.Bool.{cases_eq, cases_lt}
 use Rattle.sat_trail.specs.Literal.{IsLiteral, list_of}
-use Rattle.sat_lists.specs.Linked.{Lists, list_at, added}
+use Rattle.sat_lists.specs.Nodes.{Lists, list_at, row_at, put_on, AreAtRest, added}
 use Rattle.sat_trail.specs.Assignment.{value_at}
 use Rattle.sat_trail.specs.Watched.{start_of, InClause, IsArena, IsTrueIn, watched, IsPair, IsWatched, IsWoven, IsAlike}
 use Rattle.sat_trail.specs.Sound.{Net, IsFrame, IsSound}
 use Rattle.std.proofs.Math.Seq.{drop-append_seam}
 use Rattle.sat_trail.specs.State.{Search, Adds}
 use Rattle.sat_trail.proofs.Assigning.{Contains_take-at}
-use Rattle.sat_trail.proofs.Weaving.{Contains-head, Contains-tail, Contains-cases, at_in_clause, list_of-lt}
+use Rattle.sat_trail.proofs.Weaving.{Contains-head, Contains-tail, Contains-cases, at_in_clause, list_of-lt, put_old, put_new, put_cases}
 
 -- the ends with that of a clause of these literals
 abbrev pub more_ends : List ℤ → List ℕ → List ℤ → List ℕ
@@ -111,7 +111,7 @@ pair_less literals ls ends at xs variables e i a l s h =
 abbrev pub IsFresh : List ℤ → List ℕ → List ℕ → ℕ → List ℤ → ℕ → Type 0
 IsFresh literals ends at size trail d = (k : ℕ) → size ≤ k → k < length at → IsPair literals ends at (k / 2) → Contains (take d trail) (neg_ℤ (watched literals at k)) → ⊥
 
-Contains_take-less : (xs : List ℤ) (n m : ℕ) (x : ℤ) → n ≤ m → Contains (take n xs) x → Contains (take m xs) x
+pub Contains_take-less : (xs : List ℤ) (n m : ℕ) (x : ℤ) → n ≤ m → Contains (take n xs) x → Contains (take m xs) x
 Contains_take-less xs zero m x l h = absurd (omega (arith, h.1))
 Contains_take-less xs (suc n) zero x l h = absurd (omega arith)
 Contains_take-less [] (suc n) (suc m) x l h = absurd (omega (arith, h.1))
@@ -130,55 +130,34 @@ watched_more literals ls ends at xs variables e trail n d d' a s less fresh h k 
     (λ (new : length at ≤ k). absurd (fresh k new l p is_false))
     (cases_lt k (length at))
 
-added_old : (v : Lists) (c d k : ℕ) → Contains (list_at v d) k → Contains (list_at (added v c) d) k
-added_old v c d k h = ⊎_elim
-    (λ (in_range : c < length v.lists). ⊎_elim
-    (λ (e : d ≡ c). rw (e, get_or-set_same v.lists c (v.nodes ∷ list_at v c) [] in_range) (Contains-tail v.nodes (list_at v c) k (let P : ℕ → Type 0 = λ x. Contains (list_at v x) k in subst P e h)))
-    (λ (ne : d ≢ c). rw (get_or-set_other v.lists c d (v.nodes ∷ list_at v c) [] ne) h)
-    (cases_eq d c))
-    (λ (past : length v.lists ≤ c). rw (set_past v.lists c (v.nodes ∷ list_at v c) past) h)
-    (cases_lt c (length v.lists))
-
-added_new : (v : Lists) (c : ℕ) → c < length v.lists → Contains (list_at (added v c) c) v.nodes
-added_new v c l = rw (get_or-set_same v.lists c (v.nodes ∷ list_at v c) [] l) (Contains-head v.nodes (list_at v c))
-
-added_cases : (v : Lists) (c d k : ℕ) → c < length v.lists → Contains (list_at (added v c) d) k → ((k ≡ v.nodes) × (d ≡ c)) ⊎ Contains (list_at v d) k
-added_cases v c d k l h = ⊎_elim
-    (λ (e : d ≡ c). let P : ℕ → Type 0 = λ x. Contains (list_at (added v c) x) k in
-    let h' : Contains (v.nodes ∷ list_at v c) k = rw (get_or-set_same v.lists c (v.nodes ∷ list_at v c) [] l) at (subst P e h) in
-    ⊎_elim (λ (is : v.nodes ≡ k). inl (sym is, e)) (λ (old : Contains (list_at v c) k). let Q : ℕ → Type 0 = λ x. Contains (list_at v x) k in inr (subst Q (sym e) old)) (Contains-cases v.nodes (list_at v c) k h'))
-    (λ (ne : d ≢ c). inr (rw (get_or-set_other v.lists c d (v.nodes ∷ list_at v c) [] ne) at h))
-    (cases_eq d c)
-
-pub IsWoven-more : (literals ls : List ℤ) (ends at : List ℕ) (v v' : Lists) (variables e x y c₁ c₂ : ℕ) → IsArena literals ends variables → IsWoven literals ends at v variables → v.loose ≡ [] → v' ≡ added (added v c₁) c₂ → c₁ < length v.lists → c₂ < length v.lists
-    → (c₁ < 2 * variables → IsPair (literals ++ ls) (ends ++ e ∷ []) (at ++ x ∷ y ∷ []) (length ends))
-    → (c₂ < 2 * variables → IsPair (literals ++ ls) (ends ++ e ∷ []) (at ++ x ∷ y ∷ []) (length ends))
-    → (IsPair (literals ++ ls) (ends ++ e ∷ []) (at ++ x ∷ y ∷ []) (length ends) → list_of (watched (literals ++ ls) (at ++ x ∷ y ∷ []) (length at)) ≡ c₁)
-    → (IsPair (literals ++ ls) (ends ++ e ∷ []) (at ++ x ∷ y ∷ []) (length ends) → list_of (watched (literals ++ ls) (at ++ x ∷ y ∷ []) (length at + 1)) ≡ c₂)
+pub IsWoven-more : (literals ls : List ℤ) (ends at : List ℕ) (v v' : Lists) (variables e x y c₁ c₂ node : ℕ) → IsArena literals ends variables → IsWoven literals ends at v variables → v.loose ≡ [] → node ≡ length at → v' ≡ added (added v c₁ node) c₂ (node + 1) → c₁ < length v.lists → c₂ < length v.lists
+    → IsPair (literals ++ ls) (ends ++ e ∷ []) (at ++ x ∷ y ∷ []) (length ends)
+    → list_of (watched (literals ++ ls) (at ++ x ∷ y ∷ []) (length at)) ≡ c₁
+    → list_of (watched (literals ++ ls) (at ++ x ∷ y ∷ []) (length at + 1)) ≡ c₂
     → IsWoven (literals ++ ls) (ends ++ e ∷ []) (at ++ x ∷ y ∷ []) v' variables
-IsWoven-more literals ls ends at v v' variables e x y c₁ c₂ a w none f l₁ l₂ pair₁ pair₂ link₁ link₂ =
+IsWoven-more literals ls ends at v v' variables e x y c₁ c₂ node a w none first_is f l₁ l₂ pair link₁ link₂ =
     let lits = literals ++ ls in
     let es = ends ++ e ∷ [] in
     let at' = at ++ x ∷ y ∷ [] in
+    let ls₁ = put_on v.lists c₁ node in
     let size : length at' ≡ length at + 2 = omega (arith, length-append at (x ∷ y ∷ [])) in
     let first : (length at) / 2 ≡ length ends = omega (arith, w.two_each) in
     let second : (length at + 1) / 2 ≡ length ends = omega (arith, w.two_each) in
     let P : ℕ → Type 0 = λ k. (k < length at') × IsPair lits es at' (k / 2) in
-    let is_first : (k : ℕ) → k ≡ v.nodes → IsPair lits es at' (length ends) → P k = λ k is p. let here : k ≡ length at = is ∙ w.nodes in subst P (sym here) (omega arith, rw first p) in
-    let is_second : (k : ℕ) → k ≡ v.nodes + 1 → IsPair lits es at' (length ends) → P k = λ k is p. let here : k ≡ length at + 1 = omega (arith, is, w.nodes) in subst P (sym here) (omega arith, rw second p) in
-    let l₂' : c₂ < length (added v c₁).lists = omega (arith, l₂, length-set v.lists c₁ (v.nodes ∷ list_at v c₁)) in
+    let is_first : (k : ℕ) → k ≡ node → P k = λ k is. let here : k ≡ length at = is ∙ first_is in subst P (sym here) (omega arith, rw first pair) in
+    let is_second : (k : ℕ) → k ≡ node + 1 → P k = λ k is. let here : k ≡ length at + 1 = omega (arith, is, first_is) in subst P (sym here) (omega arith, rw second pair) in
+    let l₂' : c₂ < length ls₁ = omega (arith, l₂, length-set v.lists c₁ (row_at v.lists c₁ ++ node ∷ [])) in
     rw f (record {
       two_each = omega (arith, size, w.two_each, length-append ends (e ∷ []));
-      nodes = omega (arith, size, w.nodes);
-      count = length-set (added v c₁).lists c₂ ((added v c₁).nodes ∷ list_at (added v c₁) c₂) ∙ (length-set v.lists c₁ (v.nodes ∷ list_at v c₁) ∙ w.count);
+      count = length-set ls₁ c₂ (row_at ls₁ c₂ ++ (node + 1) ∷ []) ∙ (length-set v.lists c₁ (row_at v.lists c₁ ++ node ∷ []) ∙ w.count);
       listed = λ d k l h. ⊎_elim
-          (λ (new : (k ≡ v.nodes + 1) × (d ≡ c₂)). is_second k new.0 (pair₂ (omega (arith, new.1, l))))
-          (λ (before : Contains (list_at (added v c₁) d) k). ⊎_elim
-          (λ (new : (k ≡ v.nodes) × (d ≡ c₁)). is_first k new.0 (pair₁ (omega (arith, new.1, l))))
-          (λ (old : Contains (list_at v d) k). let its = w.listed d k l old in
+          (λ (new : (k ≡ node + 1) × (d ≡ c₂)). is_second k new.0)
+          (λ (before : Contains (row_at ls₁ d) k). ⊎_elim
+          (λ (new : (k ≡ node) × (d ≡ c₁)). is_first k new.0)
+          (λ (old : Contains (row_at v.lists d) k). let its = w.listed d k l old in
           (omega (arith, its.0, size), pair_more literals ls ends at (x ∷ y ∷ []) variables e (k / 2) a (omega (arith, its.0, w.two_each)) w.two_each its.1))
-          (added_cases v c₁ d k l₁ before))
-          (added_cases (added v c₁) c₂ d k l₂' h);
+          (put_cases v.lists c₁ d node k before))
+          (put_cases ls₁ c₂ d (node + 1) k h);
       loose = λ k h. let gone : Contains [] k = rw none at h in absurd (omega (arith, gone.1));
       linked = λ k l p. ⊎_elim
           (λ (old : k < length at).
@@ -186,28 +165,56 @@ IsWoven-more literals ls ends at v v' variables e x y c₁ c₂ a w none f l₁ 
           let p' = pair_less literals ls ends at (x ∷ y ∷ []) variables e (k / 2) a i w.two_each p in
           let same = pair_same literals ls ends at (x ∷ y ∷ []) variables e (k / 2) k a i old (at_in_clause literals ends at k p') in
           ⊎_elim
-          (λ (has : Contains (list_at v (list_of (watched literals at k))) k). inl (rw same (added_old (added v c₁) c₂ (list_of (watched literals at k)) k (added_old v c₁ (list_of (watched literals at k)) k has))))
-          (λ (in_loose : Contains v.loose k). let gone : Contains [] k = rw none at in_loose in absurd (omega (arith, gone.1)))
+          (λ (has : Contains (list_at v (list_of (watched literals at k))) k). inl (rw same (put_old ls₁ c₂ (list_of (watched literals at k)) (node + 1) k (put_old v.lists c₁ (list_of (watched literals at k)) node k has))))
+          (λ (here : Contains v.loose k × (list_of (watched literals at k) ≡ v.walked)). let gone : Contains [] k = rw none at here.0 in absurd (omega (arith, gone.1)))
           (w.linked k old p'))
           (λ (new : length at ≤ k). ⊎_elim
           (λ (one : k ≡ length at).
-          let p' : IsPair lits es at' (length ends) = subst (IsPair lits es at') (ap (λ (n : ℕ). n / 2) one ∙ first) p in
-          let here : list_of (watched lits at' k) ≡ c₁ = ap (λ (n : ℕ). list_of (watched lits at' n)) one ∙ link₁ p' in
-          let node : k ≡ v.nodes = one ∙ sym w.nodes in
-          inl (rw (here, node) (added_old (added v c₁) c₂ c₁ v.nodes (added_new v c₁ l₁))))
+          let here : list_of (watched lits at' k) ≡ c₁ = ap (λ (n : ℕ). list_of (watched lits at' n)) one ∙ link₁ in
+          let is : k ≡ node = one ∙ sym first_is in
+          inl (rw (here, is) (put_old ls₁ c₂ c₁ (node + 1) node (put_new v.lists c₁ node l₁))))
           (λ (not_one : k ≢ length at).
           let two : k ≡ length at + 1 = omega (arith, l, size) in
-          let p' : IsPair lits es at' (length ends) = subst (IsPair lits es at') (ap (λ (n : ℕ). n / 2) two ∙ second) p in
-          let here : list_of (watched lits at' k) ≡ c₂ = ap (λ (n : ℕ). list_of (watched lits at' n)) two ∙ link₂ p' in
-          let node : k ≡ v.nodes + 1 = omega (arith, two, w.nodes) in
-          inl (rw (here, node) (added_new (added v c₁) c₂ l₂')))
+          let here : list_of (watched lits at' k) ≡ c₂ = ap (λ (n : ℕ). list_of (watched lits at' n)) two ∙ link₂ in
+          let is : k ≡ node + 1 = omega (arith, two, first_is) in
+          inl (rw (here, is) (put_new ls₁ c₂ (node + 1) l₂')))
           (cases_eq k (length at)))
           (cases_lt k (length at));
     })
 
+-- the same for a clause that watches nothing, whose nodes are on no list
+pub IsWoven-none : (literals ls : List ℤ) (ends at : List ℕ) (v : Lists) (variables e x y : ℕ) → IsArena literals ends variables → IsWoven literals ends at v variables → v.loose ≡ []
+    → (IsPair (literals ++ ls) (ends ++ e ∷ []) (at ++ x ∷ y ∷ []) (length ends) → ⊥)
+    → IsWoven (literals ++ ls) (ends ++ e ∷ []) (at ++ x ∷ y ∷ []) v variables
+IsWoven-none literals ls ends at v variables e x y a w none no_pair =
+    let lits = literals ++ ls in
+    let es = ends ++ e ∷ [] in
+    let at' = at ++ x ∷ y ∷ [] in
+    let size : length at' ≡ length at + 2 = omega (arith, length-append at (x ∷ y ∷ [])) in
+    record {
+      two_each = omega (arith, size, w.two_each, length-append ends (e ∷ []));
+      count = w.count;
+      listed = λ d k l h. let its = w.listed d k l h in
+          (omega (arith, its.0, size), pair_more literals ls ends at (x ∷ y ∷ []) variables e (k / 2) a (omega (arith, its.0, w.two_each)) w.two_each its.1);
+      loose = λ k h. let gone : Contains [] k = rw none at h in absurd (omega (arith, gone.1));
+      linked = λ k l p. ⊎_elim
+          (λ (old : k < length at).
+          let i : k / 2 < length ends = omega (arith, w.two_each) in
+          let p' = pair_less literals ls ends at (x ∷ y ∷ []) variables e (k / 2) a i w.two_each p in
+          let same = pair_same literals ls ends at (x ∷ y ∷ []) variables e (k / 2) k a i old (at_in_clause literals ends at k p') in
+          ⊎_elim
+          (λ (has : Contains (list_at v (list_of (watched literals at k))) k). inl (rw same has))
+          (λ (here : Contains v.loose k × (list_of (watched literals at k) ≡ v.walked)). let gone : Contains [] k = rw none at here.0 in absurd (omega (arith, gone.1)))
+          (w.linked k old p'))
+          (λ (new : length at ≤ k).
+          let here : k / 2 ≡ length ends = omega (arith, w.two_each, l, new, size) in
+          absurd (no_pair (subst (IsPair lits es at') here p)))
+          (cases_lt k (length at));
+    }
+
 -- a clause after the others, with what is to be propagated anew
 abbrev pub joined : Net → List ℤ → ℕ → ℕ → List ℕ → Lists → List ℕ → ℕ → Net
-joined m ls x y short lists dones done = record m { literals = m.literals ++ ls; ends = more_ends m.literals m.ends ls; at = m.at ++ x ∷ y ∷ []; short = short; lists = lists; dones = dones; done = done }
+joined m ls x y short lists dones done = record m { literals = m.literals ++ ls; ends = more_ends m.literals m.ends ls; attached = m.attached ++ true ∷ []; at = m.at ++ x ∷ y ∷ []; short = short; lists = lists; dones = dones; done = done }
 
 frame_more : (m : Net) (ls : List ℤ) (x y : ℕ) (ss : List ℕ) (lists : Lists) (dones : List ℕ) (done n d d' s : ℕ) → IsArena m.literals m.ends m.variables → IsSound m → d' ≤ d → IsFresh (m.literals ++ ls) (more_ends m.literals m.ends ls) (m.at ++ x ∷ y ∷ []) (length m.at) m.trail d' → IsFrame m n d s → IsFrame (joined m ls x y (m.short ++ ss) lists dones done) n d' s
 frame_more m ls x y ss lists dones done n d d' s a h less fresh f = record {
@@ -221,16 +228,26 @@ frame_more m ls x y ss lists dones done n d d' s a h less fresh f = record {
       rw same (true_more m.literals ls m.ends m.variables (length (m.literals ++ ls)) (get_or m.short j 0) (take n m.trail) a (h.alike j in_short).0 (f.shorts j l));
 }
 
+node_one : (at : List ℕ) (x y : ℕ) → get_or (at ++ x ∷ y ∷ []) (length at) 0 ≡ x
+node_one at x y = get_or_at at x (y ∷ []) 0 (length at) refl
+
+node_two : (at : List ℕ) (x y : ℕ) → get_or (at ++ x ∷ y ∷ []) (length at + 1) 0 ≡ y
+node_two at x y = rw (← append_assoc at (x ∷ []) (y ∷ [])) (get_or_at (at ++ x ∷ []) y [] 0 (length at + 1) (length-append at (x ∷ [])))
+
+-- a clause that is attached is one
+pub on_within : (xs : List Bool) (i : ℕ) → get_or xs i false ≡ true → i < length xs
+on_within xs i on = ⊎_elim (λ (l : i < length xs). l) (λ (past : length xs ≤ i). let bad : false ≡ true = sym (get_or_past xs i false past) ∙ on in cc) (cases_lt i (length xs))
+
 pub IsSound-more : (m : Net) (ls : List ℤ) (x y : ℕ) (short ss : List ℕ) (lists : Lists) (dones : List ℕ) (done : ℕ) → IsArena m.literals m.ends m.variables → IsSound m
-    → IsWoven (m.literals ++ ls) (more_ends m.literals m.ends ls) (m.at ++ x ∷ y ∷ []) lists m.variables → lists.loose ≡ []
+    → IsWoven (m.literals ++ ls) (more_ends m.literals m.ends ls) (m.at ++ x ∷ y ∷ []) lists m.variables → AreAtRest lists
     → short ≡ m.short ++ ss
-    → ((j : ℕ) → j < length ss → (get_or ss j 0 ≡ length m.ends) × IsAlike (m.literals ++ ls) (more_ends m.literals m.ends ls) (length m.ends))
+    → ((j : ℕ) → j < length ss → (get_or ss j 0 ≡ length m.ends) × IsAlike (m.literals ++ ls) (more_ends m.literals m.ends ls) (length m.ends) × (x ≡ y))
     → Contains short (length m.ends) ⊎ IsPair (m.literals ++ ls) (more_ends m.literals m.ends ls) (m.at ++ x ∷ y ∷ []) (length m.ends)
     → done ≤ m.done → IsFresh (m.literals ++ ls) (more_ends m.literals m.ends ls) (m.at ++ x ∷ y ∷ []) (length m.at) m.trail done
     → length dones ≡ length m.dones
     → ((f : ℕ) → f < m.top → (get_or dones f 0 ≤ get_or m.dones f 0) × IsFresh (m.literals ++ ls) (more_ends m.literals m.ends ls) (m.at ++ x ∷ y ∷ []) (length m.at) m.trail (get_or dones f 0))
     → IsSound (joined m ls x y short lists dones done)
-IsSound-more m ls x y short ss lists dones done a h woven none is new_short new less fresh size levels =
+IsSound-more m ls x y short ss lists dones done a h woven rest is new_short new less fresh size levels =
     let e = length (m.literals ++ ls) in
     let count = length-append m.ends (e ∷ []) in
     let old_more : (i : ℕ) → i < length m.ends → Contains m.short i ⊎ IsPair m.literals m.ends m.at i → Contains short i ⊎ IsPair (m.literals ++ ls) (m.ends ++ e ∷ []) (m.at ++ x ∷ y ∷ []) i = λ i l c. ⊎_elim
@@ -238,7 +255,8 @@ IsSound-more m ls x y short ss lists dones done a h woven none is new_short new 
     (λ p. inr (pair_more m.literals ls m.ends m.at (x ∷ y ∷ []) m.variables e i a l h.woven.two_each p)) c in
     rw is (record {
       woven = woven;
-      none_loose = none;
+      at_rest = rest;
+      marked = length-append m.attached (true ∷ []) ∙ (ap (λ (n : ℕ). n + 1) h.marked ∙ sym count);
       alike = λ j l. ⊎_elim
           (λ (old : j < length m.short).
           let its = h.alike j old in
@@ -250,9 +268,38 @@ IsSound-more m ls x y short ss lists dones done a h woven none is new_short new 
           let its = new_short k (omega (arith, length-append m.short ss)) in
           rw (read, its.0) (omega (arith, count), its.1))
           (cases_lt j (length m.short));
-      covered = λ i l. rw is at (⊎_elim (λ (old : i < length m.ends). old_more i old (h.covered i old))
-          (λ (last : length m.ends ≤ i). let here : i ≡ length m.ends = omega (arith, count) in rw here new)
+      covered = λ i l on. rw is at (⊎_elim
+          (λ (old : i < length m.ends).
+          let before : get_or m.attached i false ≡ true = sym (get_or_append_left m.attached (true ∷ []) false i (omega (arith, h.marked))) ∙ on in
+          old_more i old (h.covered i old before))
+          (λ (last : length m.ends ≤ i).
+          let here : i ≡ length m.ends = omega (arith, l, count) in rw here new)
           (cases_lt i (length m.ends)));
+      pairs = λ i l p. ⊎_elim
+          (λ (old : i < length m.ends).
+          get_or_append_left m.attached (true ∷ []) false i (omega (arith, old, h.marked)) ∙ h.pairs i old (pair_less m.literals ls m.ends m.at (x ∷ y ∷ []) m.variables e i a old h.woven.two_each p))
+          (λ (last : length m.ends ≤ i). let here : i ≡ length m.attached = omega (arith, l, count, h.marked) in rw here (get_or_at m.attached true [] false (length m.attached) refl))
+          (cases_lt i (length m.ends));
+      shorts = λ j l. ⊎_elim
+          (λ (old : j < length m.short).
+          let s = get_or m.short j 0 in
+          let its = h.shorts j old in
+          let inside : s < length m.ends = (h.alike j old).0 in
+          rw (get_or_append_left m.short ss 0 j old) (
+            get_or_append_left m.attached (true ∷ []) false s (omega (arith, inside, h.marked)) ∙ its.0,
+            at_more m.at (x ∷ y ∷ []) (2 * s) (omega (arith, inside, h.woven.two_each)) ∙ (its.1 ∙ sym (at_more m.at (x ∷ y ∷ []) (2 * s + 1) (omega (arith, inside, h.woven.two_each)))),
+          ))
+          (λ (later : length m.short ≤ j).
+          let k = j - length m.short in
+          let at : length m.short + k ≡ j = omega arith in
+          let read : get_or (m.short ++ ss) j 0 ≡ get_or ss k 0 = sym (ap (λ (n : ℕ). get_or (m.short ++ ss) n 0) at) ∙ get_or-append-add m.short ss k 0 in
+          let its = new_short k (omega (arith, length-append m.short ss)) in
+          let one : 2 * length m.ends ≡ length m.at = sym h.woven.two_each in
+          rw (read, its.0) (
+            get_or_at m.attached true [] false (length m.ends) h.marked,
+            rw (one, node_one m.at x y, node_two m.at x y) its.2,
+          ))
+          (cases_lt j (length m.short));
       now = frame_more m ls x y ss lists dones done (length m.trail) m.done done m.short_done a h less fresh h.now;
       opened = λ f l. let its = levels f l in frame_more m ls x y ss lists dones done (get_or m.lens f 0) (get_or m.dones f 0) (get_or dones f 0) (get_or m.short_dones f 0) a h its.0 its.1 (h.opened f l);
       rising = h.rising;
@@ -268,12 +315,6 @@ last_start literals ends variables e a = start_more ends e (length ends) (omega 
 
 last_end : (ends : List ℕ) (e : ℕ) → get_or (ends ++ e ∷ []) (length ends) 0 ≡ e
 last_end ends e = get_or_at ends e [] 0 (length ends) refl
-
-node_one : (at : List ℕ) (x y : ℕ) → get_or (at ++ x ∷ y ∷ []) (length at) 0 ≡ x
-node_one at x y = get_or_at at x (y ∷ []) 0 (length at) refl
-
-node_two : (at : List ℕ) (x y : ℕ) → get_or (at ++ x ∷ y ∷ []) (length at + 1) 0 ≡ y
-node_two at x y = rw (← append_assoc at (x ∷ []) (y ∷ [])) (get_or_at (at ++ x ∷ []) y [] 0 (length at + 1) (length-append at (x ∷ [])))
 
 pub watched_one : (literals ls : List ℤ) (at : List ℕ) (p y : ℕ) → watched (literals ++ ls) (at ++ (length literals + p) ∷ y ∷ []) (length at) ≡ value_at ls p
 watched_one literals ls at p y = ap (value_at (literals ++ ls)) (node_one at (length literals + p) y) ∙ get_or-append-add literals ls p (pos 0)
@@ -297,7 +338,7 @@ pair_new literals ls ends at variables one two a s i j ne =
       different = λ same. ne (sym (watched_one literals ls at one (length literals + two)) ∙ (ap (watched (literals ++ ls) at') (sym first) ∙ (same ∙ (ap (watched (literals ++ ls) at') second ∙ watched_two literals ls at (length literals + one) two))));
     }
 
-not_before : (trail : List ℤ) (d limit : ℕ) (l : ℤ) → d ≤ length trail → d ≤ limit → ((j : ℕ) → j < length trail → j < limit → value_at trail j ≢ neg_ℤ l) → Contains (take d trail) (neg_ℤ l) → ⊥
+pub not_before : (trail : List ℤ) (d limit : ℕ) (l : ℤ) → d ≤ length trail → d ≤ limit → ((j : ℕ) → j < length trail → j < limit → value_at trail j ≢ neg_ℤ l) → Contains (take d trail) (neg_ℤ l) → ⊥
 not_before trail d limit l h i none c =
     let at = Contains_take-at trail d (neg_ℤ l) h c in
     none at.0 (omega (arith, at.1)) (omega (arith, at.1)) at.2
@@ -315,13 +356,16 @@ fresh_long literals ls ends at one two trail d limit h i none₁ none₂ k l m p
     not_before trail d limit (value_at ls two) h i none₂ (subst (λ (z : ℤ). Contains (take d trail) (neg_ℤ z)) (ap (watched lits at') is ∙ watched_two literals ls at x two) c))
     (cases_eq k (length at))
 
-pub sound_long : (m : Net) (ls : List ℤ) (one two : ℕ) (literals' : List ℤ) (ends' at' dones' : List ℕ) (lists' : Lists) (variables' done' limit : ℕ) (l₁ l₂ : ℤ) (c₁ c₂ x y : ℕ) → IsArena m.literals m.ends m.variables → IsSound m → All (IsLiteral m.variables) ls → one < length ls → two < length ls → value_at ls one ≢ value_at ls two
+pub rest_added : (v v' : Lists) (a x b y : ℕ) → AreAtRest v → v' ≡ added (added v a x) b y → AreAtRest v'
+rest_added v v' a x b y r f = rw f (r.0, r.1 ∙ sym (length-set (put_on v.lists a x) b (row_at (put_on v.lists a x) b ++ y ∷ []) ∙ length-set v.lists a (row_at v.lists a ++ x ∷ [])))
+
+pub sound_long : (m : Net) (ls : List ℤ) (one two : ℕ) (literals' : List ℤ) (ends' : List ℕ) (attached' : List Bool) (at' dones' : List ℕ) (lists' : Lists) (variables' done' limit : ℕ) (l₁ l₂ : ℤ) (c₁ c₂ x y node : ℕ) → IsArena m.literals m.ends m.variables → IsSound m → All (IsLiteral m.variables) ls → one < length ls → two < length ls → value_at ls one ≢ value_at ls two
     → l₁ ≡ value_at ls one → l₂ ≡ value_at ls two → c₁ ≡ list_of l₁ → c₂ ≡ list_of l₂ → x ≡ length m.literals + one → y ≡ length m.literals + two
-    → literals' ≡ m.literals ++ ls → ends' ≡ m.ends ++ length literals' ∷ [] → at' ≡ (m.at ++ x ∷ []) ++ y ∷ [] → lists' ≡ added (added m.lists c₁) c₂ → variables' ≡ m.variables
+    → literals' ≡ m.literals ++ ls → ends' ≡ m.ends ++ length literals' ∷ [] → at' ≡ (m.at ++ x ∷ []) ++ y ∷ [] → node ≡ length m.at → lists' ≡ added (added m.lists c₁ node) c₂ (node + 1) → variables' ≡ m.variables → attached' ≡ m.attached ++ true ∷ []
     → done' ≤ m.done → done' ≤ limit → length dones' ≡ length m.dones → ((k : ℕ) → k < m.top → (get_or dones' k 0 ≤ get_or m.dones k 0) × (get_or dones' k 0 ≤ limit))
     → ((j : ℕ) → j < length m.trail → j < limit → value_at m.trail j ≢ neg_ℤ l₁) → ((j : ℕ) → j < length m.trail → j < limit → value_at m.trail j ≢ neg_ℤ l₂)
-    → IsSound (record m { literals = literals'; ends = ends'; at = at'; lists = lists'; variables = variables'; dones = dones'; done = done' })
-sound_long m ls one two literals' ends' at' dones' lists' variables' done' limit l₁ l₂ c₁ c₂ x y a h all i₁ i₂ ne e₁ e₂ f₁ f₂ ex ey el ee ea ef ev less low size lows none₁ none₂ =
+    → IsSound (record m { literals = literals'; ends = ends'; attached = attached'; at = at'; lists = lists'; variables = variables'; dones = dones'; done = done' })
+sound_long m ls one two literals' ends' attached' at' dones' lists' variables' done' limit l₁ l₂ c₁ c₂ x y node a h all i₁ i₂ ne e₁ e₂ f₁ f₂ ex ey el ee ea en ef ev eb less low size lows none₁ none₂ =
     let f = length m.literals in
     let s = h.woven.two_each in
     let places : at' ≡ m.at ++ (f + one) ∷ (f + two) ∷ [] = ea ∙ (append_assoc m.at (x ∷ []) (y ∷ []) ∙ (ap (λ (n : ℕ). m.at ++ n ∷ y ∷ []) ex ∙ ap (λ (n : ℕ). m.at ++ (f + one) ∷ n ∷ []) ey)) in
@@ -333,11 +377,12 @@ sound_long m ls one two literals' ends' at' dones' lists' variables' done' limit
     let c₂_is : c₂ ≡ list_of (value_at ls two) = f₂ ∙ ap list_of e₂ in
     let b₁ : c₁ < 2 * m.variables = omega (arith, c₁_is, list_of-lt m.variables (value_at ls one) lit₁) in
     let b₂ : c₂ < 2 * m.variables = omega (arith, c₂_is, list_of-lt m.variables (value_at ls two) lit₂) in
-    let woven = IsWoven-more m.literals ls m.ends m.at m.lists lists' m.variables (length (m.literals ++ ls)) (f + one) (f + two) c₁ c₂ a h.woven h.none_loose ef (omega (arith, h.woven.count)) (omega (arith, h.woven.count)) (λ _. pair) (λ _. pair)
-    (λ _. ap list_of (watched_one m.literals ls m.at one (f + two)) ∙ sym c₁_is) (λ _. ap list_of (watched_two m.literals ls m.at (f + one) two) ∙ sym c₂_is) in
+    let woven = IsWoven-more m.literals ls m.ends m.at m.lists lists' m.variables (length (m.literals ++ ls)) (f + one) (f + two) c₁ c₂ node a h.woven h.at_rest.0 en ef (omega (arith, h.woven.count)) (omega (arith, h.woven.count)) pair
+    (ap list_of (watched_one m.literals ls m.at one (f + two)) ∙ sym c₁_is) (ap list_of (watched_two m.literals ls m.at (f + one) two) ∙ sym c₂_is) in
+    let rest : AreAtRest lists' = rest_added m.lists lists' c₁ node c₂ (node + 1) h.at_rest ef in
     let away₁ : (j : ℕ) → j < length m.trail → j < limit → value_at m.trail j ≢ neg_ℤ (value_at ls one) = subst (λ (l : ℤ). (j : ℕ) → j < length m.trail → j < limit → value_at m.trail j ≢ neg_ℤ l) e₁ none₁ in
     let away₂ : (j : ℕ) → j < length m.trail → j < limit → value_at m.trail j ≢ neg_ℤ (value_at ls two) = subst (λ (l : ℤ). (j : ℕ) → j < length m.trail → j < limit → value_at m.trail j ≢ neg_ℤ l) e₂ none₂ in
-    rw (places, ends_are, el, ev) (IsSound-more m ls (f + one) (f + two) m.short [] lists' dones' done' a h woven (ap (λ (v : Lists). v.loose) ef ∙ h.none_loose) (sym (append-nil m.short)) (λ j l. absurd (omega (arith, l))) (inr pair) less
+    rw (places, ends_are, el, ev, eb) (IsSound-more m ls (f + one) (f + two) m.short [] lists' dones' done' a h woven rest (sym (append-nil m.short)) (λ j l. absurd (omega (arith, l))) (inr pair) less
     (fresh_long m.literals ls m.ends m.at one two m.trail done' limit (omega (arith, less, h.now.done)) low away₁ away₂) size
     (λ k l. let its = lows k (omega (arith, l, h.levels, h.room.1)) in let frame = h.opened k l in
     (its.0, fresh_long m.literals ls m.ends m.at one two m.trail (get_or dones' k 0) limit (omega (arith, its.0, frame.done, frame.within)) its.1 away₁ away₂)))
@@ -355,25 +400,23 @@ alike_new literals ls ends variables a h p q in_p in_q =
     let q_is : value_at (literals ++ ls) q ≡ value_at ls (q - f) = sym (ap (value_at (literals ++ ls)) q_at) ∙ get_or-append-add literals ls (q - f) (pos 0) in
     p_is ∙ (h (p - f) (q - f) (omega (arith, in_p.0, in_p.1, start, last, size)) (omega (arith, in_q.0, in_q.1, start, last, size)) ∙ sym q_is)
 
-pub sound_alike : (m : Net) (ls : List ℤ) (literals' : List ℤ) (ends' at' short' : List ℕ) (lists' : Lists) (variables' spare x y last : ℕ) → IsArena m.literals m.ends m.variables → IsSound m → ((p q : ℕ) → p < length ls → q < length ls → value_at ls p ≡ value_at ls q)
-    → literals' ≡ m.literals ++ ls → ends' ≡ m.ends ++ length literals' ∷ [] → at' ≡ (m.at ++ x ∷ []) ++ y ∷ [] → last ≡ length m.ends → short' ≡ m.short ++ last ∷ [] → spare ≡ 2 * m.variables → lists' ≡ added (added m.lists spare) spare → variables' ≡ m.variables
-    → IsSound (record m { literals = literals'; ends = ends'; at = at'; short = short'; lists = lists'; variables = variables' })
-sound_alike m ls literals' ends' at' short' lists' variables' spare x y last a h alike el ee ea el' es esp ef ev =
+pub sound_alike : (m : Net) (ls : List ℤ) (literals' : List ℤ) (ends' : List ℕ) (attached' : List Bool) (at' short' : List ℕ) (variables' x y last : ℕ) → IsArena m.literals m.ends m.variables → IsSound m → ((p q : ℕ) → p < length ls → q < length ls → value_at ls p ≡ value_at ls q)
+    → literals' ≡ m.literals ++ ls → ends' ≡ m.ends ++ length literals' ∷ [] → at' ≡ (m.at ++ x ∷ []) ++ y ∷ [] → last ≡ length m.ends → short' ≡ m.short ++ last ∷ [] → variables' ≡ m.variables → attached' ≡ m.attached ++ true ∷ [] → x ≡ y
+    → IsSound (record m { literals = literals'; ends = ends'; attached = attached'; at = at'; short = short'; variables = variables' })
+sound_alike m ls literals' ends' attached' at' short' variables' x y last a h alike el ee ea el' es ev eb one_place =
     let s = h.woven.two_each in
     let e = length (m.literals ++ ls) in
     let places : at' ≡ m.at ++ x ∷ y ∷ [] = ea ∙ append_assoc m.at (x ∷ []) (y ∷ []) in
     let ends_are : ends' ≡ more_ends m.literals m.ends ls = ee ∙ ap (λ (xs : List ℤ). m.ends ++ length xs ∷ []) el in
     let same = alike_new m.literals ls m.ends m.variables a alike in
     let no_pair : IsPair (m.literals ++ ls) (m.ends ++ e ∷ []) (m.at ++ x ∷ y ∷ []) (length m.ends) → ⊥ = λ p. p.different (same (get_or (m.at ++ x ∷ y ∷ []) (2 * length m.ends) 0) (get_or (m.at ++ x ∷ y ∷ []) (2 * length m.ends + 1) 0) p.one p.two) in
-    let room : spare < length m.lists.lists = omega (arith, esp, h.woven.count) in
-    let woven = IsWoven-more m.literals ls m.ends m.at m.lists lists' m.variables e x y spare spare a h.woven h.none_loose ef room room
-    (λ l. absurd (omega (arith, l, esp))) (λ l. absurd (omega (arith, l, esp))) (λ p. absurd (no_pair p)) (λ p. absurd (no_pair p)) in
+    let woven = IsWoven-none m.literals ls m.ends m.at m.lists m.variables e x y a h.woven h.at_rest.0 no_pair in
     let fresh : (d : ℕ) → IsFresh (m.literals ++ ls) (m.ends ++ e ∷ []) (m.at ++ x ∷ y ∷ []) (length m.at) m.trail d = λ d k l n p c.
     let here : k / 2 ≡ length m.ends = omega (arith, s, l, n, length-append m.at (x ∷ y ∷ [])) in
     no_pair (subst (IsPair (m.literals ++ ls) (m.ends ++ e ∷ []) (m.at ++ x ∷ y ∷ [])) here p) in
     let short_is : short' ≡ m.short ++ length m.ends ∷ [] = es ∙ ap (λ (n : ℕ). m.short ++ n ∷ []) el' in
-    rw (places, ends_are, el, ev) (IsSound-more m ls x y short' (length m.ends ∷ []) lists' m.dones m.done a h woven (ap (λ (v : Lists). v.loose) ef ∙ h.none_loose) short_is
-    (λ j l. let zero_is : j ≡ 0 = omega arith in (ap (λ (n : ℕ). get_or (length m.ends ∷ []) n 0) zero_is, same))
+    rw (places, ends_are, el, ev, eb) (IsSound-more m ls x y short' (length m.ends ∷ []) m.lists m.dones m.done a h woven h.at_rest short_is
+    (λ j l. let zero_is : j ≡ 0 = omega arith in (ap (λ (n : ℕ). get_or (length m.ends ∷ []) n 0) zero_is, same, one_place))
     (inl (rw short_is (Contains-push m.short (length m.ends)))) (omega arith) (fresh m.done) refl
     (λ k l. (omega arith, fresh (get_or m.dones k 0))))
 
@@ -400,14 +443,15 @@ clause_last literals ls ends variables a =
     rw (last_end ends e, last_start literals ends variables e a, drop-append_seam literals ls) (take_all (e - length literals) ls (omega (arith, length-append literals ls)))
 
 -- what is kept once a clause is added
-pub clause_added : (s t : Search) (ls : List ℤ) → IsArena s.literals s.ends s.variables → t.literals ≡ s.literals ++ ls → t.ends ≡ s.ends ++ length t.literals ∷ [] → Adds s t ls × (length t.ends ≡ length s.ends + 1)
-clause_added s t ls a el ee =
+pub clause_added : (s t : Search) (ls : List ℤ) → IsArena s.literals s.ends s.variables → t.literals ≡ s.literals ++ ls → t.ends ≡ s.ends ++ length t.literals ∷ [] → t.attached ≡ s.attached ++ true ∷ [] → Adds s t ls × (length t.ends ≡ length s.ends + 1)
+clause_added s t ls a el ee eb =
     let ends : t.ends ≡ more_ends s.literals s.ends ls = ee ∙ ap (λ (xs : List ℤ). s.ends ++ length xs ∷ []) el in
     let count : length t.ends ≡ length s.ends + 1 = ap length ends ∙ length-append s.ends (length (s.literals ++ ls) ∷ []) in (
       record {
         count = count;
         others = λ i l. rw (ends, el) (clause_old s.literals ls s.ends s.variables (length (s.literals ++ ls)) i a l);
         last = rw (ends, el) (clause_last s.literals ls s.ends s.variables a);
+        attached = eb;
       },
       count,
     )

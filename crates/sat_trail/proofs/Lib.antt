@@ -4,3 +4,5 @@ pub mod Sounding
 pub mod Adding
 pub mod Copying
 pub mod Reasoning
+pub mod Detaching
+pub mod Attaching

@@ -243,7 +243,7 @@ reasoned_cut s b level h inside trail levels reasons =
 -- what is said of a search doesn't depend on the number of variables
 pub reasoned_as : (s t : Search) → t.literals ≡ s.literals → t.ends ≡ s.ends → t.assignment ≡ s.assignment → t.limits ≡ s.limits → AreReasoned s → AreReasoned t
 reasoned_as s t literals ends same limits h =
-    let first : AreReasoned (record s { variables = t.variables }) = record { opened = h.opened; rising = h.rising; top = h.top; level = h.level; chosen = h.chosen; forced = h.forced } in
+    let first : AreReasoned (record s { attached = t.attached; variables = t.variables }) = record { opened = h.opened; rising = h.rising; top = h.top; level = h.level; chosen = h.chosen; forced = h.forced } in
     subst (λ (x : List ℕ). AreReasoned (record t { limits = x })) (sym limits)
     (subst (λ (x : Assignment). AreReasoned (record t { limits = s.limits; assignment = x })) (sym same)
     (subst (λ (x : List ℕ). AreReasoned (record t { limits = s.limits; assignment = s.assignment; ends = x })) (sym ends)

@@ -1,11 +1,11 @@
 -- How the nodes of the clauses stay on the lists of the literals that they watch.
 use Rattle.std.proofs.Common.{ℕ, zero, suc, ◌+◌, ◌-◌, ◌*◌, ◌/◌, ◌%◌, ◌<◌, ◌≤◌, ◌≡◌, ◌≢◌, ℤ, pos, negsuc, neg_ℤ, List, [], ◌∷◌, ◌++◌, length, get_or, set, take, drop, refl, sym, ap, subst, ◌∙◌, inl, inr, ◌⊎◌, ⊎_elim, arith, eq-eqb, ne_eqb, length-set, length-append}
 use Rattle.std.specs.List.{Contains}
-use Rattle.std.proofs.lemmas.List.{get_or-set_same, get_or-set_other, take-append-le, get_or_default, append-nil, append_assoc, get_or_append_left, take_more, take_all}
+use Rattle.std.proofs.lemmas.List.{get_or-set_same, get_or-set_other, set_past, take-append-le, get_or_default, append-nil, append_assoc, get_or_append_left, take_more, take_all}
 use Rattle.std.proofs.lemmas.List.Elements.{Contains-append_left, Contains-append_right, Contains-push, Contains-push_cases}
-use Rattle.std.proofs.lemmas.Bool.{cases_eq}
+use Rattle.std.proofs.lemmas.Bool.{cases_eq, cases_lt}
 use Rattle.sat_trail.specs.Literal.{IsLiteral, list_of}
-use Rattle.sat_lists.specs.Linked.{Lists, list_at, settled, detached}
+use Rattle.sat_lists.specs.Nodes.{Lists, list_at, row_at, put_on, begun, settled, finished}
 use Rattle.sat_trail.specs.Assignment.{value_at}
 use Rattle.sat_trail.proofs.Assigning.{neg-neg}
 use Rattle.sat_trail.specs.Watched.{InClause, IsArena, IsTrueIn, watched, sibling, IsPair, IsWatched, IsWoven, IsVisited, IsKept, IsTaken}
@@ -24,7 +24,7 @@ pub list_of-lt : (variables : ℕ) (l : ℤ) → IsLiteral variables l → list_
 list_of-lt variables (pos n) h = omega arith
 list_of-lt variables (negsuc n) h = omega arith
 
-half : (k : ℕ) → (k ≡ 2 * (k / 2)) ⊎ (k ≡ 2 * (k / 2) + 1)
+pub half : (k : ℕ) → (k ≡ 2 * (k / 2)) ⊎ (k ≡ 2 * (k / 2) + 1)
 half k = ⊎_elim (λ (e : k % 2 ≡ 0). inl (omega arith)) (λ (e : k % 2 ≢ 0). inr (omega arith)) (cases_eq (k % 2) 0)
 
 sibling_of-even : (k : ℕ) → k % 2 ≡ 0 → sibling k ≡ k + 1
@@ -57,47 +57,82 @@ watched_literal literals ends at variables k a l p =
     let inside : get_or at k 0 < length literals = omega (arith, here.1, (a.ordered (k / 2) l).1) in
     (inside, a.literal (get_or at k 0) inside)
 
-settled_here : (literals : List ℤ) (ends at : List ℕ) (v : Lists) (variables k : ℕ) (ks : List ℕ) → IsArena literals ends variables → IsWoven literals ends at v variables → v.loose ≡ k ∷ ks → IsWoven literals ends at (record { lists = set v.lists (list_of (watched literals at k)) (k ∷ list_at v (list_of (watched literals at k))); loose = ks; nodes = v.nodes }) variables
-settled_here literals ends at v variables k ks a w e =
-    let c = list_of (watched literals at k) in
+-- what a list has stays there once a node is put on a list
+pub put_old : (ls : List (List ℕ)) (c d k m : ℕ) → Contains (row_at ls d) m → Contains (row_at (put_on ls c k) d) m
+put_old ls c d k m h = ⊎_elim
+    (λ (l : c < length ls). ⊎_elim
+    (λ (e : d ≡ c).
+    let P : ℕ → Type 0 = λ x. Contains (row_at ls x) m in
+    rw (e, get_or-set_same ls c (row_at ls c ++ k ∷ []) [] l) (Contains-append_left (row_at ls c) (k ∷ []) m (subst P e h)))
+    (λ (ne : d ≢ c). rw (get_or-set_other ls c d (row_at ls c ++ k ∷ []) [] ne) h)
+    (cases_eq d c))
+    (λ (past : length ls ≤ c). rw (set_past ls c (row_at ls c ++ k ∷ []) past) h)
+    (cases_lt c (length ls))
+
+pub put_new : (ls : List (List ℕ)) (c k : ℕ) → c < length ls → Contains (row_at (put_on ls c k) c) k
+put_new ls c k l = rw (get_or-set_same ls c (row_at ls c ++ k ∷ []) [] l) (Contains-push (row_at ls c) k)
+
+pub put_cases : (ls : List (List ℕ)) (c d k m : ℕ) → Contains (row_at (put_on ls c k) d) m → ((m ≡ k) × (d ≡ c)) ⊎ Contains (row_at ls d) m
+put_cases ls c d k m h = ⊎_elim
+    (λ (l : c < length ls). ⊎_elim
+    (λ (e : d ≡ c).
+    let P : ℕ → Type 0 = λ x. Contains (row_at (put_on ls c k) x) m in
+    let Q : ℕ → Type 0 = λ x. Contains (row_at ls x) m in
+    let here : Contains (row_at ls c ++ k ∷ []) m = rw (get_or-set_same ls c (row_at ls c ++ k ∷ []) [] l) at (subst P e h) in
+    ⊎_elim (λ (old : Contains (row_at ls c) m). inr (subst Q (sym e) old)) (λ (is : k ≡ m). inl (sym is, e)) (Contains-push_cases (row_at ls c) k m here))
+    (λ (ne : d ≢ c). inr (rw (get_or-set_other ls c d (row_at ls c ++ k ∷ []) [] ne) at h))
+    (cases_eq d c))
+    (λ (past : length ls ≤ c). inr (rw (set_past ls c (row_at ls c ++ k ∷ []) past) at h))
+    (cases_lt c (length ls))
+
+keep_here : (literals : List ℤ) (ends at : List ℕ) (v : Lists) (variables k : ℕ) (ks : List ℕ) → IsArena literals ends variables → IsWoven literals ends at v variables → v.loose ≡ k ∷ ks → IsWoven literals ends at (record { lists = put_on v.lists v.walked k; loose = ks; walked = v.walked }) variables
+keep_here literals ends at v variables k ks a w e =
+    let c = v.walked in
     let has : Contains v.loose k = rw e (Contains-head k ks) in
     let its = w.loose k has in
-    let literal = watched_literal literals ends at variables k a (omega (arith, its.0, w.two_each)) its.1 in
-    let c_lt : c < length v.lists = omega (arith, list_of-lt variables (watched literals at k) literal.1, w.count) in
-    let new = k ∷ list_at v c in
     let rest : (m : ℕ) → Contains ks m → Contains v.loose m = λ m h. rw e (Contains-tail k ks m h) in
     record {
       two_each = w.two_each;
-      nodes = w.nodes;
-      count = length-set v.lists c new ∙ w.count;
+      count = length-set v.lists c (row_at v.lists c ++ k ∷ []) ∙ w.count;
       listed = λ d m l h. ⊎_elim
-          (λ (same : d ≡ c). let P : ℕ → Type 0 = λ x. Contains (get_or (set v.lists c new) x []) m in
-          let h' : Contains new m = rw (get_or-set_same v.lists c new [] c_lt) at (subst P same h) in
-          ⊎_elim (λ (k_is : k ≡ m). subst (λ (x : ℕ). (x < length at) × IsPair literals ends at (x / 2)) k_is its) (λ old. w.listed c m (omega (arith, same, l)) old) (Contains-cases k (list_at v c) m h'))
-          (λ (ne : d ≢ c). w.listed d m l (rw (get_or-set_other v.lists c d new [] ne) at h))
-          (cases_eq d c);
+          (λ (new : (m ≡ k) × (d ≡ c)). subst (λ (x : ℕ). (x < length at) × IsPair literals ends at (x / 2)) (sym new.0) its)
+          (λ (old : Contains (row_at v.lists d) m). w.listed d m l old)
+          (put_cases v.lists c d k m h);
       loose = λ m h. w.loose m (rest m h);
-      linked = λ m l p.
-          let d = list_of (watched literals at m) in
-          let own : d ≡ c → Contains new m → Contains (get_or (set v.lists c new) d []) m = λ same h. rw (same, get_or-set_same v.lists c new [] c_lt) h in
+      linked = λ m l p. ⊎_elim
+          (λ (old : Contains (list_at v (list_of (watched literals at m))) m). inl (put_old v.lists c (list_of (watched literals at m)) k m old))
+          (λ (here : Contains v.loose m × (list_of (watched literals at m) ≡ c)).
+          let its_literal = watched_literal literals ends at variables m a (omega (arith, l, w.two_each)) p in
+          let in_lists : c < length v.lists = omega (arith, here.1, list_of-lt variables (watched literals at m) its_literal.1, w.count) in
+          let in_loose : Contains (k ∷ ks) m = rw e at here.0 in
           ⊎_elim
-          (λ (old : Contains (list_at v d) m). inl (⊎_elim
-          (λ (same : d ≡ c). own same (Contains-tail k (list_at v c) m (let P : ℕ → Type 0 = λ x. Contains (list_at v x) m in subst P same old)))
-          (λ (ne : d ≢ c). rw (get_or-set_other v.lists c d new [] ne) old)
-          (cases_eq d c)))
-          (λ (in_loose : Contains v.loose m).
-          let h' : Contains (k ∷ ks) m = rw e at in_loose in
-          ⊎_elim
-          (λ (k_is : k ≡ m). inl (own (ap (λ (x : ℕ). list_of (watched literals at x)) (sym k_is)) (subst (Contains new) k_is (Contains-head k (list_at v c)))))
-          (λ still. inr still)
-          (Contains-cases k ks m h'))
+          (λ (is : k ≡ m).
+          let there : Contains (row_at (put_on v.lists c k) c) m = subst (Contains (row_at (put_on v.lists c k) c)) is (put_new v.lists c k in_lists) in
+          let P : ℕ → Type 0 = λ x. Contains (row_at (put_on v.lists c k) x) m in
+          inl (subst P (sym here.1) there))
+          (λ (still : Contains ks m). inr (still, here.1))
+          (Contains-cases k ks m in_loose))
           (w.linked m l p);
     }
 
-pub IsWoven-settle : (literals : List ℤ) (ends at : List ℕ) (v v' : Lists) (variables k c : ℕ) → IsArena literals ends variables → IsWoven literals ends at v variables → v.loose ≡ k ∷ drop 1 v.loose → c ≡ list_of (watched literals at k) → v' ≡ settled v c → IsWoven literals ends at v' variables
-IsWoven-settle literals ends at v v' variables k c a w e is f =
+-- the first loose node stays on the list that is walked
+pub IsWoven-keep : (literals : List ℤ) (ends at : List ℕ) (v v' : Lists) (variables k : ℕ) → IsArena literals ends variables → IsWoven literals ends at v variables → v.loose ≡ k ∷ drop 1 v.loose → v' ≡ settled v v.walked → IsWoven literals ends at v' variables
+IsWoven-keep literals ends at v v' variables k a w e f =
     let head : get_or v.loose 0 0 ≡ k = ap (λ (xs : List ℕ). get_or xs 0 0) e in
-    rw (f, is, head) (settled_here literals ends at v variables k (drop 1 v.loose) a w e)
+    rw (f, head) (keep_here literals ends at v variables k (drop 1 v.loose) a w e)
+
+-- the walk is over
+pub IsWoven-finish : (literals : List ℤ) (ends at : List ℕ) (v v' : Lists) (variables : ℕ) → IsWoven literals ends at v variables → v.loose ≡ [] → v' ≡ finished v → IsWoven literals ends at v' variables
+IsWoven-finish literals ends at v v' variables w none f = rw f (record {
+  two_each = w.two_each;
+  count = w.count;
+  listed = λ d m l h. w.listed d m l h;
+  loose = λ m h. absurd (omega (arith, h.1));
+  linked = λ m l p. ⊎_elim
+      (λ (old : Contains (list_at v (list_of (watched literals at m))) m). inl old)
+      (λ (here : Contains v.loose m × (list_of (watched literals at m) ≡ v.walked)). let gone : Contains [] m = rw none at here.0 in absurd (omega (arith, gone.1)))
+      (w.linked m l p);
+})
 
 -- what the first loose node watches
 pub loose_node : (literals : List ℤ) (ends at : List ℕ) (v : Lists) (variables k : ℕ) → IsArena literals ends variables → IsWoven literals ends at v variables → v.loose ≡ k ∷ drop 1 v.loose → (k < length at) × (get_or at k 0 < length literals) × IsLiteral variables (watched literals at k) × (list_of (watched literals at k) < length v.lists)
@@ -179,18 +214,42 @@ pair_from literals ends at k p i m h =
     (λ (ne : i ≢ k / 2). pair_apart_back literals ends at k p i ne h)
     (cases_eq i (k / 2))
 
-pub IsWoven-move : (literals : List ℤ) (ends at : List ℕ) (v : Lists) (variables k p : ℕ) → IsWoven literals ends at v variables → Contains v.loose k → IsMove literals ends at k p → IsWoven literals ends (set at k p) v variables
-IsWoven-move literals ends at v variables k p w has m = record {
-  two_each = length-set at k p ∙ w.two_each;
-  nodes = w.nodes ∙ sym (length-set at k p);
-  count = w.count;
-  listed = λ c n l h. let old = w.listed c n l h in (omega (arith, old.0, length-set at k p), pair_to literals ends at k p (n / 2) m old.1);
-  loose = λ n h. let old = w.loose n h in (omega (arith, old.0, length-set at k p), pair_to literals ends at k p (n / 2) m old.1);
-  linked = λ n l h. ⊎_elim
-      (λ (e : n ≡ k). inr (subst (Contains v.loose) (sym e) has))
-      (λ (ne : n ≢ k). rw (watched-set_other literals at k p n ne) (w.linked n (omega (arith, length-set at k p)) (pair_from literals ends at k p (n / 2) m h)))
-      (cases_eq n k);
-}
+moved_here : (literals : List ℤ) (ends at : List ℕ) (v : Lists) (variables k p : ℕ) (ks : List ℕ) → IsArena literals ends variables → IsWoven literals ends at v variables → v.loose ≡ k ∷ ks → IsMove literals ends at k p → IsWoven literals ends (set at k p) (record { lists = put_on v.lists (list_of (value_at literals p)) k; loose = ks; walked = v.walked }) variables
+moved_here literals ends at v variables k p ks a w e m =
+    let c = list_of (value_at literals p) in
+    let inside : p < length literals = omega (arith, m.in_clause.1, (a.ordered (k / 2) (omega (arith, m.in_range, w.two_each))).1) in
+    let in_lists : c < length v.lists = omega (arith, list_of-lt variables (value_at literals p) (a.literal p inside), w.count) in
+    let size : length (set at k p) ≡ length at = length-set at k p in
+    let rest : (n : ℕ) → Contains ks n → Contains v.loose n = λ n h. rw e (Contains-tail k ks n h) in
+    let pair : IsPair literals ends (set at k p) (k / 2) = pair_to literals ends at k p (k / 2) m m.pair in
+    record {
+      two_each = size ∙ w.two_each;
+      count = length-set v.lists c (row_at v.lists c ++ k ∷ []) ∙ w.count;
+      listed = λ d n l h. ⊎_elim
+          (λ (new : (n ≡ k) × (d ≡ c)). subst (λ (x : ℕ). (x < length (set at k p)) × IsPair literals ends (set at k p) (x / 2)) (sym new.0) (omega (arith, m.in_range, size), pair))
+          (λ (old : Contains (row_at v.lists d) n). let its = w.listed d n l old in (omega (arith, its.0, size), pair_to literals ends at k p (n / 2) m its.1))
+          (put_cases v.lists c d k n h);
+      loose = λ n h. let its = w.loose n (rest n h) in (omega (arith, its.0, size), pair_to literals ends at k p (n / 2) m its.1);
+      linked = λ n l q. ⊎_elim
+          (λ (is : n ≡ k).
+          let literal : watched literals (set at k p) n ≡ value_at literals p = ap (watched literals (set at k p)) is ∙ watched-set_same literals at k p m.in_range in
+          let there : Contains (row_at (put_on v.lists c k) c) n = subst (Contains (row_at (put_on v.lists c k) c)) (sym is) (put_new v.lists c k in_lists) in
+          let P : ℤ → Type 0 = λ x. Contains (row_at (put_on v.lists c k) (list_of x)) n in
+          inl (subst P (sym literal) there))
+          (λ (ne : n ≢ k). rw (watched-set_other literals at k p n ne) (⊎_elim
+          (λ (old : Contains (list_at v (list_of (watched literals at n))) n). inl (put_old v.lists c (list_of (watched literals at n)) k n old))
+          (λ (here : Contains v.loose n × (list_of (watched literals at n) ≡ v.walked)).
+          let in_loose : Contains (k ∷ ks) n = rw e at here.0 in
+          ⊎_elim (λ (is : k ≡ n). absurd (ne (sym is))) (λ (still : Contains ks n). inr (still, here.1)) (Contains-cases k ks n in_loose))
+          (w.linked n (omega (arith, l, size)) (pair_from literals ends at k p (n / 2) m q))))
+          (cases_eq n k);
+    }
+
+-- the first loose node watches another literal, and stands on the list of that
+pub IsWoven-moved : (literals : List ℤ) (ends at at' : List ℕ) (v v' : Lists) (variables k p c : ℕ) → IsArena literals ends variables → IsWoven literals ends at v variables → v.loose ≡ k ∷ drop 1 v.loose → IsMove literals ends at k p → c ≡ list_of (value_at literals p) → at' ≡ set at k p → v' ≡ settled v c → IsWoven literals ends at' v' variables
+IsWoven-moved literals ends at at' v v' variables k p c a w e m is same f =
+    let head : get_or v.loose 0 0 ≡ k = ap (λ (xs : List ℕ). get_or xs 0 0) e in
+    rw (same, f, is, head) (moved_here literals ends at v variables k p (drop 1 v.loose) a w e m)
 
 pub IsWatched-move : (literals : List ℤ) (ends at : List ℕ) (trail : List ℤ) (k p n d : ℕ) → IsMove literals ends at k p → (Contains trail (neg_ℤ (value_at literals p)) → ⊥) → IsWatched literals ends at trail n d → IsWatched literals ends (set at k p) trail n d
 IsWatched-move literals ends at trail k p n d m not_false h i l pair is_false =
@@ -219,7 +278,7 @@ loose_rest k m loose e h = Contains-cases k (drop 1 loose) m (subst (λ (xs : Li
 pub IsTaken-true : (literals : List ℤ) (ends at at' : List ℕ) (trail : List ℤ) (v v' : Lists) (variables k : ℕ) → v.loose ≡ k ∷ drop 1 v.loose → IsTrueIn literals ends trail (k / 2) → at' ≡ at → IsWoven literals ends at' v' variables → v'.loose ≡ drop 1 v.loose → IsTaken literals ends variables at trail v.loose at' trail v'
 IsTaken-true literals ends at at' trail v v' variables k e true_in same woven rest = record {
   woven = woven;
-  kept = rw same (record { longer = ([], sym (append-nil trail)); watched = λ n d _ _ h. h; pairs = λ i h. h });
+  kept = rw same (record { longer = ([], sym (append-nil trail)); watched = λ n d _ _ h. h; pairs = λ i h. h; back = λ i h. h; others = λ k none. refl });
   visited = λ w _ old. rw (same, rest) (λ m l pair is.
       ⊎_elim (λ (in_loose : Contains v.loose m). ⊎_elim (λ (here : k ≡ m). inr (subst (λ (x : ℕ). IsTrueIn literals ends trail (x / 2)) here true_in)) (λ r. inl r) (loose_rest k m v.loose e in_loose)) (λ t. inr t) (old m l pair is));
   rest = rest;
@@ -228,7 +287,7 @@ IsTaken-true literals ends at at' trail v v' variables k e true_in same woven re
 pub IsTaken-moved : (literals : List ℤ) (ends at at' : List ℕ) (trail : List ℤ) (v v' : Lists) (variables k p : ℕ) → v.loose ≡ k ∷ drop 1 v.loose → IsMove literals ends at k p → (Contains trail (neg_ℤ (value_at literals p)) → ⊥) → at' ≡ set at k p → IsWoven literals ends at' v' variables → v'.loose ≡ drop 1 v.loose → IsTaken literals ends variables at trail v.loose at' trail v'
 IsTaken-moved literals ends at at' trail v v' variables k p e m not_false same woven rest = record {
   woven = woven;
-  kept = rw same (record { longer = ([], sym (append-nil trail)); watched = λ n d _ _ h. IsWatched-move literals ends at trail k p n d m not_false h; pairs = λ i h. pair_to literals ends at k p i m h });
+  kept = rw same (record { longer = ([], sym (append-nil trail)); watched = λ n d _ _ h. IsWatched-move literals ends at trail k p n d m not_false h; pairs = λ i h. pair_to literals ends at k p i m h; back = λ i h. pair_from literals ends at k p i m h; others = λ n none. set_other at k p n (λ (e : n ≡ k). none (subst (λ (x : ℕ). IsPair literals ends at (x / 2)) (sym e) m.pair)) });
   visited = λ w is_false old. rw (same, rest) (λ i l pair is. ⊎_elim
       (λ (here : i ≡ k). absurd (not_false (subst (λ (x : ℤ). Contains trail (neg_ℤ x)) (sym is ∙ (ap (watched literals (set at k p)) here ∙ watched-set_same literals at k p m.in_range)) is_false)))
       (λ (ne : i ≢ k). ⊎_elim
@@ -244,7 +303,7 @@ IsTaken-forced literals ends at at' trail trail' l v v' variables k e pair is lo
     let true_in : IsTrueIn literals ends (trail ++ l ∷ []) (k / 2) = (get_or at (sibling k) 0, sibling_in_clause literals ends at k pair, subst (Contains (trail ++ l ∷ [])) is (Contains-push trail l)) in
     record {
       woven = woven;
-      kept = rw (same, longer) (record { longer = (l ∷ [], refl); watched = λ n d i j h. IsWatched-append literals ends at trail (l ∷ []) n d i j h; pairs = λ i h. h });
+      kept = rw (same, longer) (record { longer = (l ∷ [], refl); watched = λ n d i j h. IsWatched-append literals ends at trail (l ∷ []) n d i j h; pairs = λ i h. h; back = λ i h. h; others = λ n none. refl });
       visited = λ w _ old. rw (same, rest, longer) (λ m i p there.
           ⊎_elim (λ (in_loose : Contains v.loose m). ⊎_elim (λ (here : k ≡ m). inr (subst (λ (x : ℕ). IsTrueIn literals ends (trail ++ l ∷ []) (x / 2)) here true_in)) (λ r. inl r) (loose_rest k m v.loose e in_loose))
           (λ t. inr (IsTrueIn-append literals ends trail (l ∷ []) (m / 2) t)) (old m i p there));
@@ -261,7 +320,7 @@ sibling_literal literals ends at variables k a l p =
     (inside, a.literal (get_or at (sibling k) 0) inside)
 
 pub IsKept-refl : (literals : List ℤ) (ends at : List ℕ) (trail : List ℤ) → IsKept literals ends at trail at trail
-IsKept-refl literals ends at trail = record { longer = ([], sym (append-nil trail)); watched = λ n d _ _ h. h; pairs = λ i h. h }
+IsKept-refl literals ends at trail = record { longer = ([], sym (append-nil trail)); watched = λ n d _ _ h. h; pairs = λ i h. h; back = λ i h. h; others = λ k none. refl }
 
 pub IsKept-trans : (literals : List ℤ) (ends at at₁ at₂ : List ℕ) (trail trail₁ trail₂ : List ℤ) → IsKept literals ends at trail at₁ trail₁ → IsKept literals ends at₁ trail₁ at₂ trail₂ → IsKept literals ends at trail at₂ trail₂
 IsKept-trans literals ends at at₁ at₂ trail trail₁ trail₂ h k =
@@ -271,39 +330,43 @@ IsKept-trans literals ends at at₁ at₂ trail trail₁ trail₂ h k =
       longer = (ts ++ k.longer.0, k.longer.1 ∙ (ap (λ (xs : List ℤ). xs ++ k.longer.0) h.longer.1 ∙ append_assoc trail ts k.longer.0));
       watched = λ n d i j w. k.watched n d (omega arith) (omega arith) (h.watched n d i j w);
       pairs = λ i p. k.pairs i (h.pairs i p);
+      back = λ i p. h.back i (k.back i p);
+      others = λ n none. k.others n (λ p. none (h.back (n / 2) p)) ∙ h.others n none;
     }
 
 pub kept_true : (literals : List ℤ) (ends at at' : List ℕ) (trail trail' : List ℤ) (l : ℤ) → IsKept literals ends at trail at' trail' → Contains trail l → Contains trail' l
 kept_true literals ends at at' trail trail' l h c = rw h.longer.1 (Contains-append_left trail h.longer.0 l c)
 
-pub IsWoven-detach : (literals : List ℤ) (ends at : List ℕ) (v v' : Lists) (variables c : ℕ) → IsWoven literals ends at v variables → v.loose ≡ [] → c < 2 * variables → v' ≡ detached v c → IsWoven literals ends at v' variables
-IsWoven-detach literals ends at v v' variables c w none l f = rw f (record {
-  two_each = w.two_each;
-  nodes = w.nodes;
-  count = length-set v.lists c [] ∙ w.count;
-  listed = λ d k i h. ⊎_elim
-      (λ (same : d ≡ c). let P : ℕ → Type 0 = λ x. Contains (get_or (set v.lists c []) x []) k in
-      let none_here : Contains [] k = rw (get_or-set_same v.lists c [] [] inside) at (subst P same h) in absurd (omega (arith, none_here.1)))
-      (λ (ne : d ≢ c). w.listed d k i (rw (get_or-set_other v.lists c d [] [] ne) at h))
-      (cases_eq d c);
-  loose = λ k h. w.listed c k l h;
-  linked = λ k i p. ⊎_elim
-      (λ (h : Contains (list_at v (list_of (watched literals at k))) k). ⊎_elim
-      (λ (same : list_of (watched literals at k) ≡ c). let P : ℕ → Type 0 = λ x. Contains (list_at v x) k in inr (subst P same h))
-      (λ (ne : list_of (watched literals at k) ≢ c). inl (rw (get_or-set_other v.lists c (list_of (watched literals at k)) [] [] ne) h))
-      (cases_eq (list_of (watched literals at k)) c))
-      (λ (h : Contains v.loose k). let h' : Contains [] k = rw none at h in absurd (omega (arith, h'.1)))
-      (w.linked k i p);
-})
-  where
-    inside : c < length v.lists
-    inside = omega (arith, w.count)
+begin_here : (literals : List ℤ) (ends at : List ℕ) (v : Lists) (variables c : ℕ) → IsWoven literals ends at v variables → v.loose ≡ [] → c < 2 * variables → IsWoven literals ends at (begun v c) variables
+begin_here literals ends at v variables c w none l =
+    let inside : c < length v.lists = omega (arith, w.count) in
+    record {
+      two_each = w.two_each;
+      count = length-set v.lists c [] ∙ w.count;
+      listed = λ d k i h. ⊎_elim
+          (λ (same : d ≡ c). let P : ℕ → Type 0 = λ x. Contains (row_at (set v.lists c []) x) k in
+          let none_here : Contains [] k = rw (get_or-set_same v.lists c [] [] inside) at (subst P same h) in absurd (omega (arith, none_here.1)))
+          (λ (ne : d ≢ c). w.listed d k i (rw (get_or-set_other v.lists c d [] [] ne) at h))
+          (cases_eq d c);
+      loose = λ k h. w.listed c k l h;
+      linked = λ k i p. ⊎_elim
+          (λ (h : Contains (list_at v (list_of (watched literals at k))) k). ⊎_elim
+          (λ (same : list_of (watched literals at k) ≡ c). let P : ℕ → Type 0 = λ x. Contains (list_at v x) k in inr (subst P same h, same))
+          (λ (ne : list_of (watched literals at k) ≢ c). inl (rw (get_or-set_other v.lists c (list_of (watched literals at k)) [] [] ne) h))
+          (cases_eq (list_of (watched literals at k)) c))
+          (λ (h : Contains v.loose k × (list_of (watched literals at k) ≡ v.walked)). let gone : Contains [] k = rw none at h.0 in absurd (omega (arith, gone.1)))
+          (w.linked k i p);
+    }
 
-pub IsVisited-detach : (literals : List ℤ) (ends at : List ℕ) (v : Lists) (variables : ℕ) (trail : List ℤ) (w : ℤ) → IsWoven literals ends at v variables → v.loose ≡ [] → IsVisited literals ends at (list_at v (list_of w)) trail w
-IsVisited-detach literals ends at v variables trail w h none k l p is =
+-- a list begins to be walked
+pub IsWoven-begin : (literals : List ℤ) (ends at : List ℕ) (v v' : Lists) (variables c : ℕ) → IsWoven literals ends at v variables → v.loose ≡ [] → c < 2 * variables → v' ≡ begun v c → IsWoven literals ends at v' variables
+IsWoven-begin literals ends at v v' variables c w none l f = rw f (begin_here literals ends at v variables c w none l)
+
+pub IsVisited-begin : (literals : List ℤ) (ends at : List ℕ) (v : Lists) (variables : ℕ) (trail : List ℤ) (w : ℤ) → IsWoven literals ends at v variables → v.loose ≡ [] → IsVisited literals ends at (list_at v (list_of w)) trail w
+IsVisited-begin literals ends at v variables trail w h none k l p is =
     ⊎_elim
     (λ (there : Contains (list_at v (list_of (watched literals at k))) k). inl (subst (λ (x : ℤ). Contains (list_at v (list_of x)) k) is there))
-    (λ (in_loose : Contains v.loose k). let h' : Contains [] k = rw none at in_loose in absurd (omega (arith, h'.1)))
+    (λ (here : Contains v.loose k × (list_of (watched literals at k) ≡ v.walked)). let gone : Contains [] k = rw none at here.0 in absurd (omega (arith, gone.1)))
     (h.linked k l p)
 
 Contains_take-more : {X : Type 0} (xs : List X) (n m : ℕ) (x : X) → n ≤ m → Contains (take n xs) x → Contains (take m xs) x

@@ -6,3 +6,4 @@ pub mod Sound
 pub mod State
 pub mod Reasons
 pub mod Search
+pub mod Detached

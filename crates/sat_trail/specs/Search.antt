@@ -11,6 +11,7 @@ abbrev pub net : Inside → Net
 net t = record {
   literals = t.arena.literals.items;
   ends = t.arena.ends.items;
+  attached = t.attached.items;
   at = t.watches.at.items;
   short = t.short.items;
   lists = t.watches.lists;
@@ -29,6 +30,7 @@ abbrev pub search_of : Inside → Search
 search_of t = record {
   literals = t.arena.literals.items;
   ends = t.arena.ends.items;
+  attached = t.attached.items;
   variables = t.arena.variables;
   assignment = t.assigned;
   limits = take t.top t.lens.items;

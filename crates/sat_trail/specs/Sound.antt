@@ -1,15 +1,16 @@
 -- What a trail keeps at each decision level: which clauses were propagated when it was opened,
 -- so that one can go back to it.
-use Rattle.std.specs.Prelude.{ℕ, ◌<◌, ◌≤◌, ◌≡◌, ◌≢◌, ℤ, neg_ℤ, List, [], ◌⊎◌, length, take, slice_index}
+use Rattle.std.specs.Prelude.{ℕ, ◌+◌, ◌*◌, ◌<◌, ◌≤◌, ◌≡◌, ◌≢◌, ℤ, neg_ℤ, Bool, true, false, List, ◌⊎◌, length, take, slice_index, slice_index_or}
 use Rattle.std.specs.List.{Contains}
-use Rattle.sat_lists.specs.Linked.{Lists}
+use Rattle.sat_lists.specs.Nodes.{Lists, AreAtRest}
 use Rattle.sat_trail.specs.Assignment.{value_at}
 use Rattle.sat_trail.specs.Watched.{InClause, IsTrueIn, IsPair, IsWatched, IsWoven, IsAlike}
 
--- clauses, watches and true literals, and for each level that is open what stood when it was opened
+-- clauses, which of them are attached, watches and true literals, and for each level that is open what stood when it was opened
 pub record Net : Type 0 where
   pub literals : List ℤ
   pub ends : List ℕ
+  pub attached : List Bool
   pub at : List ℕ
   pub short : List ℕ
   pub lists : Lists
@@ -30,12 +31,16 @@ pub record IsFrame (m : Net) (n d s : ℕ) : Type 0 where
   pub watched : IsWatched m.literals m.ends m.at m.trail n d
   pub shorts : (j : ℕ) → j < s → IsTrueIn m.literals m.ends (take n m.trail) (slice_index m.short j)
 
--- every clause is short or watched, and every open level can be gone back to
+-- just the short clauses, whose nodes are at one place, and those that watch two literals are attached, and every open level can
+-- be gone back to
 pub record IsSound (m : Net) : Type 0 where
   pub woven : IsWoven m.literals m.ends m.at m.lists m.variables
-  pub none_loose : m.lists.loose ≡ []
+  pub at_rest : AreAtRest m.lists
+  pub marked : length m.attached ≡ length m.ends
   pub alike : (j : ℕ) → j < length m.short → (slice_index m.short j < length m.ends) × IsAlike m.literals m.ends (slice_index m.short j)
-  pub covered : (i : ℕ) → i < length m.ends → Contains m.short i ⊎ IsPair m.literals m.ends m.at i
+  pub covered : (i : ℕ) → i < length m.ends → slice_index_or m.attached i false ≡ true → Contains m.short i ⊎ IsPair m.literals m.ends m.at i
+  pub pairs : (i : ℕ) → i < length m.ends → IsPair m.literals m.ends m.at i → slice_index_or m.attached i false ≡ true
+  pub shorts : (j : ℕ) → j < length m.short → (slice_index_or m.attached (slice_index m.short j) false ≡ true) × (slice_index m.at (2 * slice_index m.short j) ≡ slice_index m.at (2 * slice_index m.short j + 1))
   pub now : IsFrame m (length m.trail) m.done m.short_done
   pub opened : (f : ℕ) → f < m.top → IsFrame m (slice_index m.lens f) (slice_index m.dones f) (slice_index m.short_dones f)
   pub rising : (f g : ℕ) → f ≤ g → g < m.top → slice_index m.lens f ≤ slice_index m.lens g

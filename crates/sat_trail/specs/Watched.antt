@@ -2,7 +2,7 @@
 use Rattle.std.specs.Prelude.{ℕ, zero, suc, ◌+◌, ◌-◌, ◌*◌, ◌/◌, ◌%◌, ◌<◌, ◌≤◌, ◌≡◌, ◌≢◌, ◌==◌, if◌then◌else◌, ℤ, neg_ℤ, List, ◌++◌, ◌⊎◌, length, take, drop, slice_index}
 use Rattle.std.specs.List.{Contains}
 use Rattle.sat_trail.specs.Literal.{IsLiteral, list_of}
-use Rattle.sat_lists.specs.Linked.{Lists, list_at}
+use Rattle.sat_lists.specs.Nodes.{Lists, list_at}
 use Rattle.sat_trail.specs.Assignment.{value_at}
 
 -- where the literals of a clause begin; they end before `ends` at it
@@ -51,25 +51,27 @@ abbrev pub IsWatched : List ℤ → List ℕ → List ℕ → List ℤ → ℕ �
 IsWatched literals ends at trail n d =
     (k : ℕ) → k < length at → IsPair literals ends at (k / 2) → Contains (take d trail) (neg_ℤ (watched literals at k)) → IsTrueIn literals ends (take n trail) (k / 2)
 
--- each node of a pair stands on the list of the literal that it watches, or is loose, and only such nodes do
+-- each node of a pair stands on the list of the literal that it watches, or is loose while that list is walked, and only such
+-- nodes do
 pub record IsWoven (literals : List ℤ) (ends at : List ℕ) (lists : Lists) (variables : ℕ) : Type 0 where
   pub two_each : length at ≡ 2 * length ends
-  pub nodes : lists.nodes ≡ length at
-  pub count : length lists.lists ≡ 2 * variables + 1
+  pub count : length lists.lists ≡ 2 * variables
   pub listed : (c k : ℕ) → c < 2 * variables → Contains (list_at lists c) k → (k < length at) × IsPair literals ends at (k / 2)
   pub loose : (k : ℕ) → Contains lists.loose k → (k < length at) × IsPair literals ends at (k / 2)
-  pub linked : (k : ℕ) → k < length at → IsPair literals ends at (k / 2) → Contains (list_at lists (list_of (watched literals at k))) k ⊎ Contains lists.loose k
+  pub linked : (k : ℕ) → k < length at → IsPair literals ends at (k / 2) → Contains (list_at lists (list_of (watched literals at k))) k ⊎ (Contains lists.loose k × (list_of (watched literals at k) ≡ lists.walked))
 
 -- each clause that watches the literal, but those of the loose nodes, is true
 abbrev pub IsVisited : List ℤ → List ℕ → List ℕ → List ℕ → List ℤ → ℤ → Type 0
 IsVisited literals ends at loose trail w =
     (k : ℕ) → k < length at → IsPair literals ends at (k / 2) → watched literals at k ≡ w → Contains loose k ⊎ IsTrueIn literals ends trail (k / 2)
 
--- later true literals and watches, under which whatever was watched still is
+-- later true literals and watches, under which whatever was watched still is, and no clause comes to watch
 pub record IsKept (literals : List ℤ) (ends at : List ℕ) (trail : List ℤ) (at' : List ℕ) (trail' : List ℤ) : Type 0 where
   pub longer : (ts : List ℤ) × (trail' ≡ trail ++ ts)
   pub watched : (n d : ℕ) → n ≤ length trail → d ≤ length trail → IsWatched literals ends at trail n d → IsWatched literals ends at' trail' n d
   pub pairs : (i : ℕ) → IsPair literals ends at i → IsPair literals ends at' i
+  pub back : (i : ℕ) → IsPair literals ends at' i → IsPair literals ends at i
+  pub others : (k : ℕ) → (IsPair literals ends at (k / 2) → ⊥) → slice_index at' k ≡ slice_index at k
 
 -- what is left once a loose node is taken: it is settled, and its clause can be forgotten
 pub record IsTaken (literals : List ℤ) (ends : List ℕ) (variables : ℕ) (at : List ℕ) (trail : List ℤ) (loose at' : List ℕ) (trail' : List ℤ) (lists' : Lists) : Type 0 where

@@ -1,9 +1,9 @@
-//! Which two literals a new clause watches, and what has to be propagated again for it.
+//! Which two literals a clause watches that is attached, and what has to be propagated again for it.
 //!
 //! It watches a literal that isn't false, or else the one that became false last. Where a watched
 //! literal is false, propagation begins again at its place, at the latest, on every open level.
 
-ghost use Rattle.std.specs.Prelude.{◌≡◌, ◌≢◌, ℕ, neg_ℤ, ◌<◌, ◌≤◌, length, slice_index};
+ghost use Rattle.std.specs.Prelude.{◌≡◌, ◌≢◌, ℕ, neg_ℤ, ◌<◌, ◌≤◌, length, slice_index, IfSome};
 ghost use Rattle.std.specs.List.{All};
 ghost use Rattle.sat_trail.specs.Literal.{IsLiteral};
 ghost use Rattle.sat_trail.specs.Assignment.{value_at};
@@ -43,6 +43,23 @@ pub fn latest(assigned: &Assigned, literals: &[i64], skip: i64) -> usize
         }
     }
     best
+}
+
+/// The places of two different literals that are false last or not at all, if there are two.
+pub fn two_latest(assigned: &Assigned, literals: &[i64]) -> Option<(usize, usize)>
+    requires { All (IsLiteral (length assigned.now.values)) literals.now }
+    ensures { IfSome result (λ places. (places.0 < length literals.now)
+        × (places.1 < length literals.now)
+        × (value_at literals.now places.0 ≢ value_at literals.now places.1)) }
+{
+    let one = latest(assigned, literals, 0);
+    if one < literals.len() {
+        let two = latest(assigned, literals, literals[one]);
+        if two < literals.len() {
+            return Some((one, two));
+        }
+    }
+    None
 }
 
 /// Lowers each of the first numbers to at most a bound.

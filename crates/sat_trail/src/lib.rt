@@ -1,7 +1,8 @@
 //! The trail of a search: its clauses, its partial assignment, and unit propagation over both.
 //!
 //! A [`Trail`] decides ([`Trail::assign`]), propagates ([`Trail::propagate`]), and takes decisions
-//! back ([`Trail::undo_to`]). It finds what a clause forces by two watched literals.
+//! back ([`Trail::undo_to`]). It finds what a clause forces by two watched literals. A clause can be
+//! left out of propagation ([`Trail::detach`]), and taken in again ([`Trail::attach`]).
 #![tactic(auto)]
 
 mod literal;
@@ -11,8 +12,12 @@ pub use literal::{index, list_of};
 mod add;
 mod arena;
 mod assigned;
+mod detach;
 mod propagate;
 mod trail;
 mod watches;
 
 pub use trail::Trail;
+
+#[cfg(test)]
+mod tests;

@@ -14,42 +14,59 @@
 //! - all others are false and the other watched one is free: the clause is unit, and forces it;
 //! - all are false: a conflict, whose clause is answered, and which ends the propagation.
 //!
-//! A place that met a conflict doesn't count as propagated, so that it is visited again.
+//! A place that met a conflict doesn't count as propagated, so that it is visited again. Nor does
+//! one where a watch had no memory to move to.
 //!
 //! What holds throughout is `IsWatched`: a clause with a watched literal that is false among the
 //! propagated places has a true literal. So where all places are propagated without a conflict,
-//! every such clause is true or has two different free literals.
+//! every such clause is true or has two different free literals. Of a detached clause, which
+//! watches nothing, it says nothing.
 //!
 //! Short clauses have no two different literals: the empty clause, and those of one literal, which
 //! may stand in them several times. They can't watch two literals, and are taken first, in the
 //! order in which they came, and again where what made them true was taken back. The empty clause
 //! is a conflict, and any other is true, false, or unit.
 
-ghost use Rattle.std.specs.Prelude.{◌≡◌, ℕ, ℤ, neg_ℤ, ◌+◌, ◌-◌, ◌*◌, ◌<◌, ◌≤◌, ◌++◌, [], List, length, slice_index, IfNone, IfSome, IsTrue, IsFalse};
+ghost use Rattle.std.specs.Prelude.{◌≡◌, ℕ, ℤ, neg_ℤ, ◌+◌, ◌-◌, ◌*◌, ◌<◌, ◌≤◌, ◌++◌, List, length, slice_index, Ok, None, IfNone, IfSome, IfOk, IsTrue, IsFalse};
 ghost use Rattle.std.specs.List.{Contains};
+ghost use Rattle.sat_lists.specs.Nodes.{AreAtRest};
 ghost use Rattle.sat_trail.specs.Assignment.{value_at};
-ghost use Rattle.sat_trail.specs.Watched.{IsCopied, IsWoven, IsKept, IsWatched, IsTrueIn, IsFalseIn, IsAlike};
+ghost use Rattle.sat_trail.specs.Watched.{IsPair, IsCopied, IsWoven, IsKept, IsWatched, IsTrueIn, IsFalseIn, IsAlike};
 ghost use Rattle.sat_trail.specs.Reasons.{ForcesMore};
 
 use crate::arena::Arena;
 use crate::assigned::Assigned;
 use crate::list_of;
 use crate::watches::Watches;
+use std::alloc::AllocError;
 
-/// Propagates the true literal at a place, and gives the number of a clause that is false, if there is one.
+/// Whether nothing was found, and memory wasn't wanted.
+fn is_clear(found: &Result<Option<u64>, AllocError>) -> bool
+    ensures clear { IsTrue result → found.now ≡ Ok None }
+    ensures unclear { IsFalse result → IfOk found.now (λ o. IfNone o ⊥) }
+{
+    match found {
+        Ok(None) => true,
+        Ok(Some(_)) => false,
+        Err(_) => false,
+    }
+}
+
+/// Propagates the true literal at a place, and gives the number of a clause that is false, if there is one. The only error
+/// is want of memory.
 fn turn(
     arena: &Arena,
     watches: &mut Watches,
     assigned: &mut Assigned,
     place: usize,
     level: u64,
-) -> Option<u64>
+) -> Result<Option<u64>, AllocError>
     requires variables { length assigned.old.values ≡ arena.now.variables }
     requires woven { IsWoven arena.now.literals.items arena.now.ends.items watches.old.at.items
         watches.old.lists arena.now.variables }
     requires copied { IsCopied arena.now.literals.items arena.now.ends.items watches.old.at.items
         watches.old.copies.items }
-    requires none_loose { watches.old.lists.loose ≡ [] }
+    requires at_rest { AreAtRest watches.old.lists }
     requires in_range { place < length assigned.old.trail }
     requires watched { IsWatched arena.now.literals.items arena.now.ends.items watches.old.at.items
         assigned.old.trail (length assigned.old.trail) place }
@@ -58,40 +75,41 @@ fn turn(
         watches.new.lists arena.now.variables }
     ensures copied { IsCopied arena.now.literals.items arena.now.ends.items watches.new.at.items
         watches.new.copies.items }
-    ensures none_loose { watches.new.lists.loose ≡ [] }
+    ensures at_rest { AreAtRest watches.new.lists }
     ensures kept { IsKept arena.now.literals.items arena.now.ends.items watches.old.at.items
         assigned.old.trail watches.new.at.items assigned.new.trail }
     ensures forced { ForcesMore arena.now.literals.items arena.now.ends.items level assigned.old
         assigned.new }
-    ensures watched { IfNone result (IsWatched arena.now.literals.items arena.now.ends.items
-        watches.new.at.items assigned.new.trail (length assigned.new.trail) (place + 1)) }
-    ensures false_clause { IfSome result (λ n. (0 < n) × (n ≤ length arena.now.ends.items)
-        × IsFalseIn arena.now.literals.items arena.now.ends.items assigned.new.trail (n - 1)) }
+    ensures watched { IfOk result (λ o. IfNone o (IsWatched arena.now.literals.items
+        arena.now.ends.items watches.new.at.items assigned.new.trail (length assigned.new.trail)
+        (place + 1))) }
+    ensures false_clause { IfOk result (λ o. IfSome o (λ n. (0 < n)
+        × (n ≤ length arena.now.ends.items)
+        × IsPair arena.now.literals.items arena.now.ends.items watches.new.at.items (n - 1)
+        × IsFalseIn arena.now.literals.items arena.now.ends.items assigned.new.trail (n - 1))) }
 {
     let list = list_of(assigned.falsified(place));
-    watches.lists.detach(list);
-    if let Some(clause) = watches.visit(arena, assigned, level) {
-        watches.restore(arena);
-        return Some(clause);
-    }
-    None
+    watches.lists.begin(list);
+    let found = watches.visit(arena, assigned, level);
+    watches.restore(arena);
+    found
 }
 
 /// Propagates the true literals from a place on, and gives the place reached and the number of a clause that is false, if there
-/// is one.
+/// is one. The only error is want of memory.
 pub fn advance(
     arena: &Arena,
     watches: &mut Watches,
     assigned: &mut Assigned,
     start: usize,
     level: u64,
-) -> (usize, Option<u64>)
+) -> (usize, Result<Option<u64>, AllocError>)
     requires variables { length assigned.old.values ≡ arena.now.variables }
     requires woven { IsWoven arena.now.literals.items arena.now.ends.items watches.old.at.items
         watches.old.lists arena.now.variables }
     requires copied { IsCopied arena.now.literals.items arena.now.ends.items watches.old.at.items
         watches.old.copies.items }
-    requires none_loose { watches.old.lists.loose ≡ [] }
+    requires at_rest { AreAtRest watches.old.lists }
     requires in_range { start ≤ length assigned.old.trail }
     requires watched { IsWatched arena.now.literals.items arena.now.ends.items watches.old.at.items
         assigned.old.trail (length assigned.old.trail) start }
@@ -100,7 +118,7 @@ pub fn advance(
         watches.new.lists arena.now.variables }
     ensures copied { IsCopied arena.now.literals.items arena.now.ends.items watches.new.at.items
         watches.new.copies.items }
-    ensures none_loose { watches.new.lists.loose ≡ [] }
+    ensures at_rest { AreAtRest watches.new.lists }
     ensures kept { IsKept arena.now.literals.items arena.now.ends.items watches.old.at.items
         assigned.old.trail watches.new.at.items assigned.new.trail }
     ensures forced { ForcesMore arena.now.literals.items arena.now.ends.items level assigned.old
@@ -108,18 +126,21 @@ pub fn advance(
     ensures reached { result.0 ≤ length assigned.new.trail }
     ensures watched { IsWatched arena.now.literals.items arena.now.ends.items watches.new.at.items
         assigned.new.trail (length assigned.new.trail) result.0 }
-    ensures all { IfNone result.1 (result.0 ≡ length assigned.new.trail) }
-    ensures false_clause { IfSome result.1 (λ n. (0 < n) × (n ≤ length arena.now.ends.items)
-        × IsFalseIn arena.now.literals.items arena.now.ends.items assigned.new.trail (n - 1)) }
+    ensures all { IfOk result.1 (λ o. IfNone o (result.0 ≡ length assigned.new.trail)) }
+    ensures false_clause { IfOk result.1 (λ o. IfSome o (λ n. (0 < n)
+        × (n ≤ length arena.now.ends.items)
+        × IsPair arena.now.literals.items arena.now.ends.items watches.new.at.items (n - 1)
+        × IsFalseIn arena.now.literals.items arena.now.ends.items assigned.new.trail (n - 1))) }
 {
     let mut done = start;
     'trail: while done < assigned.len() {
-        if let Some(clause) = turn(arena, watches, assigned, done, level) {
-            return (done, Some(clause));
+        let found = turn(arena, watches, assigned, done, level);
+        if !is_clear(&found) {
+            return (done, found);
         }
         done += 1;
     }
-    (done, None)
+    (done, Ok(None))
 }
 
 /// Propagates the clauses without two different literals from a place on, and gives the place reached and the number of one that
@@ -146,6 +167,7 @@ pub fn advance_short(
         (slice_index short.now j) }
     ensures all { IfNone result.1 (result.0 ≡ length short.now) }
     ensures false_clause { IfSome result.1 (λ n. (0 < n) × (n ≤ length arena.now.ends.items)
+        × Contains short.now (n - 1)
         × IsFalseIn arena.now.literals.items arena.now.ends.items assigned.new.trail (n - 1)) }
 {
     let mut done = start;

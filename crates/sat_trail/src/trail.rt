@@ -4,8 +4,11 @@
 //! then has the same level, and the clause that forced it as its reason. Level 0 is below all
 //! decisions: what is true there follows from the clauses alone. To go back to a level takes the
 //! literals above it from the end of the trail, and leaves clauses and watches as they are.
+//!
+//! A clause is attached when it is added, and just attached clauses are propagated. One that is
+//! detached keeps its number and its literals, and stays the reason of what it forced.
 
-ghost use Rattle.std.specs.Prelude.{◌≡◌, ◌≢◌, ℕ, ℤ, pos, neg_ℤ, unsigned_abs, ◌+◌, ◌-◌, ◌*◌, ◌<◌, ◌≤◌, ◌⊎◌, ◌++◌, ◌∷◌, [], List, length, take, slice_index, slice_index_or, slice_set, slice_get, Some, IfNone, IfSome, IfOk, OnErr, IsTrue, false};
+ghost use Rattle.std.specs.Prelude.{◌≡◌, ◌≢◌, ℕ, ℤ, pos, neg_ℤ, unsigned_abs, ◌+◌, ◌-◌, ◌*◌, ◌<◌, ◌≤◌, ◌⊎◌, ◌++◌, ◌∷◌, [], List, length, take, slice_index, slice_index_or, slice_set, slice_get, Some, IfNone, IfSome, IfOk, OnOk, OnErr, IsTrue, true, false};
 ghost use Rattle.std.specs.List.{Contains, All};
 ghost use Rattle.sat_trail.specs.Literal.{IsLiteral};
 ghost use Rattle.sat_trail.specs.Literal as spec;
@@ -13,12 +16,13 @@ ghost use Rattle.sat_dimacs.specs.Literal.{IsWithin};
 ghost use Rattle.sat_trail.specs.Assignment.{value_at, IsTold};
 ghost use Rattle.sat_trail.specs.Watched.{IsTrueIn, IsFalseIn, IsArena};
 ghost use Rattle.sat_trail.specs.Sound.{IsFree, IsOpen};
-ghost use Rattle.sat_trail.specs.State.{clause_at, Keeps, Adds};
+ghost use Rattle.sat_trail.specs.State.{clause_at, IsAttached, Keeps, Adds};
 ghost use Rattle.sat_trail.specs.Reasons.{ForcesMore, AreReasoned, AreApart, IsPut};
 
-use crate::add::{bound, latest, lower};
+use crate::add::{bound, latest, lower, two_latest};
 use crate::arena::Arena;
 use crate::assigned::Assigned;
+use crate::detach::{clear, unwatch};
 use crate::list_of;
 use crate::propagate::{advance, advance_short};
 use crate::watches::Watches;
@@ -39,9 +43,11 @@ fn are_neither(one: bool, other: bool) -> bool
 pub struct Trail {
     /// The clauses.
     arena: Arena,
-    /// The two watched literals of each clause that isn't short.
+    /// The two watched literals of each attached clause that isn't short.
     watches: Watches,
-    /// The short clauses, which have no two different literals: the empty one and unit clauses.
+    /// Whether each clause is attached.
+    attached: Vec<bool>,
+    /// The short clauses, which have no two different literals: the empty one and unit clauses. They stay attached.
     short: Vec<usize>,
     /// The assignment: true literals in their order, each with its decision level and its reason.
     assigned: Assigned,
@@ -73,7 +79,7 @@ impl Model for Trail {
 }
 
 impl Trail {
-    /// The clauses of a formula, under the numbers from 1 on in their order, with nothing assigned.
+    /// The clauses of a formula, all attached, under the numbers from 1 on in their order, with nothing assigned.
     ///
     /// The only error is want of memory.
     pub fn new(alloc: Global, cnf: &Cnf) -> Result<Trail, AllocError>
@@ -91,7 +97,7 @@ impl Trail {
     /// No clause, over so many variables.
     fn empty(alloc: Global, variables: usize) -> Result<Trail, AllocError>
         ensures variables { IfOk result (λ t. t.variables ≡ variables) }
-        ensures clauses { IfOk result (λ t. t.ends ≡ []) }
+        ensures clauses { IfOk result (λ t. (t.ends ≡ []) × (t.attached ≡ [])) }
         ensures nothing_assigned { IfOk result (λ t. (t.assignment.trail ≡ []) × (t.limits ≡ [])) }
     {
         if variables > usize::MAX / 4 {
@@ -102,8 +108,9 @@ impl Trail {
             watches: Watches {
                 at: Vec::new(alloc),
                 copies: Vec::new(alloc),
-                lists: NodeLists::new(alloc, 2 * variables + 1)?,
+                lists: NodeLists::new(alloc, 2 * variables)?,
             },
+            attached: Vec::new(alloc),
             short: Vec::new(alloc),
             assigned: Assigned::new(alloc, variables)?,
             lens: vec![in alloc; 0; variables]?,
@@ -115,7 +122,7 @@ impl Trail {
         })
     }
 
-    /// Adds a clause behind the others, and gives its number, which is how many there are then.
+    /// Adds a clause behind the others, attached, and gives its number, which is how many there are then.
     ///
     /// It takes time in the clause's length and the number of open levels. The only error is want of memory, and the
     /// trail is then as before.
@@ -163,14 +170,17 @@ impl Trail {
         self.arena.reserve(literals.len())?;
         self.watches.at.reserve(2)?;
         self.watches.copies.reserve(2)?;
+        self.attached.reserve(1)?;
+        let node = self.watches.at.len();
         self.watches
             .lists
-            .add_pair(list_of(literals[one]), list_of(literals[two]))?;
+            .add_pair(list_of(literals[one]), list_of(literals[two]), node)?;
         let first = self.arena.literals.len();
         push_in_room(&mut self.watches.at, first + one);
         push_in_room(&mut self.watches.at, first + two);
         push_in_room(&mut self.watches.copies, literals[one]);
         push_in_room(&mut self.watches.copies, literals[two]);
+        push_in_room(&mut self.attached, true);
         self.arena.push(literals);
         let limit = bound(&self.assigned, literals[one]).min(bound(&self.assigned, literals[two]));
         self.done = self.done.min(limit);
@@ -193,13 +203,13 @@ impl Trail {
         self.watches.at.reserve(2)?;
         self.watches.copies.reserve(2)?;
         self.short.reserve(1)?;
-        let spare = 2 * self.arena.variables;
-        self.watches.lists.add_pair(spare, spare)?;
+        self.attached.reserve(1)?;
         push_in_room(&mut self.watches.at, 0);
         push_in_room(&mut self.watches.at, 0);
         push_in_room(&mut self.watches.copies, 0);
         push_in_room(&mut self.watches.copies, 0);
         push_in_room(&mut self.short, self.arena.ends.len());
+        push_in_room(&mut self.attached, true);
         self.arena.push(literals);
         Ok(self.arena.ends.len() as u64)
     }
@@ -220,6 +230,7 @@ impl Trail {
         requires literal { IsLiteral self.old.variables literal }
         requires free { IsFree self.old.assignment.trail literal }
         ensures clauses { (self.new.literals ≡ self.old.literals) × (self.new.ends ≡ self.old.ends)
+            × (self.new.attached ≡ self.old.attached)
             × (self.new.variables ≡ self.old.variables) }
         ensures trail { self.new.assignment.trail ≡ self.old.assignment.trail ++ literal ∷ [] }
         ensures limits { self.new.limits ≡ self.old.limits
@@ -239,6 +250,7 @@ impl Trail {
     pub fn undo_to(&mut self, level: u64)
         requires { level ≤ length self.old.limits }
         ensures clauses { (self.new.literals ≡ self.old.literals) × (self.new.ends ≡ self.old.ends)
+            × (self.new.attached ≡ self.old.attached)
             × (self.new.variables ≡ self.old.variables) }
         ensures trail { self.new.assignment.trail ≡ take
             (slice_index_or self.old.limits level (length self.old.assignment.trail))
@@ -256,21 +268,104 @@ impl Trail {
         }
     }
 
-    /// Makes true what the clauses force, with the clause as its reason, and gives the number of a clause that is false, if there
-    /// is one.
-    pub fn propagate(&mut self) -> Option<u64>
+    /// Detaches the marked clauses, but for those without two different literals; place i marks clause i + 1. They force
+    /// nothing from here on; what they forced stays, with them as its reasons.
+    pub fn detach(&mut self, marks: &[bool])
         ensures clauses { (self.new.literals ≡ self.old.literals) × (self.new.ends ≡ self.old.ends)
+            × (self.new.variables ≡ self.old.variables) }
+        ensures assignment { (self.new.assignment ≡ self.old.assignment)
+            × (self.new.limits ≡ self.old.limits) }
+        ensures size { length self.new.attached ≡ length self.old.attached }
+        ensures attached { (i : ℕ) → IsAttached self.old i →
+            IsAttached self.new i ⊎ (slice_index_or marks.now i false ≡ true) }
+        ensures only { (i : ℕ) → IsAttached self.new i → IsAttached self.old i }
+    {
+        let count = self.arena.ends.len();
+        clear(&mut self.attached, self.watches.at.as_slice(), marks);
+        unwatch(&mut self.watches.at, count, marks);
+        self.watches.lists.retain(marks);
+    }
+
+    /// Attaches a clause again.
+    ///
+    /// It takes time in the clause's length and the number of open levels. The only error is want of memory, and the
+    /// trail is then as before.
+    pub fn attach(&mut self, number: u64) -> Result<(), AllocError>
+        requires number { (0 < number) × (number ≤ length self.old.ends) }
+        ensures clauses { (self.new.literals ≡ self.old.literals) × (self.new.ends ≡ self.old.ends)
+            × (self.new.variables ≡ self.old.variables) }
+        ensures assignment { (self.new.assignment ≡ self.old.assignment)
+            × (self.new.limits ≡ self.old.limits) }
+        ensures attached { OnOk result (self.new.attached
+            ≡ slice_set self.old.attached (number - 1) true) }
+        ensures err { OnErr result (self.new ≡ self.old) }
+    {
+        let clause = number as usize - 1;
+        if self.attached[clause] {
+            return Ok(());
+        }
+        match two_latest(&self.assigned, self.clause(number)) {
+            Some((one, two)) => self.watch(clause, one, two),
+            // A clause without two different literals stays attached, so this can't be.
+            None => Err(AllocError),
+        }
+    }
+
+    /// Attaches a clause, which watches the literals at two of its places.
+    fn watch(&mut self, clause: usize, one: usize, two: usize) -> Result<(), AllocError>
+        requires clause { clause < length self.old.ends }
+        requires one { one < length (clause_at self.old clause) }
+        requires two { two < length (clause_at self.old clause) }
+        requires different { value_at (clause_at self.old clause) one
+            ≢ value_at (clause_at self.old clause) two }
+        ensures clauses { (self.new.literals ≡ self.old.literals) × (self.new.ends ≡ self.old.ends)
+            × (self.new.variables ≡ self.old.variables) }
+        ensures assignment { (self.new.assignment ≡ self.old.assignment)
+            × (self.new.limits ≡ self.old.limits) }
+        ensures attached { OnOk result (self.new.attached
+            ≡ slice_set self.old.attached clause true) }
+        ensures err { OnErr result (self.new ≡ self.old) }
+    {
+        let from = self.arena.start(clause);
+        let place = from + one;
+        let other = from + two;
+        let first = self.arena.literals[place];
+        let second = self.arena.literals[other];
+        let node = 2 * clause;
+        let next = node + 1;
+        self.watches
+            .lists
+            .add_pair(list_of(first), list_of(second), node)?;
+        self.watches.at[node] = place;
+        self.watches.at[next] = other;
+        self.watches.copies[node] = first;
+        self.watches.copies[next] = second;
+        self.attached[clause] = true;
+        let limit = bound(&self.assigned, first).min(bound(&self.assigned, second));
+        self.done = self.done.min(limit);
+        lower(&mut self.dones, self.top, limit);
+        Ok(())
+    }
+
+    /// Makes true what the attached clauses force, with the clause as its reason, and gives the number of a clause that is false,
+    /// if there is one.
+    ///
+    /// The only error is want of memory. What was made true until then stays, and is all forced.
+    pub fn propagate(&mut self) -> Result<Option<u64>, AllocError>
+        ensures clauses { (self.new.literals ≡ self.old.literals) × (self.new.ends ≡ self.old.ends)
+            × (self.new.attached ≡ self.old.attached)
             × (self.new.variables ≡ self.old.variables) }
         ensures longer { (ts : List ℤ) × (self.new.assignment.trail ≡ self.old.assignment.trail
             ++ ts) }
         ensures forced { ForcesMore self.new.literals self.new.ends (length self.old.limits)
             self.old.assignment self.new.assignment }
         ensures limits { self.new.limits ≡ self.old.limits }
-        ensures none { IfNone result ((i : ℕ) → i < length self.new.ends →
+        ensures none { IfOk result (λ o. IfNone o ((i : ℕ) → IsAttached self.new i →
             IsTrueIn self.new.literals self.new.ends self.new.assignment.trail i
-            ⊎ IsOpen self.new.literals self.new.ends self.new.assignment.trail i) }
-        ensures false_clause { IfSome result (λ n. (0 < n) × (n ≤ length self.new.ends)
-            × IsFalseIn self.new.literals self.new.ends self.new.assignment.trail (n - 1)) }
+            ⊎ IsOpen self.new.literals self.new.ends self.new.assignment.trail i)) }
+        ensures false_clause { IfOk result (λ o. IfSome o (λ n. (0 < n)
+            × (n ≤ length self.new.ends) × IsAttached self.new (n - 1)
+            × IsFalseIn self.new.literals self.new.ends self.new.assignment.trail (n - 1))) }
     {
         let level = self.top as u64;
         let (short_done, found) = advance_short(
@@ -282,7 +377,7 @@ impl Trail {
         );
         self.short_done = short_done;
         if found.is_some() {
-            return found;
+            return Ok(found);
         }
         let (done, found) = advance(
             &self.arena,
@@ -314,6 +409,7 @@ impl Trail {
         ensures fits { length result.now ≤ self.now.variables }
         ensures reasoned { AreReasoned self.now }
         ensures arena { IsArena self.now.literals self.now.ends self.now.variables }
+        ensures flags { length self.now.attached ≡ length self.now.ends }
     {
         self.assigned.trail()
     }
@@ -372,6 +468,13 @@ impl Trail {
             slice_get self.now.assignment.trail result ≡ Some (neg_ℤ literal) }
     {
         self.assigned.last_place(literal)
+    }
+
+    /// How many clauses there are, attached or not.
+    pub fn clause_count(&self) -> u64
+        ensures { result ≡ length self.now.ends }
+    {
+        self.arena.ends.len() as u64
     }
 
     /// The literals of a clause.

@@ -1,34 +1,35 @@
 //! Two watched literals: a literal that becomes false has those clauses visited that watch it.
 //!
 //! A clause forces nothing and isn't false as long as two different literals of it aren't false.
-//! So each clause with two different literals watches two of them, and isn't looked at before one
-//! of the two becomes false (Chaff: Moskewicz, Madigan, Zhao, Zhang and Malik 2001). To take
-//! literals back costs nothing here: `IsKept` says that a watch that moves keeps what holds of the
-//! watches at every earlier length of the trail, so they are right when the search goes back.
+//! So each attached clause with two different literals watches two of them, and isn't looked at
+//! before one of the two becomes false (Chaff: Moskewicz, Madigan, Zhao, Zhang and Malik 2001). To
+//! take literals back costs nothing here: `IsKept` says that a watch that moves keeps what holds of
+//! the watches at every earlier length of the trail, so they are right when the search goes back.
 //!
 //! Nodes. Clause k, counted from 0, has the nodes 2k and 2k + 1, one for each watch. `at` says at
 //! which place of the arena the literal of a node stands, and `copies` repeats the literal itself.
 //! The copy of the other node serves as the blocker literal: where it is true, so is the clause,
-//! which then isn't read. Clauses that have no two different literals have nodes too, which are
-//! never visited.
+//! which then isn't read. Clauses that watch nothing have nodes too, both at one place, and on no
+//! list: those without two different literals, and those that are detached.
 //!
 //! Lists. Each node stands in the list of the literal that it watches, which is walked when that
 //! literal becomes false. (MiniSat files it under the negation, which becomes true then: Eén and
-//! Sörensson 2003.) One list more, behind those of the literals, has the nodes of the clauses that
-//! watch nothing.
+//! Sörensson 2003.)
 //!
-//! A walk. When a false literal's turn comes, its list is detached: it is `loose` then, and the
-//! list itself is empty. Each loose node in turn is settled: it goes to the list of the literal
-//! that it watches now, which may be the old one. A false clause ends the walk; its node and those
-//! behind it are put back.
+//! A walk. When a false literal's turn comes, the nodes of its list are `loose`. Each loose node in
+//! turn is settled: it stays on the list, or goes to that of the literal that it watches now. A
+//! false clause ends the walk; its node and those behind it are put back.
 //!
-//! Why linked lists in flat arrays. A node is a number, and one array has the next node of each.
-//! So to settle a node changes three numbers, whatever the lengths of the lists, and takes no
-//! memory. A list that grows could be refused it. Hence unit propagation never fails.
+//! Why lists side by side in memory. Most visits see only that the blocker is true. So a walk reads
+//! a list from its first node to its last one, and a node that stays costs no more than a number
+//! written a few places before. What that takes is memory where a node goes to a list that is full.
+//! Where there is none, the node stays where it was, the rest of the list is put back, and
+//! propagation ends with that error: every watch is right then, and the place of the trail counts
+//! as not propagated.
 
-ghost use Rattle.std.specs.Prelude.{◌≡◌, ◌≢◌, ℕ, ℤ, neg_ℤ, ◌+◌, ◌-◌, ◌*◌, ◌/◌, ◌%◌, ◌<◌, ◌≤◌, ◌⊎◌, ◌++◌, ◌∷◌, [], List, length, slice_index, slice_set, IsTrue, IsFalse, IfNone, IfSome, MatchOption, drop, ◌^◌};
+ghost use Rattle.std.specs.Prelude.{◌≡◌, ◌≢◌, ℕ, ℤ, neg_ℤ, ◌+◌, ◌-◌, ◌*◌, ◌/◌, ◌%◌, ◌<◌, ◌≤◌, ◌⊎◌, ◌++◌, ◌∷◌, [], List, length, slice_index, slice_set, IsTrue, IsFalse, IfNone, IfSome, IfOk, OnErr, MatchOption, drop, ◌^◌};
 ghost use Rattle.std.specs.List.{Contains};
-ghost use Rattle.sat_lists.specs.Linked.{list_at};
+ghost use Rattle.sat_lists.specs.Nodes.{AreAtRest};
 ghost use Rattle.sat_trail.specs.Assignment.{value_at};
 ghost use Rattle.sat_trail.specs.Watched.{IsPair, IsCopied, IsWoven, IsKept, IsVisited, IsTaken, IsTrueIn, IsFalseIn, InClause, watched, sibling, start_of};
 ghost use Rattle.sat_trail.specs.Found.{IsFound};
@@ -38,6 +39,7 @@ use crate::arena::Arena;
 use crate::assigned::Assigned;
 use crate::list_of;
 use sat_lists::NodeLists;
+use std::alloc::AllocError;
 
 /// The places of the two watched literals of each clause, and the lists of the nodes that watch each literal.
 #[derive(Drop)]
@@ -152,27 +154,16 @@ impl Watches {
         Found::Forced(other)
     }
 
-    /// Moves the first loose node to the list of the literal that it watches.
+    /// Takes the first loose node: it is settled, unless its clause is false. The only error is want of memory, and all is
+    /// then as before.
     #[inline]
-    fn settle(&mut self, arena: &Arena, node: usize)
-        requires woven { IsWoven arena.now.literals.items arena.now.ends.items self.old.at.items
-            self.old.lists arena.now.variables }
-        requires copied { IsCopied arena.now.literals.items arena.now.ends.items self.old.at.items
-            self.old.copies.items }
-        requires first { self.old.lists.loose ≡ node ∷ drop 1 self.old.lists.loose }
-        ensures woven { IsWoven arena.now.literals.items arena.now.ends.items self.new.at.items
-            self.new.lists arena.now.variables }
-        ensures at { self.new.at.items ≡ self.old.at.items }
-        ensures copies { self.new.copies.items ≡ self.old.copies.items }
-        ensures loose { self.new.lists.loose ≡ drop 1 self.old.lists.loose }
-    {
-        let list = list_of(self.copies[node]);
-        self.lists.settle(list);
-    }
-
-    /// Takes the first loose node: it is settled, unless its clause is false.
-    #[inline]
-    fn take(&mut self, arena: &Arena, assigned: &mut Assigned, node: usize, level: u64) -> bool
+    fn take(
+        &mut self,
+        arena: &Arena,
+        assigned: &mut Assigned,
+        node: usize,
+        level: u64,
+    ) -> Result<bool, AllocError>
         requires variables { length assigned.old.values ≡ arena.now.variables }
         requires woven { IsWoven arena.now.literals.items arena.now.ends.items self.old.at.items
             self.old.lists arena.now.variables }
@@ -182,38 +173,48 @@ impl Watches {
         ensures variables { length assigned.new.values ≡ length assigned.old.values }
         ensures copied { IsCopied arena.now.literals.items arena.now.ends.items self.new.at.items
             self.new.copies.items }
-        ensures taken { IsTrue result → IsTaken arena.now.literals.items arena.now.ends.items
-            arena.now.variables self.old.at.items assigned.old.trail self.old.lists.loose
-            self.new.at.items assigned.new.trail self.new.lists }
-        ensures false_clause { IsFalse result → (node < length self.old.at.items)
+        ensures taken { IfOk result (λ b. IsTrue b → IsTaken arena.now.literals.items
+            arena.now.ends.items arena.now.variables self.old.at.items assigned.old.trail
+            self.old.lists.loose self.new.at.items assigned.new.trail self.new.lists) }
+        ensures false_clause { IfOk result (λ b. IsFalse b → (node < length self.old.at.items)
+            × IsPair arena.now.literals.items arena.now.ends.items self.old.at.items (node / 2)
             × IsFalseIn arena.now.literals.items arena.now.ends.items assigned.old.trail
-            (node / 2) }
-        ensures unchanged { IsFalse result → (self.new ≡ self.old) × (assigned.new ≡ assigned.old) }
+            (node / 2)) }
+        ensures unchanged { IfOk result (λ b. IsFalse b → (self.new ≡ self.old)
+            × (assigned.new ≡ assigned.old)) }
+        ensures err { OnErr result ((self.new ≡ self.old) × (assigned.new ≡ assigned.old)) }
         ensures forced { ForcesMore arena.now.literals.items arena.now.ends.items level assigned.old
             assigned.new }
     {
         match self.inspect(arena, assigned, node) {
             Found::True => {
-                self.settle(arena, node);
-                true
+                self.lists.keep();
+                Ok(true)
             }
             Found::Open(place) => {
+                let literal = arena.literals[place];
+                self.lists.settle(list_of(literal))?;
                 self.at[node] = place;
-                self.copies[node] = arena.literals[place];
-                self.settle(arena, node);
-                true
+                self.copies[node] = literal;
+                Ok(true)
             }
             Found::Forced(literal) => {
                 assigned.put(literal, level, (node / 2) as u64 + 1);
-                self.settle(arena, node);
-                true
+                self.lists.keep();
+                Ok(true)
             }
-            Found::False => false,
+            Found::False => Ok(false),
         }
     }
 
-    /// Takes the loose nodes in turn, up to one whose clause is false, and gives that clause's number.
-    pub fn visit(&mut self, arena: &Arena, assigned: &mut Assigned, level: u64) -> Option<u64>
+    /// Takes the loose nodes in turn, up to one whose clause is false, and gives that clause's number. The only error is
+    /// want of memory.
+    pub fn visit(
+        &mut self,
+        arena: &Arena,
+        assigned: &mut Assigned,
+        level: u64,
+    ) -> Result<Option<u64>, AllocError>
         requires variables { length assigned.old.values ≡ arena.now.variables }
         requires woven { IsWoven arena.now.literals.items arena.now.ends.items self.old.at.items
             self.old.lists arena.now.variables }
@@ -228,37 +229,40 @@ impl Watches {
             assigned.old.trail self.new.at.items assigned.new.trail }
         ensures forced { ForcesMore arena.now.literals.items arena.now.ends.items level assigned.old
             assigned.new }
-        ensures none_loose { IfNone result (self.new.lists.loose ≡ []) }
-        ensures visited { IfNone result ((w : ℤ) → Contains assigned.old.trail (neg_ℤ w) →
+        ensures none_loose { IfOk result (λ o. IfNone o (self.new.lists.loose ≡ [])) }
+        ensures visited { IfOk result (λ o. IfNone o ((w : ℤ) →
+            Contains assigned.old.trail (neg_ℤ w) →
             IsVisited arena.now.literals.items arena.now.ends.items self.old.at.items
             self.old.lists.loose assigned.old.trail w →
             IsVisited arena.now.literals.items arena.now.ends.items self.new.at.items
-            self.new.lists.loose assigned.new.trail w) }
-        ensures false_clause { IfSome result (λ n. (0 < n) × (n ≤ length arena.now.ends.items)
-            × IsFalseIn arena.now.literals.items arena.now.ends.items assigned.new.trail (n - 1)) }
+            self.new.lists.loose assigned.new.trail w)) }
+        ensures false_clause { IfOk result (λ o. IfSome o (λ n. (0 < n)
+            × (n ≤ length arena.now.ends.items)
+            × IsPair arena.now.literals.items arena.now.ends.items self.new.at.items (n - 1)
+            × IsFalseIn arena.now.literals.items arena.now.ends.items assigned.new.trail (n - 1))) }
     {
         'nodes: while let Some(node) = self.lists.first() {
-            if !self.take(arena, assigned, node, level) {
-                return Some((node / 2) as u64 + 1);
+            let is_settled = self.take(arena, assigned, node, level)?;
+            if !is_settled {
+                return Ok(Some((node / 2) as u64 + 1));
             }
         }
-        None
+        Ok(None)
     }
 
-    /// Puts what is left of the loose nodes back.
+    /// Puts what is left of the loose nodes back, which ends the walk.
     pub fn restore(&mut self, arena: &Arena)
         requires woven { IsWoven arena.now.literals.items arena.now.ends.items self.old.at.items
             self.old.lists arena.now.variables }
-        requires copied { IsCopied arena.now.literals.items arena.now.ends.items self.old.at.items
-            self.old.copies.items }
         ensures woven { IsWoven arena.now.literals.items arena.now.ends.items self.new.at.items
             self.new.lists arena.now.variables }
         ensures at { self.new.at.items ≡ self.old.at.items }
         ensures copies { self.new.copies.items ≡ self.old.copies.items }
-        ensures none_loose { self.new.lists.loose ≡ [] }
+        ensures at_rest { AreAtRest self.new.lists }
     {
-        'nodes: while let Some(node) = self.lists.first() {
-            self.settle(arena, node);
+        'nodes: while let Some(_node) = self.lists.first() {
+            self.lists.keep();
         }
+        self.lists.finish();
     }
 }

@@ -28,12 +28,12 @@ fn activity_picks_the_most_bumped_with_its_sign(rt: HostRuntime) -> Result<(), F
 fn weights_stay_in_range(rt: HostRuntime) -> Result<(), Fail> {
     let mut chooser = Activity::new(rt.alloc());
     chooser.start(2)?;
-    // All these bumps together count about 19 of the latest, however often the weights are scaled down.
+    // All these bumps together count about 12 of the latest, however often the weights are scaled down.
     for _ in 0..2000 {
         chooser.bump(1);
         chooser.decay();
     }
-    for _ in 0..18 {
+    for _ in 0..11 {
         chooser.bump(2);
     }
     assert_eq!(rt; chooser.pick(&[0, 0]), 1);

@@ -10,7 +10,7 @@ back-init c = record {
   within = omega (arith, ap length c.trail-literals.ensures.trail);
   back =
       back_start c.args.trail.now (c.args.conflict - 1) (length c.trail-literals.result.now) c.args.noted.now.literals c.note_clause.new.noted.literals c.args.places.now.items c.requires.trail (omega (arith, c.requires.conflict.0, c.requires.conflict.1))
-      c.requires.conflict.2 c.requires.none.0 c.requires.none.1 (ap length c.trail-literals.ensures.trail) c.in_ok-note_clause.ensures.taken;
+      c.requires.attached c.requires.conflict.2 c.requires.none.0 c.requires.none.1 (ap length c.trail-literals.ensures.trail) c.in_ok-note_clause.ensures.taken;
 }
 
 pub take_place-requires-clause-trail : goal.take_place-requires-clause-trail

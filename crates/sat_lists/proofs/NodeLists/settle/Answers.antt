@@ -1,10 +1,5 @@
-use Rattle.sat_lists.proofs.Chains.{settle_step}
+use Rattle.sat_lists.proofs.Walking.{settle_seen}
 use Rattle.sat_lists.proofs.NodeLists.settle.Goals as goal
 
-pub invariant_of-self : goal.invariant_of-self
-invariant_of-self c =
-    (settle_step _ _ _ _ _ _ _ c.self.invariant c.self.view_is c.requires.in_range c.requires.some_loose c.index.ensures c.index-2.ensures).0
-
-pub returns : goal.returns
-returns c =
-    (settle_step _ _ _ _ _ _ _ c.self.invariant c.self.view_is c.requires.in_range c.requires.some_loose c.index.ensures c.index-2.ensures).1
+pub returns-clause-ok : goal.returns-clause-ok
+returns-clause-ok c = (settle_seen _ _ _ _ _ _ _ c.args.list c.args.self.now (c.self.invariant, c.self.view_is) c.requires.some_loose c.read_at-node.ensures c.if-list-self.false c.in_ok-push_at.ensures.ok).1

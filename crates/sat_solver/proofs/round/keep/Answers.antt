@@ -4,7 +4,9 @@ use Rattle.sat_dimacs.specs.Literal.{IsWithin}
 use Rattle.sat_trail.specs.Literal.{IsLiteral}
 use Rattle.sat_lrat.specs.declared.line.Line.TheVariants.{Lemma}
 use Rattle.sat_solver.proofs.Sharing.{within_literals, back_within, lemma_passes, taken_passes}
+use Rattle.sat_solver.proofs.Covering.{indexed_added}
 use Rattle.sat_solver.proofs.Searching.{learnt_as, taken_more, kept_whole, kept, kept_fewer}
+use Rattle.sat_solver.specs.Covered.{HasNoPart}
 use Rattle.sat_solver.proofs.round.keep.Goals as goal
 
 pub undo_to-requires : goal.undo_to-requires
@@ -21,16 +23,16 @@ returns-clause-more c =
     taken_more (Lemma c.in_ok-id.id c.in_ok-clause.clause c.in_ok-hints.hints) c.args.log.now.lines c.take.new.self.lines c.args.log.now.checker c.take.new.self.checker c.in_ok-taken.taken (returns-clause-passes c) c.in_ok-taken.ensures.taken
 
 pub returns-clause-fewer : goal.returns-clause-fewer
-returns-clause-fewer c = λ formula h is.
+returns-clause-fewer c = λ formula count d h none is.
     let s = c.args.trail.now in
     let clause = c.in_ok-clause.clause in
     let same_clause = c.in_ok-clause.ensures ∙ c.deref.ensures.value in
     let learnt = learnt_as s c.args.analysis.now.literals.items clause c.args.analysis.now.hints.items c.in_ok-hints.hints c.args.analysis.now.back_to same_clause (c.in_ok-hints.ensures ∙ c.deref-2.ensures.value) c.requires.learnt in
-    kept_fewer s formula c.args.log.now.lines c.take.new.self.lines c.args.log.now.checker c.take.new.self.checker c.in_ok-id.id clause c.in_ok-hints.hints c.args.analysis.now.back_to c.in_ok-taken.taken h learnt
+    kept_fewer s formula c.args.log.now.lines c.take.new.self.lines c.args.log.now.checker c.take.new.self.checker count d c.in_ok-id.id clause c.in_ok-hints.hints c.args.analysis.now.back_to c.in_ok-taken.taken h (subst (HasNoPart s d) (sym same_clause) none) learnt
     (subst (All (IsLiteral s.variables)) (sym same_clause) c.requires.literals) c.in_ok-taken.ensures.taken (c.in_ok-taken.ensures.leaves formula h.lemmas) is
 
 pub returns-clause-taken : goal.returns-clause-taken
-returns-clause-taken c = λ formula h.
+returns-clause-taken c = λ formula count d h none.
     let s = c.args.trail.now in
     let u = c.undo_to.new.self in
     let t = c.add_clause.new.self in
@@ -43,12 +45,17 @@ returns-clause-taken c = λ formula h.
     let added = c.in_ok-id.ensures.added in
     let learnt = learnt_as s c.args.analysis.now.literals.items clause c.args.analysis.now.hints.items hints back (c.in_ok-clause.ensures ∙ c.deref.ensures.value) (c.in_ok-hints.ensures ∙ c.deref-2.ensures.value) c.requires.learnt in
     let whole =
-    kept_whole s u t clause hints back c.trail-literals.ensures.reasoned c.trail-literals.ensures.arena literals ends c.undo_to.ensures.clauses.2 c.undo_to.ensures.trail c.undo_to.ensures.limits added.0 c.in_ok-id.ensures.assignment.1 c.in_ok-id.ensures.assignment.2 learnt h.whole in
-    kept s u t formula c.args.log.now.lines c.take.new.self.lines c.args.log.now.checker c.take.new.self.checker id clause hints back c.in_ok-taken.taken h learnt (subst (All (IsLiteral s.variables)) (sym (c.in_ok-clause.ensures ∙ c.deref.ensures.value)) c.requires.literals) (c.in_ok-id.ensures.assignment.0 ∙ c.undo_to.ensures.clauses.2) literals ends added.0 added.1 whole c.in_ok-taken.ensures.taken (c.in_ok-taken.ensures.leaves formula h.lemmas)
+    kept_whole s u t clause hints back c.trail-literals.ensures.reasoned c.trail-literals.ensures.arena c.trail-literals.ensures.flags literals ends c.undo_to.ensures.clauses.3 c.undo_to.ensures.clauses.2 c.undo_to.ensures.trail c.undo_to.ensures.limits added.0 c.in_ok-id.ensures.assignment.1 c.in_ok-id.ensures.assignment.2 learnt h.whole in
+    kept s u t formula c.args.log.now.lines c.take.new.self.lines c.args.log.now.checker c.take.new.self.checker count d id clause hints back c.in_ok-taken.taken h (subst (HasNoPart s d) (sym (c.in_ok-clause.ensures ∙ c.deref.ensures.value)) none) learnt
+    (subst (All (IsLiteral s.variables)) (sym (c.in_ok-clause.ensures ∙ c.deref.ensures.value)) c.requires.literals) (c.in_ok-id.ensures.assignment.0 ∙ c.undo_to.ensures.clauses.3) literals ends c.undo_to.ensures.clauses.2 c.trail-literals.ensures.flags added.0 added.1 whole c.in_ok-taken.ensures.taken (c.in_ok-taken.ensures.leaves formula h.lemmas)
 
 pub add_clause-requires : goal.add_clause-requires
 add_clause-requires c =
     let clause = c.in_ok-clause.clause in
     let same_clause : clause ≡ c.args.analysis.now.literals.items = c.in_ok-clause.ensures ∙ c.deref.ensures.value in
-    subst (λ (n : ℕ). IsWithin n clause) (sym c.undo_to.ensures.clauses.2)
+    subst (λ (n : ℕ). IsWithin n clause) (sym c.undo_to.ensures.clauses.3)
     (subst (λ (xs : List ℤ). IsWithin c.args.trail.now.variables xs) (sym same_clause) (within_literals c.args.trail.now.variables c.args.analysis.now.literals.items c.requires.literals))
+
+pub returns-clause-indexed : goal.returns-clause-indexed
+returns-clause-indexed c = λ d h.
+    indexed_added c.args.trail.now c.undo_to.new.self c.add_clause.new.self c.in_ok-clause.clause d c.undo_to.ensures.clauses.0 c.undo_to.ensures.clauses.1 (c.in_ok-id.ensures.assignment.0 ∙ c.undo_to.ensures.clauses.3) c.in_ok-id.ensures.added.0 h

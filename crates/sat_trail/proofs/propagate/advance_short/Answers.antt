@@ -1,4 +1,5 @@
-use Rattle.std.proofs.Common.{◌≡◌, ◌≢◌, ◌∙◌, ⊎_elim, refl, get_or, arith}
+use Rattle.std.proofs.Common.{◌≡◌, ◌≢◌, ◌<◌, ◌+◌, ◌-◌, ◌∙◌, ⊎_elim, refl, length, get_or, arith}
+use Rattle.std.proofs.lemmas.List.Elements.{Contains-get_or}
 use Rattle.std.proofs.lemmas.Bool.{cases_eq}
 use Rattle.sat_trail.proofs.Weaving.{IsTrueIn-longer, longer-trans}
 use Rattle.sat_trail.proofs.Reasoning.{forces_trans}
@@ -25,3 +26,12 @@ clauses-preserved c =
 
 pub returns-then-not-satisfy-clause-forced : goal.returns-then-not-satisfy-clause-forced
 returns-then-not-satisfy-clause-forced c = forces_trans _ _ _ _ _ _ c.clauses.invariant.forced c.satisfy.ensures.forced
+
+pub returns-then-not-satisfy-clause-false_clause : goal.returns-then-not-satisfy-clause-false_clause
+returns-then-not-satisfy-clause-false_clause c =
+    let short = c.args.short.now in
+    let done = c.clauses.done in
+    let here : get_or short done 0 + 1 - 1 ≡ get_or short done 0 = omega arith in
+    let inside : done < length short = c.clauses-test.true in
+    let its = c.requires.alike done inside in
+    (omega arith, omega (arith, its.0), rw here (Contains-get_or short done 0 inside), rw here (c.satisfy.ensures.false_clause c.if-not-satisfy.true))

@@ -1,4 +1,4 @@
-use Rattle.std.proofs.Common.{ℕ, ℤ, List, ◌≡◌, ◌≢◌, ◌+◌, ◌<◌, ◌++◌, ◌∷◌, [], ◌∙◌, ap, sym, subst, refl, length, neg_ℤ, arith, rules, w64, SFits}
+use Rattle.std.proofs.Common.{ℕ, ℤ, List, ◌≡◌, ◌≢◌, ◌+◌, ◌<◌, ◌++◌, ◌∷◌, [], ◌∙◌, Bool, true, ap, sym, subst, refl, length, neg_ℤ, arith, rules, w64, SFits}
 use Rattle.std.specs.List.{All}
 use Rattle.std.proofs.lemmas.Int.{to_z-of_z}
 use Rattle.sat_trail.specs.Literal.{IsLiteral, list_of}
@@ -27,16 +27,17 @@ invariant_of-self-2 c =
     let f₂ : c.list_of-2.result ≡ list_of l₂ = simp to_z-of_z at c.list_of-2.ensures in
     let none₁ : (j : ℕ) → j < length m.trail → j < c.bound.result → value_at m.trail j ≢ neg_ℤ l₁ = simp to_z-of_z at c.bound.ensures in
     let none₂ : (j : ℕ) → j < length m.trail → j < c.bound-2.result → value_at m.trail j ≢ neg_ℤ l₂ = simp to_z-of_z at c.bound-2.ensures in
-    let limit = c.min-limit.ensures in
+    let node_is : c.len-node.result ≡ length m.at = omega (arith, c.len-node.ensures, c.reserve-2.new.self.ok.0, ap length c.reserve-2.ensures.items) in
     record {
       variables = i.variables ∙ sym (c.push.ensures.variables ∙ c.reserve.ensures.variables);
-      sound = sound_long m ls c.args.one c.args.two _ _ _ _ _ _ _ c.min-limit.result l₁ l₂ _ _ _ _ c.self.inside.arena.in_order i.sound all c.requires.places.0 c.requires.places.1 c.requires.different
+      sound = sound_long m ls c.args.one c.args.two _ _ _ _ _ _ _ _ c.min-limit.result l₁ l₂ _ _ _ _ _ c.self.inside.arena.in_order i.sound all c.requires.places.0 c.requires.places.1 c.requires.different
           refl refl f₁ f₂ (ap (λ (n : ℕ). n + c.args.one) first) (ap (λ (n : ℕ). n + c.args.two) first)
           (c.push.ensures.literals ∙ ap (λ (xs : List ℤ). xs ++ ls) c.reserve.ensures.literals)
           (c.push.ensures.ends ∙ ap (λ (xs : List ℕ). xs ++ length c.push.new.self.literals.items ∷ []) c.reserve.ensures.ends)
           (c.push_in_room-2.ensures.items ∙ ap (λ (xs : List ℕ). xs ++ (c.len-first.result + c.args.two) ∷ []) (c.push_in_room.ensures.items ∙ ap (λ (xs : List ℕ). xs ++ (c.len-first.result + c.args.one) ∷ []) c.reserve-2.ensures.items))
-          c.in_ok-add_pair.ensures.ok
+          node_is c.in_ok-add_pair.ensures.ok
           (c.push.ensures.variables ∙ c.reserve.ensures.variables)
+          (c.push_in_room-5.ensures.items ∙ ap (λ (xs : List Bool). xs ++ true ∷ []) c.reserve-4.ensures.items)
           (omega (arith, c.min-self-inside.ensures)) (omega (arith, c.min-self-inside.ensures))
           c.lower.ensures.len c.lower.ensures.lowered
           (λ j k l. none₁ j k (omega (arith, c.min-limit.ensures))) (λ j k l. none₂ j k (omega (arith, c.min-limit.ensures)));
@@ -64,8 +65,9 @@ pub returns-clause-added : goal.returns-clause-added
 returns-clause-added c =
     let ls = c.args.literals.now in
     let old = search_of c.self.inside in
-    let new : Search = record old { literals = c.push.new.self.literals.items; ends = c.push.new.self.ends.items; variables = c.push.new.self.variables } in
+    let new : Search = record old { literals = c.push.new.self.literals.items; ends = c.push.new.self.ends.items; attached = c.push_in_room-5.new.items.items; variables = c.push.new.self.variables } in
     let added = clause_added old new ls c.self.inside.arena.in_order
     (c.push.ensures.literals ∙ ap (λ (xs : List ℤ). xs ++ ls) c.reserve.ensures.literals)
-    (c.push.ensures.ends ∙ ap (λ (xs : List ℕ). xs ++ length c.push.new.self.literals.items ∷ []) c.reserve.ensures.ends) in
+    (c.push.ensures.ends ∙ ap (λ (xs : List ℕ). xs ++ length c.push.new.self.literals.items ∷ []) c.reserve.ensures.ends)
+    (c.push_in_room-5.ensures.items ∙ ap (λ (xs : List Bool). xs ++ true ∷ []) c.reserve-4.ensures.items) in
     (subst (λ (s : Search). Adds s new ls) c.self.view_is added.0, omega (arith, c.len.ensures, c.push.new.self.ends.ok.0))

@@ -1,4 +1,4 @@
-use Rattle.std.proofs.Common.{ℕ, ℤ, List, ◌≡◌, ◌*◌, ◌++◌, ◌∷◌, [], ◌∙◌, ap, sym, subst, refl, pos, length, arith}
+use Rattle.std.proofs.Common.{ℕ, ℤ, List, Bool, true, ◌≡◌, ◌++◌, ◌∷◌, [], ◌∙◌, ap, sym, subst, refl, pos, length, arith}
 use Rattle.sat_trail.specs.State.{Search, Adds}
 use Rattle.sat_trail.specs.Search.{net, search_of}
 use Rattle.sat_trail.proofs.Adding.{sound_alike, no_pair_alike, clause_added}
@@ -15,15 +15,14 @@ invariant_of-self-2 c =
     let last : c.len.result ≡ length m.ends = omega (arith, c.len.ensures, c.reserve.new.self.ends.ok.0, ap length c.reserve.ensures.ends) in
     record {
       variables = i.variables ∙ sym (c.push.ensures.variables ∙ c.reserve.ensures.variables);
-      sound = sound_alike m ls _ _ _ _ _ _ _ _ _ _ c.self.inside.arena.in_order i.sound c.requires.alike
+      sound = sound_alike m ls _ _ _ _ _ _ _ _ _ c.self.inside.arena.in_order i.sound c.requires.alike
           (c.push.ensures.literals ∙ ap (λ (xs : List ℤ). xs ++ ls) c.reserve.ensures.literals)
           (c.push.ensures.ends ∙ ap (λ (xs : List ℕ). xs ++ length c.push.new.self.literals.items ∷ []) c.reserve.ensures.ends)
           (c.push_in_room-2.ensures.items ∙ ap (λ (xs : List ℕ). xs ++ 0 ∷ []) (c.push_in_room.ensures.items ∙ ap (λ (xs : List ℕ). xs ++ 0 ∷ []) c.reserve-2.ensures.items))
           last
           (c.push_in_room-5.ensures.items ∙ ap (λ (xs : List ℕ). xs ++ c.len.result ∷ []) c.reserve-4.ensures.items)
-          (ap (λ (n : ℕ). 2 * n) c.reserve.ensures.variables)
-          c.in_ok-add_pair.ensures.ok
-          (c.push.ensures.variables ∙ c.reserve.ensures.variables);
+          (c.push.ensures.variables ∙ c.reserve.ensures.variables)
+          (c.push_in_room-6.ensures.items ∙ ap (λ (xs : List Bool). xs ++ true ∷ []) c.reserve-5.ensures.items) refl;
       reasoned = reasoned_add (search_of c.self.inside) _ ls _ c.self.inside.arena.in_order
           (c.push.ensures.literals ∙ ap (λ (xs : List ℤ). xs ++ ls) c.reserve.ensures.literals)
           (c.push.ensures.ends ∙ ap (λ (xs : List ℕ). xs ++ length c.push.new.self.literals.items ∷ []) c.reserve.ensures.ends) refl refl i.reasoned;
@@ -44,8 +43,9 @@ pub returns-clause-added : goal.returns-clause-added
 returns-clause-added c =
     let ls = c.args.literals.now in
     let old = search_of c.self.inside in
-    let new : Search = record old { literals = c.push.new.self.literals.items; ends = c.push.new.self.ends.items; variables = c.push.new.self.variables } in
+    let new : Search = record old { literals = c.push.new.self.literals.items; ends = c.push.new.self.ends.items; attached = c.push_in_room-6.new.items.items; variables = c.push.new.self.variables } in
     let added = clause_added old new ls c.self.inside.arena.in_order
     (c.push.ensures.literals ∙ ap (λ (xs : List ℤ). xs ++ ls) c.reserve.ensures.literals)
-    (c.push.ensures.ends ∙ ap (λ (xs : List ℕ). xs ++ length c.push.new.self.literals.items ∷ []) c.reserve.ensures.ends) in
+    (c.push.ensures.ends ∙ ap (λ (xs : List ℕ). xs ++ length c.push.new.self.literals.items ∷ []) c.reserve.ensures.ends)
+    (c.push_in_room-6.ensures.items ∙ ap (λ (xs : List Bool). xs ++ true ∷ []) c.reserve-5.ensures.items) in
     (subst (λ (s : Search). Adds s new ls) c.self.view_is added.0, omega (arith, c.len-2.ensures, c.push.new.self.ends.ok.0))

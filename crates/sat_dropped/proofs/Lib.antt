@@ -1,0 +1,4 @@
+pub mod Signing
+pub mod Placing
+pub mod Filing
+pub mod Taking
