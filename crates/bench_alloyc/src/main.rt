@@ -10,20 +10,20 @@
 //! | `circuits` | `clauses N`, `join N` or `closure N` | builds circuits and matrices of this size |
 //! | `stages` | `sizes MODEL COMMAND` or `times MODEL COMMAND` | measures the stages of one analysis |
 //! | `dimacs` | `FILE` | searches over the clauses of a DIMACS text |
+//! | `random` | `COUNT` | compares searches over small random formulas with all assignments |
 //!
-//! What a mode prints, and its statuses, stand at the head of its module. With no mode, or another one, a line of usage is
-//! printed, with status 2. The program ends with the greatest status of its modes.
+//! What a mode prints, and its statuses, stand at the head of its module, here and in `bench_gates`, `bench_parser`,
+//! `bench_search` and `bench_analysis`. The mode `stages` reads what a model opens from files, those of util/ too. With no
+//! mode, or another one, a line of usage is printed, with status 2. The program ends with the greatest status of its modes.
 #![tactic(auto)]
 
-mod dimacs;
-mod encoding;
-mod parser;
-mod same;
-mod stages;
 mod tables;
 
 use anyhow::Result;
+use base_host::FolderLibrary;
+use bench_analysis::{encoding, stages};
 use bench_gates::{circuits, operations};
+use bench_search::{dimacs, random};
 use std::env;
 use std::process::ExitCode;
 
@@ -33,10 +33,11 @@ fn run_mode(rt: &HostRuntime, mode: &str, words: &[String]) -> Result<u8> {
         "tables" => tables::run(rt, words),
         "encoding" => encoding::run(rt, words),
         "operations" => operations::run(rt),
-        "parser" => parser::run(rt, words),
+        "parser" => bench_parser::run(rt, words),
         "circuits" => circuits::run(rt, words),
-        "stages" => stages::run(rt, words),
+        "stages" => stages::run(rt, FolderLibrary::new(rt.clone()?), words),
         "dimacs" => dimacs::run(rt, words),
+        "random" => random::run(rt, words),
         _ => print_usage(rt),
     }
 }
@@ -44,7 +45,7 @@ fn run_mode(rt: &HostRuntime, mode: &str, words: &[String]) -> Result<u8> {
 /// Prints the usage, and gives its status.
 fn print_usage(rt: &impl Print) -> Result<u8> {
     println!(rt;
-        "usage: bench_alloyc tables|encoding|operations|parser|circuits|stages|dimacs WORD.. [then ..]"
+        "usage: bench_alloyc tables|encoding|operations|parser|circuits|stages|dimacs|random WORD.. [then ..]"
     )?;
     Ok(2)
 }

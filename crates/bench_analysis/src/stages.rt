@@ -2,13 +2,12 @@
 //!
 //! The first prints the numbers of gates, variables, clauses and lemmas, and the answer. The second prints the processor
 //! time of each stage in milliseconds: of loading, of names, scopes, forms and bounds, of the circuit, of the clauses, and of
-//! the search. What the model opens is read from files, those of util/ too. Other words are answered with status 2, a model that
-//! is refused with 3.
+//! the search. Other words are answered with status 2, a model that is refused with 3.
 
 use answer_analysis::prepare_loaded;
 use answer_search::{circuit_of, table_store};
 use anyhow::Result;
-use base_host::FolderLibrary;
+use base_types::Library;
 use bound_uppers::{Bounds, layout};
 use core_meaning::Target;
 use gate_tseitin::{are_numbered, write_clauses};
@@ -110,10 +109,16 @@ fn print_sizes(rt: &impl Print, measured: &Measured) -> Result<()> {
 }
 
 /// Measures the analysis of this command of a model.
-fn measure(rt: &HostRuntime, kind: &str, root: &str, command: u32) -> Result<u8> {
+fn measure<L: Library>(
+    rt: &(impl CpuClock + Print + AllocGlobal),
+    library: L,
+    kind: &str,
+    root: &str,
+    command: u32,
+) -> Result<u8> {
     let begun = millis(rt)?;
     let mut libraries = Vec::new(rt.alloc());
-    libraries.push(FolderLibrary::new(rt.clone()?))?;
+    libraries.push(library)?;
     let Ok(loaded) = load(rt.alloc(), &mut libraries, root) else {
         return Ok(3);
     };
@@ -132,8 +137,13 @@ fn measure(rt: &HostRuntime, kind: &str, root: &str, command: u32) -> Result<u8>
     Ok(0)
 }
 
-/// Measures what the words ask for: a kind, a model's file and the number of a command.
-pub fn run(rt: &HostRuntime, words: &[String]) -> Result<u8> {
+/// Measures what the words ask for: a kind, a model's name and the number of a command. The library has the model and what it
+/// opens.
+pub fn run<L: Library>(
+    rt: &(impl CpuClock + Print + AllocGlobal),
+    library: L,
+    words: &[String],
+) -> Result<u8> {
     let (Some(kind), Some(root), Some(number)) = (words.first(), words.get(1), words.get(2)) else {
         return Ok(2);
     };
@@ -144,5 +154,5 @@ pub fn run(rt: &HostRuntime, words: &[String]) -> Result<u8> {
     if kind != "sizes" && kind != "times" {
         return Ok(2);
     }
-    measure(rt, kind, root.as_str(), command)
+    measure(rt, library, kind, root.as_str(), command)
 }

@@ -27,9 +27,10 @@ use load_modules::load_text;
 use sizes::sizes_of;
 use std::alloc::{AllocError, Global};
 use std::fs;
+use std::rt::Files;
 
 /// A command of a model, made ready, or none where the model is refused.
-fn ready(rt: &HostRuntime, name: &str, command: u32) -> Result<Option<Prepared>> {
+fn ready(rt: &(impl Files + AllocGlobal), name: &str, command: u32) -> Result<Option<Prepared>> {
     let alloc = rt.alloc();
     let text = fs::read(rt, name)?;
     let mut libraries = Vec::new(alloc);
@@ -80,7 +81,12 @@ fn print_tally(rt: &impl Print, name: &str, command: u32, tally: Tally) -> Resul
 }
 
 /// Prints whether the store that has each gate once has fewer than a list of all. The answer is the status.
-fn print_sizes(rt: &HostRuntime, name: &str, command: u32, prepared: &Prepared) -> Result<u8> {
+fn print_sizes(
+    rt: &(impl Print + AllocGlobal),
+    name: &str,
+    command: u32,
+    prepared: &Prepared,
+) -> Result<u8> {
     let found = sizes_of(rt.alloc(), &prepared.target, &prepared.bounds)?;
     if found.shared >= found.plain {
         println!(rt; "{name} {command}: no fewer gates in the store")?;
@@ -91,7 +97,12 @@ fn print_sizes(rt: &HostRuntime, name: &str, command: u32, prepared: &Prepared) 
 }
 
 /// Compares a command of a model. The answer is the status.
-fn compare_prepared(rt: &HostRuntime, name: &str, command: u32, prepared: &Prepared) -> Result<u8> {
+fn compare_prepared(
+    rt: &(impl Print + AllocGlobal),
+    name: &str,
+    command: u32,
+    prepared: &Prepared,
+) -> Result<u8> {
     let Some(tally) = tally_of(rt.alloc(), prepared)? else {
         return print_sizes(rt, name, command, prepared);
     };
@@ -100,7 +111,11 @@ fn compare_prepared(rt: &HostRuntime, name: &str, command: u32, prepared: &Prepa
 }
 
 /// Makes a command of a model ready and compares it. The answer is the status and how many commands there are.
-fn compare_command(rt: &HostRuntime, name: &str, command: u32) -> Result<(u8, usize)> {
+fn compare_command(
+    rt: &(impl Files + Print + AllocGlobal),
+    name: &str,
+    command: u32,
+) -> Result<(u8, usize)> {
     let Some(prepared) = ready(rt, name, command)? else {
         return Ok((3, 0));
     };
@@ -109,7 +124,7 @@ fn compare_command(rt: &HostRuntime, name: &str, command: u32) -> Result<(u8, us
 }
 
 /// Compares all commands of a model. The answer is the status.
-fn compare_model(rt: &HostRuntime, name: &str) -> Result<u8> {
+fn compare_model(rt: &(impl Files + Print + AllocGlobal), name: &str) -> Result<u8> {
     let mut status = 0;
     for command in 0..u32::MAX {
         let (next, commands) = compare_command(rt, name, command)?;
@@ -124,7 +139,7 @@ fn compare_model(rt: &HostRuntime, name: &str) -> Result<u8> {
 }
 
 /// Compares all commands of the models that the words name.
-pub fn run(rt: &HostRuntime, words: &[String]) -> Result<u8> {
+pub fn run(rt: &(impl Files + Print + AllocGlobal), words: &[String]) -> Result<u8> {
     let mut status = 0;
     for name in words {
         let next = compare_model(rt, name.as_str())?;

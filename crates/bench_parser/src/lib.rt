@@ -1,16 +1,19 @@
-//! The mode `parser` says of each text that is named what the lexer and the parsers make of it: `NAME..`.
+//! The workbench's mode `parser` says of each text that is named what the lexer and the parsers make of it: `NAME..`.
 //!
 //! A name is that of a text that alloyc brings along, or else of a file. A text that has a tree gives its name and
 //! `spelled`, where the tree spells its tokens again. Another text gives the rule that it breaks, its name and the place.
+#![tactic(auto)]
 
 ghost use Rattle.std.specs.Prelude.{◌≤◌, length};
 ghost use Rattle.syntax_tree.specs.Spelling.{EndsWell};
 
-use crate::same::same_words;
+mod same;
+
 use anyhow::Result;
 use base_library::EmbeddedLibrary;
 use base_types::limits::MODULE_BYTES;
 use base_types::{Fetch, Library, Position, Refusal, Rule};
+use same::same_words;
 use std::alloc::Global;
 use std::fs;
 use std::rt::Files;
