@@ -2,9 +2,10 @@
 """Proves and builds crates and those below them, side by side: tools/build.py [CRATE ..] (alloyc, if no other is named)
 
 Each crate is proved as `rt ci` proves it, from nothing and once, without its tests and edits: a library as its statements
-alone, which is all that the crates above load. So each takes 1 to 2 GB. As many are at work as there are processors, as
+alone, which is all that the crates above load. So most take 1 to 2 GB. As many are at work as there are processors, as
 far as 8 GB hold them, or what is free of memory where that is less; where fewer are ready, one gets up to four processors,
-and the first of the longest chain gets two where that chain is longer than an equal share of what is left.
+and the first of the longest chain gets two where that chain is longer than an equal share of what is left. What
+bench/RESULTS.md measured of a crate's proof, seconds and memory, is what it is taken to need.
 
 A crate that an earlier start built of the same text over the same libraries is left as it is, and one that `rt ci` passed
 on this machine is taken from what it kept, as `rt ci` later takes what is built here.
@@ -17,6 +18,7 @@ import hashlib
 import importlib.machinery
 import importlib.util
 import os
+import re
 import shutil
 import subprocess
 import sys
@@ -27,6 +29,8 @@ TOP = os.path.dirname(os.path.dirname(os.path.abspath(__file__)))
 # What all builds may take together, and what is planned for one of them until it takes more, in bytes. A second job and each
 # further one adds a part of that.
 MOST, EACH, JOB = 8_000_000_000, 1_600_000_000, 0.6
+# What a crate is taken to need in seconds that is too short for a row of its own in bench/RESULTS.md.
+SHORT = 38
 
 
 def load_kit():
@@ -129,19 +133,28 @@ def memory_of(pids):
     return {pid: whole(pid) for pid in pids}
 
 
+def measured():
+    """Returns of the longer crates, by their names, what bench/RESULTS.md has of their proofs: processor seconds, and bytes at the peak."""
+    with open(f"{TOP}/bench/RESULTS.md", encoding="utf-8") as it:
+        rows = re.findall(r"^\| `(\w+)` \| (\d+) \|.* (\d+) \|$", it.read(), re.M)
+    return {name: (int(seconds), 1_000_000 * int(peak)) for name, seconds, peak in rows}
+
+
 class Builds:
     """The crates that are at work, what is left, and what each took so far."""
 
     def __init__(self, rt, crates):
         self.rt, self.left, self.count = rt, list(crates), len(crates)
-        self.done, self.seen, self.running, self.jobs, self.begun, self.peaks, self.failed = set(), {}, {}, {}, set(), {}, []
+        self.done, self.seen, self.running, self.jobs, self.begun, self.failed = set(), {}, {}, {}, set(), []
         self.most = min(MOST, int(0.85 * rt.free()))
         # (a crate is first that has the longest chain of others above it)
-        self.above, self.lines, self.below = {}, {}, {}
+        self.above, self.seconds, self.below = {}, {}, {}
+        known = measured()
+        self.peaks = {name: peak for name, (_, peak) in known.items()}
         for crate in reversed(crates):
-            self.lines[crate.name] = crate.count(rb"\n")
+            self.seconds[crate.name], _ = known.get(crate.name, (SHORT, 0))
             self.below[crate.name] = [it.name for it in crate.below()]
-            own = self.lines[crate.name] + self.above.get(crate.name, 0)
+            own = self.seconds[crate.name] + self.above.get(crate.name, 0)
             self.above[crate.name] = own
             for name in self.below[crate.name]:
                 self.above[name] = max(self.above.get(name, 0), own)
@@ -157,8 +170,8 @@ class Builds:
         return all(it in self.done for it in self.below[crate.name])
 
     def is_long(self, crate):
-        """Whether the longest chain from a crate up has more lines than an equal share of the processors of all that is left."""
-        left = sum(self.lines[it.name] for it in [*self.left, *self.running.values()])
+        """Whether the longest chain from a crate up is longer than an equal share of the processors of all that is left."""
+        left = sum(self.seconds[it.name] for it in [*self.left, *self.running.values()])
         return self.above[crate.name] * self.rt.processors() > left
 
     def needs(self, crate, jobs):
