@@ -12,6 +12,7 @@ use Rattle.core_tree.specs.Models.{IsModel}
 use Rattle.core_tree.specs.declared.model.Model.{Model}
 use Rattle.resolve_check.specs.Kept.{IsModelButTypes}
 use Rattle.bound_scopes.specs.Limits.{AreScopes}
+use Rattle.bound_definitions.specs.Numbers.{AreScopesBy}
 use Rattle.core_laws.specs.Typed.{ExtendsPlain, BoundsNameOwned}
 use Rattle.form_target.specs.Targets.{fact_claims, IsTargetOf}
 use Rattle.form_target.specs.declared.target.Part.{Part}
@@ -27,8 +28,8 @@ use Rattle.answer_analysis.specs.declared.fault.AnalyseFault.{AnalyseFault}
 use Rattle.answer_analysis.specs.declared.fault.AnalyseFault.TheVariants.{Refused, Read, Memory}
 
 -- a model made ready for its command of this number: the model keeps what resolved models keep, the parts
--- are its facts and then that command, the target is that of the command under the scopes, these say what they are to say
--- of each sig, the bounds are those of the model and the scopes and have a table, and the labels are exactly those of its
+-- are its facts and then that command, the target is that of the command under the scopes, these are the ones that the rules
+-- give the command, the bounds are those of the model and the scopes and have a table, and the labels are exactly those of its
 -- relations and of its universe
 pub record IsReady (number : ℕ) (prepared : Prepared) : Type 0 where
   pub kept : IsModelButTypes prepared.model
@@ -39,6 +40,7 @@ pub record IsReady (number : ℕ) (prepared : Prepared) : Type 0 where
   pub scoped : prepared.target.scopes ≡ prepared.scopes
   pub counted : length prepared.scopes.numbers ≡ length prepared.model.sigs
   pub scopes_are : AreScopes prepared.model prepared.scopes
+  pub scoped_by : AreScopesBy prepared.model command prepared.scopes
   pub table : IsTable prepared.bounds
   pub bounds_are : AreBoundsOf prepared.model prepared.scopes prepared.bounds
   pub states : prepared.bounds.states ≡ prepared.scopes.states

@@ -1,6 +1,6 @@
 //! A model made ready for a search: its scopes, bounds and target.
 
-ghost use Rattle.std.specs.Prelude.{◌≡◌, ◌<◌, ◌≤◌, map, IfOk, IfErr, length};
+ghost use Rattle.std.specs.Prelude.{◌≡◌, ◌<◌, ◌≤◌, map, IfOk, IfErr, IfSome, length, slice_get};
 ghost use Rattle.bound_uppers.specs.declared.table.Bound.{Bound};
 ghost use Rattle.bound_uppers.specs.Table.{IsTable, are_fixed};
 ghost use Rattle.bound_owners.specs.Own.{HasOrigins};
@@ -9,6 +9,7 @@ ghost use Rattle.core_meaning.specs.Kept.{universe_size};
 ghost use Rattle.answer_analysis.specs.Found.{IsLoadedFault, IsReady};
 ghost use Rattle.resolve_check.specs.Kept.{IsModelButTypes};
 ghost use Rattle.bound_scopes.specs.Limits.{AreScopes};
+ghost use Rattle.bound_definitions.specs.Numbers.{AreScopesBy};
 ghost use Rattle.answer_trace.specs.Made.{AreRelationsOf, relation_labels_of, universe_texts};
 
 use crate::fault::{AnalyseFault, refused_in};
@@ -68,6 +69,8 @@ fn scopes_of(
     command: u32,
 ) -> Result<Scopes, AnalyseFault>
     ensures scopes { IfOk result (λ s. AreScopes model.now s) }
+    ensures by { IfOk result (λ s. IfSome (slice_get model.now.commands command)
+        (λ c. AreScopesBy model.now c s)) }
     ensures fault { IfErr result IsLoadedFault }
 {
     match scopes(alloc, model, command) {

@@ -70,7 +70,7 @@ extends _ s = false
 abbrev pub is_string : Sig → Bool
 is_string d = is_top d.kind && not (is_some d.origin)
 
-abbrev lists : ScopeSubject → ℕ → Bool
+abbrev pub lists : ScopeSubject → ℕ → Bool
 lists (subject.Sig t) s = t == s
 lists _ s = false
 

@@ -1,21 +1,10 @@
--- What holds at each place before one, and at it, holds at each place before the next.
-use Rattle.std.proofs.Common.{◌≡◌, ℕ, zero, suc, ◌+◌, ◌<◌, ◌≤◌, List, [], ◌∷◌, All, take, get_or, length, Option, Some, IfSome, slice_get, refl, sym, ap, ◌∙◌, subst, arith, inl, inr}
-use Rattle.std.proofs.lemmas.Bool.{cases_lt}
+-- Pairs of a sig and its scope, and what holds of the first items of a list.
+use Rattle.std.proofs.Common.{◌≡◌, ℕ, zero, suc, ◌+◌, ◌<◌, ◌≤◌, List, [], ◌∷◌, All, take, get_or, length, Option, Some, IfSome, slice_get, refl, sym, ap, ◌∙◌, subst, arith}
 use Rattle.std.proofs.lemmas.List.Elements.{All-more}
-use Rattle.std.proofs.lemmas.Option.{slice_get_within, same_Some}
+use Rattle.std.proofs.lemmas.Option.{same_Some}
 use Rattle.core_tree.specs.declared.model.Sig.{Sig}
 use Rattle.core_meaning.specs.declared.scopes.SigScope.{SigScope}
 use Rattle.bound_scopes.specs.Numbers.{IsSigScope}
-
-module _ {X : Type 0} (P : ℕ → X → Type 0) (l : List X) where
-  pub front_more : (n : ℕ) → ((k : ℕ) (x : X) → k < n → slice_get l k ≡ Some x → P k x) → ((x : X) → slice_get l n ≡ Some x → P n x) → (k : ℕ) (x : X) → k < n + 1 → slice_get l k ≡ Some x → P k x
-  front_more n before here k x lt at = elim (cases_lt k n) [
-    | inl sooner ↦ before k x sooner at
-    | inr last ↦ let e : n ≡ k = omega arith in subst (λ j. P j x) e (here x (subst (λ j. slice_get l j ≡ Some x) (sym e) at))
-  ]
-
-  pub front_all : (n : ℕ) → length l ≤ n → ((k : ℕ) (x : X) → k < n → slice_get l k ≡ Some x → P k x) → (k : ℕ) (x : X) → slice_get l k ≡ Some x → P k x
-  front_all n high before k x at = before k x (let within = slice_get_within l k x at in omega arith) at
 
 -- the pair at a place
 pub here_got : (sigs : List Sig) (numbers : List SigScope) (i : ℕ) (d : Sig) (e : SigScope) → slice_get sigs i ≡ Some d → slice_get numbers i ≡ Some e → IsSigScope d e → (x : Sig) → slice_get sigs i ≡ Some x → IfSome (slice_get numbers i) (IsSigScope x)

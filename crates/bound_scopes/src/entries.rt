@@ -1,41 +1,21 @@
 //! The rules on what a command's scope lists, and on sigs that `exactly` parameters get.
 
-ghost use Rattle.std.specs.Prelude.{◌≡◌, length, IfOk};
-
 use base_types::Position;
 use core_tree::{Multiplicity, Origin, ScopeEntry, ScopeSubject, Sig, SigKind};
 use form_measures::earliest;
 use std::alloc::{AllocError, Global};
 
-/// What a command lists for a sig.
-#[derive(Clone, Copy, Debug, PartialEq, Eq, Drop)]
-pub(crate) struct Listed {
-    /// The number.
-    pub number: u32,
-    /// Whether `exactly` stands before it.
-    pub exactly: bool,
-}
-
-/// What a command's scope says: for each sig, for the integers, the states, and all top-level sigs.
+/// What the entries of a command's scope list so far.
 #[derive(Drop)]
-pub(crate) struct Scope {
-    /// What is listed for each sig of the model, the first entry counting.
-    pub sigs: Vec<Option<Listed>>,
-    /// The bitwidth, with the place of its number.
-    pub bits: Option<Numbered>,
-    /// The states, with the place of their number.
-    pub steps: Option<Numbered>,
-    /// The number of each top-level sig that has no other.
-    pub overall: Option<u32>,
+struct Listed {
+    /// Of each sig of the model, whether it is listed.
+    sigs: Vec<bool>,
+    /// Whether the bitwidth is listed.
+    bits: bool,
+    /// Whether the states are listed.
+    steps: bool,
     /// The first entry that breaks the rule on what may be listed, at its name.
-    pub bad: Option<Origin>,
-}
-
-/// A number with its place.
-#[derive(Clone, Copy, Debug, PartialEq, Eq)]
-pub(crate) struct Numbered {
-    pub number: u32,
-    pub place: Position,
+    bad: Option<Origin>,
 }
 
 /// Whether a sig is an `in` sig.
@@ -51,95 +31,61 @@ fn in_root(place: Position) -> Origin {
     Origin { instance: 0, place }
 }
 
-/// Nothing listed for any of so many sigs.
-fn nothing(alloc: Global, count: usize) -> Result<Scope, AllocError>
-    ensures { IfOk result (λ s. length s.sigs.items ≡ count) }
-{
-    let mut sigs = Vec::new(alloc);
-    for _sig in 0..count {
-        sigs.push(None)?;
-    }
-    Ok(Scope {
-        sigs,
-        bits: None,
-        steps: None,
-        overall: None,
-        bad: None,
-    })
-}
-
-/// Takes an entry that names a sig.
-fn take_sig(scope: &mut Scope, sigs: &[Sig], entry: &ScopeEntry, sig: usize)
-    ensures { length scope.new.sigs.items ≡ length scope.old.sigs.items }
-{
-    if sig >= sigs.len() || sig >= scope.sigs.len() {
-        scope.bad = earliest(scope.bad, in_root(entry.name_place));
-        return;
-    }
-    let may_stand = scope.sigs[sig].is_none() && !is_subset(&sigs[sig]);
-    if may_stand {
-        scope.sigs[sig] = Some(Listed {
-            number: entry.number,
-            exactly: entry.exactly,
-        });
+/// The first place so far, with the name of an entry that breaks the rule on what may be listed.
+fn with_bad(bad: Option<Origin>, is_bad: bool, entry: &ScopeEntry) -> Option<Origin> {
+    if is_bad {
+        earliest(bad, in_root(entry.name_place))
     } else {
-        scope.bad = earliest(scope.bad, in_root(entry.name_place));
+        bad
     }
 }
 
-/// Takes an entry for the bitwidth or the states; the first one counts.
-fn take_limit(entry: &ScopeEntry, known: Option<Numbered>) -> (Option<Numbered>, bool) {
-    let is_bad = entry.exactly || known.is_some();
-    match known {
-        Some(first) => (Some(first), is_bad),
-        None => (
-            Some(Numbered {
-                number: entry.number,
-                place: entry.number_place,
-            }),
-            is_bad,
-        ),
+/// Whether a sig may be listed; from now on it is.
+fn take_sig(listed: &mut Listed, sigs: &[Sig], sig: usize) -> bool {
+    if sig >= sigs.len() || sig >= listed.sigs.len() {
+        return false;
     }
+    let is_first = !listed.sigs[sig];
+    listed.sigs[sig] = true;
+    is_first && !is_subset(&sigs[sig])
 }
 
 /// Takes one entry.
-fn take(scope: &mut Scope, sigs: &[Sig], entry: &ScopeEntry)
-    ensures { length scope.new.sigs.items ≡ length scope.old.sigs.items }
-{
+fn take(listed: &mut Listed, sigs: &[Sig], entry: &ScopeEntry) {
     match entry.subject {
-        ScopeSubject::Sig(sig) => take_sig(scope, sigs, entry, sig as usize),
+        ScopeSubject::Sig(sig) => {
+            let may_stand = take_sig(listed, sigs, sig as usize);
+            listed.bad = with_bad(listed.bad, !may_stand, entry);
+        }
         ScopeSubject::Int => {
-            let (known, is_bad) = take_limit(entry, scope.bits);
-            scope.bits = known;
-            if is_bad {
-                scope.bad = earliest(scope.bad, in_root(entry.name_place));
-            }
+            listed.bad = with_bad(listed.bad, entry.exactly || listed.bits, entry);
+            listed.bits = true;
         }
         ScopeSubject::Steps => {
-            let (known, is_bad) = take_limit(entry, scope.steps);
-            scope.steps = known;
-            if is_bad {
-                scope.bad = earliest(scope.bad, in_root(entry.name_place));
-            }
+            listed.bad = with_bad(listed.bad, entry.exactly || listed.steps, entry);
+            listed.steps = true;
         }
-        ScopeSubject::Overall => scope.overall = Some(entry.number),
-        ScopeSubject::Unknown => scope.bad = earliest(scope.bad, in_root(entry.name_place)),
+        ScopeSubject::Overall => {}
+        ScopeSubject::Unknown => listed.bad = with_bad(listed.bad, true, entry),
     }
 }
 
-/// What the entries of a command's scope say.
-pub(crate) fn scope_of(
+/// The first name of an entry that breaks the rule on what may be listed.
+pub(crate) fn bad_entry(
     alloc: Global,
     sigs: &[Sig],
     entries: &[ScopeEntry],
-) -> Result<Scope, AllocError>
-    ensures { IfOk result (λ s. length s.sigs.items ≡ length sigs.now) }
-{
-    let mut scope = nothing(alloc, sigs.len())?;
+) -> Result<Option<Origin>, AllocError> {
+    let mut listed = Listed {
+        sigs: vec![in alloc; false; sigs.len()]?,
+        bits: false,
+        steps: false,
+        bad: None,
+    };
     for entry in entries {
-        take(&mut scope, sigs, entry);
+        take(&mut listed, sigs, entry);
     }
-    Ok(scope)
+    Ok(listed.bad)
 }
 
 /// The first place at which a sig that an `exactly` parameter gets is an `in` sig.

@@ -2,13 +2,12 @@
 //! The scopes are how many atoms each sig has, the bitwidth, and the number of states.
 #![tactic(auto)]
 
+mod atoms;
 mod entries;
 mod fault;
 mod gather;
 mod keeps;
 mod limits;
-mod numbers;
-mod order;
 
 pub use fault::ScopeFault;
 pub use gather::check_value;

@@ -1,20 +1,29 @@
 //! The scopes of a command, or the first of the rules on scopes that it breaks.
 
-ghost use Rattle.std.specs.Prelude.{◌≡◌, ◌<◌, ◌≤◌, ◌+◌, ◌^◌, length, slice_get, All, Err, IfOk, IfErr, IfSome};
+ghost use Rattle.std.specs.Prelude.{◌≡◌, ◌<◌, ◌≤◌, ◌+◌, ◌^◌, ◌||◌, if◌then◌else◌, length, slice_get, All, Err, IfOk, IfErr, IfSome};
+ghost use Rattle.std.specs.List.{list_any};
+ghost use Rattle.core_tree.specs.declared.model.Sig.{Sig};
+ghost use Rattle.core_tree.specs.declared.model.Field.{Field};
 ghost use Rattle.core_meaning.specs.Kept.{atom_count};
+ghost use Rattle.bound_definitions.specs.Numbers.{AreScopesBy, bits_in, steps_in};
+ghost use Rattle.bound_numbers.specs.Listed.{number_or};
+ghost use Rattle.bound_numbers.specs.Tables.{AreNumbered};
 ghost use Rattle.bound_scopes.specs.Limits.{AreScopes, IsScopeRule, IsScopeFault, no_command};
 ghost use Rattle.bound_scopes.specs.Numbers.{AreSigScopes, IsListed};
 ghost use Rattle.bound_scopes.specs.declared.fault.ScopeFault.TheVariants.{Refused};
 
-use crate::entries::{Numbered, Scope, conflict, exact_subset, exact_var, scope_of};
+use crate::atoms::fits;
+use crate::entries::{bad_entry, conflict, exact_subset, exact_var};
 use crate::fault::ScopeFault;
 use crate::gather::{over_limit, refused, wide_literal};
 use crate::keeps::{are_listed, are_sig_scopes};
-use crate::numbers::{fits, numbers};
 use base_types::limits::{ATOMS, BITWIDTH, STEPS};
 use base_types::{Position, Rule};
+use bound_numbers::{Asked, Numbered, first_entry, numbers};
 use core_meaning::{Scopes, SigScopeList};
-use core_tree::{Command, Field, Model, Origin, ScopeEntryList, Sig, SigList};
+use core_tree::{
+    Command, Field, FieldList, Model, Origin, ScopeEntry, ScopeEntryList, Sig, SigList,
+};
 use form_measures::Measure;
 use std::alloc::{AllocError, Global};
 
@@ -45,6 +54,8 @@ pub fn scopes(alloc: Global, model: &Model, command: u32) -> Result<Scopes, Scop
     ensures ok { IfOk result (λ s. AreScopes model.now s) }
     ensures listed { IfSome (slice_get model.now.commands command)
         (λ c. IfOk result (λ s. All (IsListed s.numbers) c.scope)) }
+    ensures by { IfSome (slice_get model.now.commands command)
+        (λ c. IfOk result (AreScopesBy model.now c)) }
     ensures absent { length model.now.commands ≤ command → result ≡ Err (Refused no_command) }
     ensures fault { command < length model.now.commands → IfErr result (λ e. IsScopeFault e) }
 {
@@ -55,21 +66,20 @@ pub fn scopes(alloc: Global, model: &Model, command: u32) -> Result<Scopes, Scop
     scopes_of(alloc, model, chosen)
 }
 
-/// The numbers of the sigs, where they are what their declarations ask and the command lists. The rules
-/// on scopes give no others; they are tested once more on the numbers themselves, and where this did not
-/// hold the answer would be want of memory.
+/// The numbers of the sigs by the rules, where they are what the declarations of the sigs ask and the
+/// command lists. The rules on scopes give no others; they are tested once more on the numbers
+/// themselves, and where this did not hold the answer would be want of memory.
 fn kept_numbers(
     alloc: Global,
     sigs: &SigList,
-    scope: &Scope,
     entries: &ScopeEntryList,
 ) -> Result<SigScopeList, AllocError>
-    requires { length scope.now.sigs.items ≡ length sigs.now }
     ensures length { IfOk result (λ l. length l ≡ length sigs.now) }
     ensures sigs { IfOk result (λ l. AreSigScopes sigs.now l) }
     ensures listed { IfOk result (λ l. All (IsListed l) entries.now) }
+    ensures numbered { IfOk result (λ l. AreNumbered sigs.now entries.now l) }
 {
-    let list = numbers(alloc, sigs.as_slice(), scope)?;
+    let list = numbers(alloc, sigs, entries)?;
     if !are_sig_scopes(sigs, &list) {
         return Err(AllocError);
     }
@@ -83,37 +93,32 @@ fn kept_numbers(
 fn scopes_of(alloc: Global, model: &Model, command: &Command) -> Result<Scopes, ScopeFault>
     ensures ok { IfOk result (λ s. AreScopes model.now s) }
     ensures listed { IfOk result (λ s. All (IsListed s.numbers) command.now.scope) }
+    ensures by { IfOk result (AreScopesBy model.now command.now) }
     ensures fault { IfErr result (λ e. IsScopeFault e) }
 {
     let sigs = model.sigs.as_slice();
-    let scope = listed(alloc, sigs, command)?;
-    let bits = bits_of(&scope)?;
-    let steps = steps_of(&scope)?;
-    let numbers = kept_numbers(alloc, &model.sigs, &scope, &command.scope)?;
+    check_listed(alloc, sigs, command.scope.as_slice())?;
+    let bits = bits_of(&command.scope)?;
+    let steps = steps_of(&command.scope)?;
+    let numbers = kept_numbers(alloc, &model.sigs, &command.scope)?;
     check_atoms(&numbers, bits, command.keyword)?;
     check_trees(alloc, model, command, bits)?;
+    let states = states_of(model, steps);
     Ok(Scopes {
         numbers,
         bits,
-        states: if is_mutable(sigs, model.fields.as_slice()) {
-            steps
-        } else {
-            1
-        },
+        states,
     })
 }
 
-/// What the command lists, or the first of S61, S62 and S63.
-fn listed(alloc: Global, sigs: &[Sig], command: &Command) -> Result<Scope, ScopeFault>
-    ensures ok { IfOk result (λ s. length s.sigs.items ≡ length sigs.now) }
-    ensures fault { IfErr result (λ e. IsScopeFault e) }
+/// Asks of what the command lists that it keeps S61, S62 and S63.
+fn check_listed(alloc: Global, sigs: &[Sig], entries: &[ScopeEntry]) -> Result<(), ScopeFault>
+    ensures { IfErr result (λ e. IsScopeFault e) }
 {
-    let entries = command.scope.as_slice();
-    let scope = scope_of(alloc, sigs, entries)?;
-    ask(Rule::BadScope, exact_subset(sigs, scope.bad))?;
+    let bad = bad_entry(alloc, sigs, entries)?;
+    ask(Rule::BadScope, exact_subset(sigs, bad))?;
     ask(Rule::ExactVar, exact_var(sigs, entries))?;
-    ask(Rule::ScopeConflict, conflict(sigs, entries))?;
-    Ok(scope)
+    ask(Rule::ScopeConflict, conflict(sigs, entries))
 }
 
 /// A rule that is broken where there is a place for it.
@@ -137,6 +142,7 @@ fn in_range(
     requires default { (1 ≤ default) × (default ≤ greatest) }
     requires rule { IsScopeRule rule }
     ensures ok { IfOk result (λ n. (1 ≤ n) × (n ≤ greatest)) }
+    ensures is { IfOk result (λ n. n ≡ number_or given default) }
     ensures fault { IfErr result (λ e. IsScopeFault e) }
 {
     match given {
@@ -152,19 +158,25 @@ fn in_range(
 }
 
 /// The bitwidth, or S64.
-fn bits_of(scope: &Scope) -> Result<u32, ScopeFault>
+fn bits_of(entries: &ScopeEntryList) -> Result<u32, ScopeFault>
     ensures ok { IfOk result (λ n. (1 ≤ n) × (n ≤ 12)) }
+    ensures is { IfOk result (λ n. n ≡ bits_in entries.now) }
     ensures fault { IfErr result (λ e. IsScopeFault e) }
 {
-    in_range(Rule::Bitwidth, scope.bits, DEFAULT_BITS, BITWIDTH)
+    let given = first_entry(Asked::Bits, entries);
+    let bits = in_range(Rule::Bitwidth, given, DEFAULT_BITS, BITWIDTH)?;
+    Ok(bits)
 }
 
 /// The states that are listed or usual, or S65.
-fn steps_of(scope: &Scope) -> Result<u32, ScopeFault>
+fn steps_of(entries: &ScopeEntryList) -> Result<u32, ScopeFault>
     ensures ok { IfOk result (λ n. (1 ≤ n) × (n ≤ 32)) }
+    ensures is { IfOk result (λ n. n ≡ steps_in entries.now) }
     ensures fault { IfErr result (λ e. IsScopeFault e) }
 {
-    in_range(Rule::Steps, scope.steps, DEFAULT_STEPS, STEPS)
+    let given = first_entry(Asked::Steps, entries);
+    let steps = in_range(Rule::Steps, given, DEFAULT_STEPS, STEPS)?;
+    Ok(steps)
 }
 
 /// How many integers a bitwidth has.
@@ -207,17 +219,40 @@ fn check_trees(alloc: Global, model: &Model, command: &Command, bits: u32) -> Re
     )
 }
 
-/// Whether some sig or field is `var`.
-fn is_mutable(sigs: &[Sig], fields: &[Field]) -> bool {
-    for sig in sigs {
+/// Whether some sig is `var`.
+fn has_var_sig(sigs: &SigList) -> bool
+    ensures { result ≡ list_any (λ (d : Sig). d.is_var) sigs.now }
+{
+    for place in 0..sigs.len() {
+        let sig = sigs.get(place);
         if sig.is_var {
             return true;
         }
     }
-    for field in fields {
+    false
+}
+
+/// Whether some field is `var`.
+fn has_var_field(fields: &FieldList) -> bool
+    ensures { result ≡ list_any (λ (f : Field). f.is_var) fields.now }
+{
+    for place in 0..fields.len() {
+        let field = fields.get(place);
         if field.is_var {
             return true;
         }
     }
     false
+}
+
+/// How many states a lasso has at most: these where some sig or field is `var`, else one.
+fn states_of(model: &Model, steps: u32) -> u32
+    requires { (1 ≤ steps) × (steps ≤ 32) }
+    ensures few { (1 ≤ result) × (result ≤ 32) }
+    ensures is { result ≡ (if list_any (λ (d : Sig). d.is_var) model.now.sigs
+        || list_any (λ (f : Field). f.is_var) model.now.fields then steps else 1) }
+{
+    let has_sig = has_var_sig(&model.sigs);
+    let has_field = has_var_field(&model.fields);
+    if has_sig || has_field { steps } else { 1 }
 }

@@ -1,5 +1,10 @@
-use Rattle.std.proofs.Common.{arith}
+use Rattle.std.proofs.Common.{arith, subst}
+use Rattle.std.specs.Prelude.{◌≡◌, Option, Some, IfSome}
+use Rattle.core_tree.specs.declared.model.Command.{Command}
 use Rattle.answer_analysis.proofs.ready.prepare_loaded.Goals as goal
+
+of_chosen : (o : Option Command) (command : Command) (P : Command → Type 0) → o ≡ Some command → IfSome o P → P command
+of_chosen o command P is held = subst (λ (x : Option Command). IfSome x P) is held
 
 pub returns-clause-ready : goal.returns-clause-ready
 returns-clause-ready c = record {
@@ -11,6 +16,7 @@ returns-clause-ready c = record {
   scoped = c.in_ok-target.ensures.scopes;
   counted = c.in_ok-labels.ensures.counted;
   scopes_are = c.in_ok-scopes.ensures.scopes;
+  scoped_by = of_chosen _ _ _ c.get-chosen.ensures c.in_ok-scopes.ensures.by;
   table = c.in_ok-bounds.ensures.table;
   bounds_are = record { most = c.in_ok-bounds.ensures.most; origins = c.in_ok-bounds.ensures.origins; uppers = c.in_ok-bounds.ensures.uppers; fixed = c.in_ok-bounds.ensures.fixed };
   states = (let some = c.in_ok-scopes.ensures.scopes.states.0 in c.in_ok-bounds.ensures.states (omega (arith, some)));

@@ -1,7 +1,8 @@
 use Rattle.std.proofs.Common.{IfSome, slice_get, arith}
 use Rattle.core_tree.specs.declared.model.Sig.{Sig}
 use Rattle.bound_scopes.specs.Numbers.{IsSigScope}
-use Rattle.bound_scopes.proofs.Pairs.{front_more, front_all, here_got}
+use Rattle.bound_numbers.proofs.Places.{front_more, front_all}
+use Rattle.bound_scopes.proofs.Pairs.{here_got}
 use Rattle.bound_scopes.proofs.keeps.are_sig_scopes.Goals as goal
 
 pub loop-place-preserved : goal.loop-place-preserved

@@ -1,0 +1,7 @@
+use Rattle.std.proofs.Common.{◌≡◌, ℕ, drop}
+use Rattle.bound_definitions.specs.Numbers.{first_number}
+use Rattle.bound_numbers.specs.Listed.{asks}
+use Rattle.bound_numbers.proofs.listed.first_entry.Given as goal
+
+abbrev pub invariant-loop-place : goal.invariant-loop-place
+invariant-loop-place l = (n : ℕ) → first_number (asks l.asked) n (drop l.place l.entries) ≡ first_number (asks l.asked) n l.entries

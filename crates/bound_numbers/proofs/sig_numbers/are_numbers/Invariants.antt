@@ -1,0 +1,7 @@
+use Rattle.std.proofs.Common.{◌≡◌, ◌<◌, ℕ, Some, slice_get}
+use Rattle.core_tree.specs.declared.model.Sig.{Sig}
+use Rattle.bound_numbers.specs.Tables.{table_of, family_at, of_parent, number_by}
+use Rattle.bound_numbers.proofs.sig_numbers.are_numbers.Given as goal
+
+abbrev pub invariant-loop-place : goal.invariant-loop-place
+invariant-loop-place l = (k : ℕ) (d : Sig) → k < l.place → slice_get l.sigs k ≡ Some d → table_of l.numbers k ≡ number_by d.kind l.overall (family_at l.families k) (table_of l.sums k) (of_parent (table_of l.numbers) d.kind)
