@@ -69,10 +69,10 @@ module _ (gates : List Gate) (sure : Node) (roots : List Node) (n : ℕ) (clause
       )
 
   -- inputs under which `sure` and each root is true are those of an assignment of all clauses
-  pub clauses_told : AreNumbered gates → (x : ℕ → Bool) → value_in gates x sure ≡ true → ((k : ℕ) (root : Node) → slice_get roots k ≡ Some root → value_in gates x root ≡ true) → (v : ℕ → Bool) × Satisfies v clauses
+  pub clauses_told : AreNumbered gates → (x : ℕ → Bool) → value_in gates x sure ≡ true → ((k : ℕ) (root : Node) → slice_get roots k ≡ Some root → value_in gates x root ≡ true) → (v : ℕ → Bool) × Satisfies v clauses × Agree (input_count gates) v x
   clauses_told numbered x surely each =
       let (v, agree, defined) = w.extended x surely in
       let units : list_all (rooted v) roots ≡ true = list_all-from_AllPass (rooted v) roots (λ k d lt.
       let e = slice_get-get_or roots k d lt in
       root_true v defined k (get_or roots k d) e ∙ same_value gates v x numbered agree (get_or roots k d) ∙ each k (get_or roots k d) e) in
-      (v, AllPass-from_list_all (clause_value v) clauses (halves v ∙ and_from (satisfied v w.definitions) (list_all (rooted v) roots) defined units))
+      (v, AllPass-from_list_all (clause_value v) clauses (halves v ∙ and_from (satisfied v w.definitions) (list_all (rooted v) roots) defined units), agree)

@@ -1,5 +1,8 @@
 mod ClausesLaw
+pub mod FilledLaw
 mod FirstLaw
+mod MetLaw
 mod NamedLaw
+mod NewLaw
 mod NoneLaw
 mod SayLaw

@@ -17,5 +17,5 @@ ruled_out target bounds clauses lines sound told named sets say refutes is cover
     let satisfied : SatisfiesTarget target lasso = record { numbers = meets.0; formulas = meets.1 } in
     let (other, is_candidate, canonical, satisfies) = named target bounds NAMED_PAIRS say.all lasso is sets (say.paired is).only candidate satisfied in
     let (x, decodes) = told bounds say.table other is (say.laid is) is_candidate in
-    let (v, true_in) = say.complete x other is decodes covered (satisfies.numbers, satisfies.formulas) canonical in
+    let (v, true_in, same) = say.complete x other is decodes covered (satisfies.numbers, satisfies.formulas) canonical in
     sound clauses lines refutes v true_in

@@ -1,5 +1,5 @@
 -- The clauses of a circuit that encodes a target say what the target asks.
-use Rattle.std.proofs.Common.{◌≡◌, ◌↔◌, ℕ, zero, suc, ◌+◌, ◌<◌, ℤ, Bool, true, List, [], ◌∷◌, length, get_or, All, Some, slice_get, refl, sym, ◌∙◌, subst, arith}
+use Rattle.std.proofs.Common.{◌≡◌, ◌↔◌, ℕ, zero, suc, ◌+◌, ◌<◌, ◌≤◌, ℤ, Bool, true, List, [], ◌∷◌, length, get_or, All, Some, slice_get, refl, sym, ◌∙◌, subst, arith}
 use Rattle.std.proofs.lemmas.Option.{slice_get-get_or, slice_get_within}
 use Rattle.gate_trait.specs.declared.node.Node.{Node}
 use Rattle.gate_trait.specs.declared.gate.Gate.{Gate}
@@ -8,10 +8,11 @@ use Rattle.core_meaning.specs.declared.target.Target.{Target}
 use Rattle.core_meaning.specs.Sequence.{LassoValue}
 use Rattle.core_meaning.specs.Kept.{atom_count}
 use Rattle.sat_dimacs.specs.Literal.{Satisfies}
-use Rattle.gate_tseitin.specs.Written.{AreNumbered, IsWritten}
+use Rattle.gate_tseitin.specs.Named.{input_count}
+use Rattle.gate_tseitin.specs.Written.{Agree, AreNumbered, IsWritten}
 use Rattle.bound_uppers.specs.declared.places.Layout.{Layout}
 use Rattle.bound_uppers.specs.declared.table.Bounds.{Bounds}
-use Rattle.bound_uppers.specs.Table.{IsTable}
+use Rattle.bound_uppers.specs.Table.{IsTable, variables}
 use Rattle.bound_uppers.specs.Candidates.{HasSets}
 use Rattle.bound_naming.specs.declared.neighbours.TheConstants.{NAMED_PAIRS}
 use Rattle.bound_naming.specs.declared.pairs.Pair.{Pair}
@@ -36,8 +37,12 @@ of_all P [] k x all e = cc
 of_all P (y ∷ xs) zero x all e = let is : y ≡ x = cc in subst P is (all zero y (omega arith))
 of_all P (y ∷ xs) (suc k) x all e = of_all P xs k x (λ j d lt. all (suc j) d (omega arith)) e
 
--- The clauses are those of a circuit of the target.
-module _ (target : Target) (bounds : Bounds) (gates : List Gate) (sure : Node) (all_roots : List Node) (n : ℕ) (clauses : List (List ℤ)) (written : IsWritten gates sure all_roots n clauses) (numbered : AreNumbered gates) (circuit : IsCircuit target bounds (value_in gates) sure all_roots) (sets : HasSets bounds) (decided : NamingIsDecided) where
+-- what is within a number is within a greater one
+reaches : (m size most inputs : ℕ) → m ≤ size → size ≡ most → most ≤ inputs → m ≤ inputs
+reaches m size most inputs low same room = omega (arith, low, same, room)
+
+-- The clauses are those of a circuit of the target, which has an input for each variable of the table.
+module _ (target : Target) (bounds : Bounds) (gates : List Gate) (sure : Node) (all_roots : List Node) (n : ℕ) (clauses : List (List ℤ)) (written : IsWritten gates sure all_roots n clauses) (numbered : AreNumbered gates) (room : IsTable bounds → variables bounds ≤ input_count gates) (circuit : IsCircuit target bounds (value_in gates) sure all_roots) (sets : HasSets bounds) (decided : NamingIsDecided) where
   abbrev all : List (List Pair)
   all = circuit.all
 
@@ -71,13 +76,13 @@ module _ (target : Target) (bounds : Bounds) (gates : List Gate) (sure : Node) (
       let both = decided bounds (atom_count target.scopes.numbers) NAMED_PAIRS all v lasso (paired is) (decoded_tells bounds table (encoded.laid is) sets v lasso decodes) in
       (λ on. both.0 (sym (named v) ∙ on), λ names. named v ∙ both.1 names)
 
-  sound : (v : ℕ → Bool) → Satisfies v clauses → (lasso : LassoValue) × Decodes bounds table v lasso × MeetsCovered target lasso × (IsTable bounds → IsCanonical bounds all lasso)
-  sound v s =
+  stands : (v : ℕ → Bool) → Satisfies v clauses → (lasso : LassoValue) × Decodes bounds table v lasso
+  stands v s = (encoded.lassos v).0 (clauses_tell gates sure (name ∷ roots) n clauses w v s).0
+
+  sound : (v : ℕ → Bool) (lasso : LassoValue) → Satisfies v clauses → Decodes bounds table v lasso → MeetsCovered target lasso × (IsTable bounds → IsCanonical bounds all lasso)
+  sound v lasso s decodes =
       let (surely, each) = clauses_tell gates sure (name ∷ roots) n clauses w v s in
-      let (lasso, decodes) = (encoded.lassos v).0 surely in
       let (first, at_first) = there roots zero (omega (arith, count)) in (
-        lasso,
-        decodes,
         (
           (encoded.numbers first at_first v lasso decodes).0 (each (suc zero) first at_first),
           λ k d lt covered.
@@ -103,13 +108,18 @@ module _ (target : Target) (bounds : Bounds) (gates : List Gate) (sure : Node) (
       subst (λ (m : Node). value_in gates x m ≡ true) same ((canonical x lasso is decodes).1 names)
   each_holds x lasso is decodes covered meets names (suc k) root e = root_holds x lasso decodes covered meets k root e
 
+  complete : (x : ℕ → Bool) (lasso : LassoValue) → IsTable bounds → Decodes bounds table x lasso → All IsCovered target.formulas → Meets target lasso → IsCanonical bounds all lasso → (v : ℕ → Bool) × Satisfies v clauses × Agree table.variables v x
+  complete x lasso is decodes covered meets names =
+      let (v, true_in, same) = clauses_told gates sure (name ∷ roots) n clauses w numbered x ((encoded.lassos x).1 (lasso, decodes)) (each_holds x lasso is decodes covered meets names) in
+      (v, true_in, λ m some low. same m some (reaches m table.variables (variables bounds) (input_count gates) low (encoded.laid is).count (room is)))
+
   pub say_target : SayTarget target bounds clauses
   say_target = record {
     table = table;
     all = all;
     laid = encoded.laid;
     paired = paired;
+    stands = stands;
     sound = sound;
-    complete = λ x lasso is decodes covered meets names.
-        clauses_told gates sure (name ∷ roots) n clauses w numbered x ((encoded.lassos x).1 (lasso, decodes)) (each_holds x lasso is decodes covered meets names);
+    complete = complete;
   }

@@ -14,9 +14,11 @@ use Rattle.bound_uppers.specs.declared.places.Layout.{Layout}
 use Rattle.bound_uppers.specs.declared.table.Bounds.{Bounds}
 use Rattle.bound_uppers.specs.Table.{IsTable, IsLayout}
 use Rattle.bound_uppers.specs.Candidates.{IsCandidate}
+use Rattle.bound_uppers.specs.Shortest.{IsSameSequence}
 use Rattle.bound_naming.specs.declared.neighbours.TheConstants.{NAMED_PAIRS}
 use Rattle.bound_naming.specs.declared.pairs.Pair.{Pair}
 use Rattle.bound_naming.specs.Naming.{AreAllPairs, IsCanonical}
+use Rattle.gate_tseitin.specs.Written.{Agree}
 use Rattle.bmc_leaves.specs.Shown.{none_nested}
 use Rattle.bmc_leaves.specs.Table.{Decodes}
 use Rattle.bmc_translate.specs.Forms.{IsPlain}
@@ -39,30 +41,43 @@ Meets target lasso = KeepsNumbers target.scopes lasso × All (HoldsFirst target.
 abbrev pub MeetsCovered : Target → LassoValue → Type 0
 MeetsCovered target lasso = KeepsNumbers target.scopes lasso × All (λ f. IsCovered f → HoldsFirst target.scopes lasso f) target.formulas
 
+-- a lasso lies within the bounds, and meets the target, as far as it is covered
+abbrev pub MeetsWithin : Target → Bounds → LassoValue → Type 0
+MeetsWithin target bounds lasso = IsCandidate bounds lasso × MeetsCovered target lasso
+
 -- Of the lassos that differ only in what atoms are called the clauses keep a canonical one. These are its pairs: for each two
 -- atoms that the bounds don't tell apart, of the variables that their exchange pairs the first so many.
 --
--- The clauses over a table of variables: an assignment that satisfies them stands for a lasso that keeps the numbers of the
--- scopes, at whose first position each covered formula holds, and that is canonical, where the bounds have a table; and where
--- they have one, all formulas are covered, and some canonical lasso for which values of the table stand meets the target, some
--- assignment satisfies them.
+-- What clauses over a table of variables say of a target within bounds.
 pub record SayTarget (target : Target) (bounds : Bounds) (clauses : List (List ℤ)) : Type 0 where
   pub table : Layout
   pub all : List (List Pair)
   pub laid : IsTable bounds → IsLayout bounds table
   pub paired : IsTable bounds → AreAllPairs bounds (atom_count target.scopes.numbers) NAMED_PAIRS all
-  pub sound : (v : ℕ → Bool) → Satisfies v clauses → (lasso : LassoValue) × Decodes bounds table v lasso × MeetsCovered target lasso × (IsTable bounds → IsCanonical bounds all lasso)
-  pub complete : (x : ℕ → Bool) (lasso : LassoValue) → IsTable bounds → Decodes bounds table x lasso → All IsCovered target.formulas → Meets target lasso → IsCanonical bounds all lasso → (v : ℕ → Bool) × Satisfies v clauses
+  -- an assignment that satisfies them stands for a lasso
+  pub stands : (v : ℕ → Bool) → Satisfies v clauses → (lasso : LassoValue) × Decodes bounds table v lasso
+  -- each lasso for which it stands meets the target, as far as that is covered, and is canonical, where the bounds have a table
+  pub sound : (v : ℕ → Bool) (lasso : LassoValue) → Satisfies v clauses → Decodes bounds table v lasso → MeetsCovered target lasso × (IsTable bounds → IsCanonical bounds all lasso)
+  -- where they have one and all formulas are covered, values of the table's variables that stand for a canonical lasso which
+  -- meets the target are those of an assignment that satisfies the clauses
+  pub complete : (x : ℕ → Bool) (lasso : LassoValue) → IsTable bounds → Decodes bounds table x lasso → All IsCovered target.formulas → Meets target lasso → IsCanonical bounds all lasso → (v : ℕ → Bool) × Satisfies v clauses × Agree table.variables v x
 
 -- no lasso within the bounds, of as many states as they have, meets the target, where its formulas are covered
 abbrev pub IsRuledOut : Target → Bounds → Type 0
 IsRuledOut target bounds = IsTable bounds → All IsCovered target.formulas → (lasso : LassoValue) → IsCandidate bounds lasso → Meets target lasso → ⊥
 
--- the clauses of what is refuted, or left open, say what the target does
+-- a lasso that is found lies within the bounds, if these have a table, and meets the target; the clauses of what is refuted, or
+-- left open, say what the target does
 abbrev pub SaysTarget : Target → Bounds → Found → Type 0
-SaysTarget target bounds (Trace lasso) = Unit {0}
+SaysTarget target bounds (Trace lasso) = IsTable bounds → MeetsWithin target bounds lasso
 SaysTarget target bounds (Refuted proof) = SayTarget target bounds proof.cnf.clauses
 SaysTarget target bounds (Unknown proof) = SayTarget target bounds proof.cnf.clauses
+
+-- the same, where the lasso may have fewer states: it shows the sequence of one that lies within the bounds
+abbrev pub SaysTargetWithin : Target → Bounds → Found → Type 0
+SaysTargetWithin target bounds (Trace lasso) = IsTable bounds → (other : LassoValue) × MeetsWithin target bounds other × IsSameSequence other lasso
+SaysTargetWithin target bounds (Refuted proof) = SayTarget target bounds proof.cnf.clauses
+SaysTargetWithin target bounds (Unknown proof) = SayTarget target bounds proof.cnf.clauses
 
 -- what is refuted rules the target out
 abbrev pub RulesOut : Target → Bounds → Found → Type 0

@@ -1,13 +1,15 @@
 //! The search of a target's clauses for a lasso, and its decoding.
 
 ghost use Rattle.std.specs.Prelude.{◌≡◌, IfOk, length};
-ghost use Rattle.answer_search.specs.Clauses.{RulesOut, SaysTarget};
+ghost use Rattle.bound_uppers.specs.Table.{IsTable};
+ghost use Rattle.bound_uppers.specs.Candidates.{IsCandidate, Agrees, HasOneLoop};
+ghost use Rattle.answer_search.specs.Clauses.{RulesOut, SaysTarget, SaysTargetWithin};
 ghost use Rattle.answer_search.specs.Found.{IsFound, IsFoundWithin};
 
 use crate::found::Found;
 use crate::written::clauses_of;
 use base_types::Assignment;
-use bmc_laws::candidates_are_told;
+use bmc_laws::{candidates_are_told, values_tell};
 use bound_laws::candidates_have_canonical;
 use bound_naming::have_sets;
 use bound_uppers::{Bounds, decode, shortest};
@@ -21,8 +23,10 @@ use std::alloc::{AllocError, Global};
 /// Searches for a lasso of the target within the bounds, of just as many states as these have. The only error is want of
 /// memory.
 ///
-/// Where the lines refute the clauses, no lasso within the bounds of so many states meets the target, if all its formulas have
-/// only the plain forms. The clauses ask for a canonical lasso; where there is any, there is one.
+/// A lasso lies within the bounds and meets the target, as far as its formulas have only the plain forms. Where the lines refute
+/// the clauses, no lasso within the bounds of so many states meets the target, if all formulas have only these. The clauses ask
+/// for a canonical lasso; where there is any, there is one. The lemmas of a refutation are new, and at most as many as the
+/// budget.
 pub fn search_lasso<C: Chooser>(
     alloc: Global,
     target: &Target,
@@ -38,6 +42,7 @@ pub fn search_lasso<C: Chooser>(
     let cnf = clauses_of(alloc, target, bounds)?;
     match solve_with(alloc, &cnf, chooser, budget)? {
         Outcome::Assignment(assignment) => {
+            values_tell();
             let lasso = lasso_of(alloc, bounds, &assignment)?;
             Ok(Found::Trace(lasso))
         }
@@ -67,11 +72,14 @@ pub fn search_target<C: Chooser>(
     budget: Option<u64>,
 ) -> Result<Found, AllocError>
     ensures found { IfOk result (IsFoundWithin bounds.now.states budget) }
-    ensures says { IfOk result (SaysTarget target.now bounds.now) }
+    ensures says { IfOk result (SaysTargetWithin target.now bounds.now) }
     ensures none { IfOk result (RulesOut target.now bounds.now) }
 {
     match search_lasso(alloc, target, bounds, chooser, budget)? {
-        Found::Trace(lasso) => Ok(Found::Trace(shortest(alloc, &lasso)?)),
+        Found::Trace(lasso) => {
+            let short = shortest(alloc, &lasso)?;
+            Ok(Found::Trace(short))
+        }
         Found::Refuted(proof) => Ok(Found::Refuted(proof)),
         Found::Unknown(proof) => Ok(Found::Unknown(proof)),
     }
@@ -79,7 +87,10 @@ pub fn search_target<C: Chooser>(
 
 /// The lasso for which an assignment of the table's variables stands.
 fn lasso_of(alloc: Global, bounds: &Bounds, assignment: &Assignment) -> Result<Lasso, AllocError>
-    ensures { IfOk result (λ lasso. length lasso.states ≡ bounds.now.states) }
+    ensures count { IfOk result (λ lasso. length lasso.states ≡ bounds.now.states) }
+    ensures candidate { IsTable bounds.now → IfOk result (IsCandidate bounds.now) }
+    ensures agrees { IsTable bounds.now → HasOneLoop bounds.now assignment.now →
+        IfOk result (Agrees bounds.now assignment.now) }
 {
     if bounds.states == 0 {
         // Bounds have at least one state.

@@ -3,3 +3,4 @@ pub mod Answers
 pub mod Facts
 pub mod Judged
 pub mod Certified
+pub mod Table

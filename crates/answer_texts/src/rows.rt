@@ -1,5 +1,9 @@
 //! The table: a row for each variable of the clauses that says what it stands for.
 
+ghost use Rattle.std.specs.Prelude.{◌≡◌, false, IfOk};
+ghost use Rattle.sat_dimacs.specs.Text.{has_feed};
+ghost use Rattle.answer_texts.specs.Table.{AreLines};
+
 use answer_trace::{Labels, RelationLabel, push_tuple};
 use bound_uppers::Bounds;
 use sat_dimacs::{Row, Table, has_feed};
@@ -62,10 +66,32 @@ fn push_loops(alloc: Global, table: &mut Table, states: u32, next: u64) -> Resul
     Ok(())
 }
 
+/// A row has no line feed.
+#[tactic(auto, using(crate::proofs::OneLine::line_of))]
+fn is_line(row: &Row)
+    ensures { has_feed row.now ≡ false }
+{
+    // for the proof: this call's clauses say what the text of a row is
+    let _text = row.text();
+}
+
+/// Nor has any row of a table.
+#[tactic(auto, using(crate::proofs::OneLine::lines_first, crate::proofs::OneLine::lines_more, crate::proofs::OneLine::lines_all))]
+fn rows_are_lines(rows: &[Row])
+    ensures { AreLines rows.now }
+{
+    for row in rows {
+        is_line(row);
+    }
+}
+
 /// What the variables stand for: for each state and each relation in order, a relation that isn't `var` at state 0 alone, a
 /// row for each tuple that it may have; then, where there are several states, a row for each loop index. The rows are
-/// numbered from 1.
-pub fn table(alloc: Global, labels: &Labels, bounds: &Bounds) -> Result<Table, AllocError> {
+/// numbered from 1, and each is one line.
+#[tactic(auto, using(crate::proofs::OneLine::same_lines))]
+pub fn table(alloc: Global, labels: &Labels, bounds: &Bounds) -> Result<Table, AllocError>
+    ensures { IfOk result AreLines }
+{
     let mut rows = Table::new(alloc);
     let mut next = 1u64;
     for state in 0..bounds.states {
@@ -74,5 +100,6 @@ pub fn table(alloc: Global, labels: &Labels, bounds: &Bounds) -> Result<Table, A
         }
     }
     push_loops(alloc, &mut rows, bounds.states, next)?;
+    rows_are_lines(rows.rows());
     Ok(rows)
 }
