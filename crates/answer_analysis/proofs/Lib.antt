@@ -1,1 +1,2 @@
+pub mod FaultLaw
 pub mod NoneLaw

@@ -24,6 +24,7 @@ use Rattle.bound_uppers.specs.declared.table.Bounds.{Bounds}
 use Rattle.bound_uppers.specs.Table.{IsTable}
 use Rattle.bound_uppers.specs.Uppers.{AreUppers}
 use Rattle.answer_search.specs.Clauses.{Meets, IsRuledOut}
+use Rattle.answer_checks.proofs.Kept.{named_by}
 use Rattle.answer_analysis.specs.declared.ready.Prepared.{Prepared}
 use Rattle.answer_analysis.specs.Found.{IsReady, IsTraceOf, IsUsual, NoneWithin, NoneSatisfies, RuledOutMeansNone}
 
@@ -79,18 +80,18 @@ rightly_of model scopes are = record {
   only = λ s d e get there top. top_kind d.kind e (sig_scope model scopes are s d e get there) top;
 }
 
-pub right_of : (prepared : Prepared) → AreScopes prepared.model prepared.scopes → IsUsual prepared.model → IsRight prepared.model prepared.scopes
-right_of prepared are usual = record {
-  kept = usual.kept;
-  plain = usual.plain;
-  named = usual.named;
-  owned = usual.owned;
-  rightly = rightly_of prepared.model prepared.scopes are;
+pub right_of : (number : ℕ) (prepared : Prepared) → IsReady number prepared → IsUsual prepared.model → IsRight prepared.model prepared.scopes
+right_of number prepared ready usual = record {
+  kept = ready.kept;
+  plain = ready.plain;
+  named = named_by prepared.model ready.kept usual;
+  owned = usual;
+  rightly = rightly_of prepared.model prepared.scopes ready.scopes_are;
 }
 
 none_within : (number : ℕ) (prepared : Prepared) → IsReady number prepared → (bounds : Bounds) → AreBoundsOf prepared.model prepared.scopes bounds → IsTable bounds → IsRuledOut prepared.target bounds → SatisfyingAreCandidates → NoneWithin prepared bounds.states
 none_within number prepared ready bounds are table ruled law covered usual lasso over few trace =
-    let (r, other, renaming, renamed, candidate, satisfied) = law prepared.model prepared.scopes bounds lasso prepared.model.facts (claim_of trace.command.formula) (right_of prepared ready.scopes_are usual) are over few trace.satisfies in
+    let (r, other, renaming, renamed, candidate, satisfied) = law prepared.model prepared.scopes bounds lasso prepared.model.facts (claim_of trace.command.formula) (right_of number prepared ready usual) are over few trace.satisfies in
     let shown : IsTraceOf prepared other = record { facts = trace.facts; command = trace.command; parts_are = trace.parts_are; satisfies = satisfied } in
     ruled table covered other candidate (meets number prepared ready other shown)
 

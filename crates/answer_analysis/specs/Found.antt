@@ -1,24 +1,32 @@
 -- What a model is made ready with, and what an analysis may answer.
-use Rattle.std.specs.Prelude.{◌≡◌, ◌≤◌, ◌<◌, ◌^◌, ℕ, List, [], ◌∷◌, ◌++◌, length, map, All, ⊤, Option, Some, slice_get}
+use Rattle.std.specs.Prelude.{◌≡◌, ◌≤◌, ◌<◌, ◌^◌, ◌⊎◌, ℕ, List, [], ◌∷◌, ◌++◌, length, map, All, ⊤, Option, Some, option_map, slice_get}
+use Rattle.base_types.specs.declared.place.Refusal.{Refusal}
+use Rattle.base_types.specs.declared.place.Rule.TheVariants.{Cells}
+use Rattle.syntax_tree.specs.declared.loaded.Loaded.{Loaded}
 use Rattle.bound_uppers.specs.Candidates.{IsCandidate}
 use Rattle.bound_uppers.specs.Shortest.{HasFewestStates}
 use Rattle.bound_uppers.specs.Table.{IsTable}
 use Rattle.bound_laws.specs.Satisfying.{AreBoundsOf, AreOwned, IsLassoOver}
+use Rattle.core_meaning.specs.Kept.{universe_size}
 use Rattle.core_meaning.specs.Satisfied.{Satisfies}
 use Rattle.core_meaning.specs.Sequence.{LassoValue}
 use Rattle.core_tree.specs.Trees.{claim_of}
 use Rattle.core_tree.specs.declared.model.Command.{Command}
 use Rattle.core_tree.specs.Models.{IsModel}
 use Rattle.core_tree.specs.declared.model.Model.{Model}
-use Rattle.resolve_check.specs.Kept.{IsModelButTypes}
-use Rattle.bound_scopes.specs.Limits.{AreScopes}
+use Rattle.bound_scopes.specs.Limits.{AreScopes, IsScopeRule, no_command}
+use Rattle.bound_scopes.specs.Numbers.{IsListed}
+use Rattle.core_laws.specs.Typed.{ExtendsPlain}
 use Rattle.bound_definitions.specs.Numbers.{AreScopesBy}
-use Rattle.core_laws.specs.Typed.{ExtendsPlain, BoundsNameOwned}
 use Rattle.form_target.specs.Targets.{fact_claims, IsTargetOf}
 use Rattle.form_target.specs.declared.target.Part.{Part}
+use Rattle.resolve_model.specs.Refused.{IsOfReadings}
 use Rattle.answer_search.specs.Clauses.{IsCovered, SayTarget}
+use Rattle.answer_search.specs.Found.{AreNewWithin}
 use Rattle.answer_search.specs.Limits.{IsRuledOutOver}
+use Rattle.answer_texts.specs.Table.{AreLines}
 use Rattle.answer_trace.specs.Made.{AreRelationsOf, relation_labels_of, universe_texts}
+use Rattle.answer_laws.specs.Form.{HaveLassos, IsLassoOf}
 use Rattle.answer_analysis.specs.declared.ready.Prepared.{Prepared}
 use Rattle.sat_lrat.specs.Step.{Refutes}
 use Rattle.sat_lrat.specs.Spent.{Spends}
@@ -27,12 +35,14 @@ use Rattle.answer_analysis.specs.declared.answer.Answer.TheVariants.{Trace, Refu
 use Rattle.answer_analysis.specs.declared.fault.AnalyseFault.{AnalyseFault}
 use Rattle.answer_analysis.specs.declared.fault.AnalyseFault.TheVariants.{Refused, Read, Memory}
 
--- a model made ready for its command of this number: the model keeps what resolved models keep, the parts
--- are its facts and then that command, the target is that of the command under the scopes, these are the ones that the rules
--- give the command, the bounds are those of the model and the scopes and have a table, and the labels are exactly those of its
--- relations and of its universe
+-- a model made ready for its command of this number: the model keeps what resolved models keep, and no sig of it extends an
+-- `in` sig; the parts are its facts and then that command, the target is that of the command under the scopes, these are the
+-- ones that the rules give the command, the bounds are those of the model and the scopes and
+-- have a table; the labels are exactly those of its relations and of its universe, an atom for each number of it, and each text
+-- under them is that of one lasso
 pub record IsReady (number : ℕ) (prepared : Prepared) : Type 0 where
-  pub kept : IsModelButTypes prepared.model
+  pub kept : IsModel prepared.model
+  pub plain : ExtendsPlain prepared.model.sigs
   pub command : Command
   pub chosen : slice_get prepared.model.commands number ≡ Some command
   pub parts_are : map (λ (p : Part). claim_of p.formula) prepared.parts ≡ fact_claims prepared.model.facts ++ claim_of command.formula ∷ []
@@ -41,12 +51,15 @@ pub record IsReady (number : ℕ) (prepared : Prepared) : Type 0 where
   pub counted : length prepared.scopes.numbers ≡ length prepared.model.sigs
   pub scopes_are : AreScopes prepared.model prepared.scopes
   pub scoped_by : AreScopesBy prepared.model command prepared.scopes
+  pub listed : All (IsListed prepared.scopes.numbers) command.scope
   pub table : IsTable prepared.bounds
   pub bounds_are : AreBoundsOf prepared.model prepared.scopes prepared.bounds
   pub states : prepared.bounds.states ≡ prepared.scopes.states
   pub relations_are : AreRelationsOf prepared.model prepared.labels
   pub labels_are : prepared.labels.relations ≡ relation_labels_of prepared.model prepared.scopes
   pub atoms_are : prepared.labels.atoms ≡ universe_texts prepared.model prepared.scopes
+  pub read : HaveLassos prepared.labels
+  pub universe : length prepared.labels.atoms ≡ universe_size prepared.scopes
 
 -- a lasso satisfies a model that was made ready and its command, which is the last part
 pub record IsTraceOf (prepared : Prepared) (lasso : LassoValue) : Type 0 where
@@ -55,14 +68,9 @@ pub record IsTraceOf (prepared : Prepared) (lasso : LassoValue) : Type 0 where
   pub parts_are : prepared.parts ≡ facts ++ command ∷ []
   pub satisfies : Satisfies prepared.model prepared.scopes lasso (claim_of command.formula)
 
--- What no clause says yet of a model that was made ready: that the types of its fields are those of their declarations, that no
--- sig extends an `in` sig, and that the bounds of fields name fields of sigs alone; and each field belongs to a sig, none stands
--- for a relation parameter.
-pub record IsUsual (model : Model) : Type 0 where
-  pub kept : IsModel model
-  pub plain : ExtendsPlain model.sigs
-  pub named : BoundsNameOwned model
-  pub owned : AreOwned model
+-- what is asked of a model beside that it was made ready: each field belongs to a sig, none stands for a relation parameter
+abbrev pub IsUsual : Model → Type 0
+IsUsual model = AreOwned model
 
 -- where all formulas that are searched have plain forms, and the model is usual, no lasso of at most so many states satisfies the
 -- model and its command
@@ -80,22 +88,38 @@ pub record NoneSatisfies (prepared : Prepared) : Type 0 where
   -- and none at all of at most as many states as the scopes say
   pub lassos : NoneWithin prepared prepared.scopes.states
 
--- A trace satisfies the model and the command, and has the fewest states that show its sequence. Where there is no lasso, the
--- lines refute the clauses, and where all formulas that are searched have plain forms no lasso satisfies the model and the
--- command, as `NoneSatisfies` says. Only a budget that is spent leaves it open: there are just as many lemmas, each new and none
--- empty, and one more would pass; and it is below 3 to the power of the number of variables. The clauses say what the target
--- does, as `SayTarget` tells.
+-- A trace satisfies the model and the command, is a lasso of the labels, and has the fewest states that show its sequence. Where
+-- there is no lasso, the lines refute the clauses, their lemmas are new and at most as many as the budget, and where all formulas
+-- that are searched have plain forms no lasso satisfies the model and the command, as `NoneSatisfies` says. Only a budget that is
+-- spent leaves it open: there are just as many lemmas, each new and none empty, and one more would pass; and it is below 3 to the
+-- power of the number of variables. The clauses say what the target does, as `SayTarget` tells, and each row of the table is one
+-- line.
 abbrev pub IsFoundIn : Prepared → Option ℕ → Answer → Type 0
-IsFoundIn prepared budget (Trace labels lasso) = (labels ≡ prepared.labels) × IsTraceOf prepared lasso × (length lasso.states ≤ prepared.bounds.states) × HasFewestStates lasso
-IsFoundIn prepared budget (Refuted table states cnf lines) = (states ≡ prepared.bounds.states) × Refutes cnf.clauses lines × ((number : ℕ) → IsReady number prepared → NoneSatisfies prepared) × SayTarget prepared.target prepared.bounds cnf.clauses
-IsFoundIn prepared budget (Unknown table cnf lines) = (budget ≡ Some (length lines)) × Spends cnf.clauses (length lines) lines × (length lines < 3 ^ cnf.variables) × SayTarget prepared.target prepared.bounds cnf.clauses
+IsFoundIn prepared budget (Trace labels lasso) = (labels ≡ prepared.labels) × IsTraceOf prepared lasso × IsLassoOf prepared.labels lasso × (length lasso.states ≤ prepared.bounds.states) × HasFewestStates lasso
+IsFoundIn prepared budget (Refuted table states cnf lines) = (states ≡ prepared.bounds.states) × Refutes cnf.clauses lines × ((number : ℕ) → IsReady number prepared → NoneSatisfies prepared) × SayTarget prepared.target prepared.bounds cnf.clauses × AreNewWithin budget cnf.clauses lines × AreLines table
+IsFoundIn prepared budget (Unknown table cnf lines) = (budget ≡ Some (length lines)) × Spends cnf.clauses (length lines) lines × (length lines < 3 ^ cnf.variables) × SayTarget prepared.target prepared.bounds cnf.clauses × AreLines table
 
--- the same of a model that was made ready for its command of this number
-abbrev pub IsFound : ℕ → Option ℕ → Answer → Type 0
-IsFound number budget answer = (prepared : Prepared) × IsReady number prepared × IsFoundIn prepared budget answer
+-- the same of the model of what is loaded, made ready for its command of this number
+abbrev pub IsFound : Loaded → ℕ → Option ℕ → Answer → Type 0
+IsFound loaded number budget answer = (prepared : Prepared) × (prepared.loaded ≡ loaded) × IsReady number prepared × IsFoundIn prepared budget answer
 
--- a fault once the model is loaded: no library is asked then
-abbrev pub IsLoadedFault : AnalyseFault → Type 0
-IsLoadedFault (Refused refusal name) = ⊤
-IsLoadedFault (Read name) = ⊥
-IsLoadedFault Memory = ⊤
+-- the name is that of the text of the place, which is one of those that are loaded
+abbrev pub IsOfText : Loaded → Refusal → List ℕ → Type 0
+IsOfText loaded refusal name = option_map (λ t. t.name) (slice_get loaded.texts refusal.place.module) ≡ Some name
+
+-- By a rule on a command and its scopes: there is none of the number that was asked for, which is said at the beginning of the
+-- root; or one on its scopes, or on formulas under them, is broken; or its table is too large.
+pub data IsOfCommand (refusal : Refusal) : Type 0 where
+  no_such : refusal ≡ no_command → IsOfCommand refusal
+  on_scopes : IsScopeRule refusal.rule → IsOfCommand refusal
+  too_large : refusal.rule ≡ Cells → IsOfCommand refusal
+
+-- by a rule on names, sigs, fields and readings, at a place of a text that is loaded; or by one on a command and its scopes
+abbrev pub IsOfModel : Loaded → Refusal → Type 0
+IsOfModel loaded refusal = IsOfReadings (length loaded.texts) refusal ⊎ IsOfCommand refusal
+
+-- a fault once the model is loaded: no library is asked then, and a refusal names the text of its place
+abbrev pub IsLoadedFault : Loaded → AnalyseFault → Type 0
+IsLoadedFault loaded (Refused refusal name) = IsOfText loaded refusal name × IsOfModel loaded refusal
+IsLoadedFault loaded (Read name) = ⊥
+IsLoadedFault loaded Memory = ⊤

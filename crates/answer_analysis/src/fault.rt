@@ -1,6 +1,6 @@
 //! Why there is no analysis: a refusal, a library that failed, or want of memory.
 
-ghost use Rattle.answer_analysis.specs.Found.{IsLoadedFault};
+ghost use Rattle.answer_analysis.specs.Found.{IsLoadedFault, IsOfModel};
 
 use base_types::{Name, Refusal};
 use std::alloc::{AllocError, AllocFailed, Global};
@@ -39,18 +39,18 @@ impl<T: Drop> From<AllocFailed<T>> for AnalyseFault {
     }
 }
 
-/// The refusal, with the name of the loaded text that has its place.
+/// The refusal, with the name of the loaded text that has its place. No refusal of a model has its place in another text.
+#[tactic(auto, using(crate::proofs::FaultLaw::named_fault))]
 pub fn refused_in(alloc: Global, loaded: &Loaded, refusal: Refusal) -> AnalyseFault
-    ensures { IsLoadedFault result }
+    requires { IsOfModel loaded.now refusal }
+    ensures { IsLoadedFault loaded.now result }
 {
     let texts = &loaded.texts;
     let number = refusal.place.module as usize;
-    let name = if number < texts.len() {
-        Name::copy(alloc, texts.get(number).name.text())
-    } else {
-        Name::copy(alloc, "")
-    };
-    match name {
+    if number >= texts.len() {
+        return AnalyseFault::Memory;
+    }
+    match Name::copy(alloc, texts.get(number).name.text()) {
         Ok(name) => AnalyseFault::Refused(refusal, name),
         Err(_) => AnalyseFault::Memory,
     }

@@ -1,27 +1,30 @@
 //! A model made ready for a search: its scopes, bounds and target.
 
-ghost use Rattle.std.specs.Prelude.{◌≡◌, ◌<◌, ◌≤◌, map, IfOk, IfErr, IfSome, length, slice_get};
+ghost use Rattle.std.specs.Prelude.{◌≡◌, ◌<◌, ◌≤◌, map, All, IfOk, IfErr, IfSome, length, slice_get};
 ghost use Rattle.bound_uppers.specs.declared.table.Bound.{Bound};
 ghost use Rattle.bound_uppers.specs.Table.{IsTable, are_fixed};
 ghost use Rattle.bound_owners.specs.Own.{HasOrigins};
 ghost use Rattle.bound_uppers.specs.Uppers.{AreUppers};
 ghost use Rattle.core_meaning.specs.Kept.{universe_size};
 ghost use Rattle.answer_analysis.specs.Found.{IsLoadedFault, IsReady};
-ghost use Rattle.resolve_check.specs.Kept.{IsModelButTypes};
+ghost use Rattle.core_laws.specs.Typed.{ExtendsPlain};
+ghost use Rattle.core_tree.specs.Models.{IsModel};
 ghost use Rattle.bound_scopes.specs.Limits.{AreScopes};
 ghost use Rattle.bound_definitions.specs.Numbers.{AreScopesBy};
+ghost use Rattle.bound_scopes.specs.Numbers.{IsListed};
 ghost use Rattle.answer_trace.specs.Made.{AreRelationsOf, relation_labels_of, universe_texts};
+ghost use Rattle.answer_laws.specs.Form.{HaveLassos};
 
 use crate::fault::{AnalyseFault, refused_in};
+use answer_checks::{extends_plain, has_universe, have_lassos, keeps_whole_model};
 use answer_trace::{Labels, make_labels};
-use base_types::Position;
+use base_types::{Position, Refusal, Rule};
 use bound_scopes::{ScopeFault, scopes};
 use bound_uppers::{Bounds, BoundsFault, bounds};
 use core_meaning::{Scopes, Target};
 use core_tree::Model;
 use form_skolem::open_params;
 use form_target::{PartList, parts_of, target_of};
-use resolve_check::keeps_model;
 use resolve_model::{ResolveFault, resolve};
 use std::alloc::{AllocError, Global};
 use syntax_tree::Loaded;
@@ -43,7 +46,7 @@ pub struct Prepared {
 
 /// The model of what is loaded.
 fn model_of(alloc: Global, loaded: &Loaded) -> Result<Model, AnalyseFault>
-    ensures { IfErr result IsLoadedFault }
+    ensures { IfErr result (IsLoadedFault loaded.now) }
 {
     match resolve(alloc, loaded) {
         Ok(model) => Ok(model),
@@ -52,13 +55,21 @@ fn model_of(alloc: Global, loaded: &Loaded) -> Result<Model, AnalyseFault>
     }
 }
 
-/// The model, where it keeps what resolved models keep. The fields that stand for relation parameters
-/// take nothing of that away; it is tested once more on the model itself.
+/// The model, where it keeps what resolved models keep, and no sig of it extends an `in` sig. The fields
+/// that stand for relation parameters take nothing of that away; it is tested once more on the model itself.
 fn kept(alloc: Global, model: Model) -> Result<Model, AllocError>
-    ensures { IfOk result IsModelButTypes }
+    ensures kept { IfOk result IsModel }
+    ensures plain { IfOk result (λ m. ExtendsPlain m.sigs) }
 {
-    let is_kept = keeps_model(alloc, &model)?;
-    if is_kept { Ok(model) } else { Err(AllocError) }
+    let is_kept = keeps_whole_model(alloc, &model)?;
+    if !is_kept {
+        return Err(AllocError);
+    }
+    if extends_plain(&model.sigs) {
+        Ok(model)
+    } else {
+        Err(AllocError)
+    }
 }
 
 /// The scopes of a command of the model.
@@ -71,7 +82,9 @@ fn scopes_of(
     ensures scopes { IfOk result (λ s. AreScopes model.now s) }
     ensures by { IfOk result (λ s. IfSome (slice_get model.now.commands command)
         (λ c. AreScopesBy model.now c s)) }
-    ensures fault { IfErr result IsLoadedFault }
+    ensures listed { IfSome (slice_get model.now.commands command)
+        (λ c. IfOk result (λ s. All (IsListed s.numbers) c.scope)) }
+    ensures fault { IfErr result (IsLoadedFault loaded.now) }
 {
     match scopes(alloc, model, command) {
         Ok(scopes) => Ok(scopes),
@@ -95,22 +108,32 @@ fn bounds_of(
     ensures fixed { IfOk result (λ b. map (λ (c : Bound). c.fixed) b.relations
         ≡ are_fixed model.now) }
     ensures states { IfOk result (λ b. 0 < scopes.now.states → b.states ≡ scopes.now.states) }
-    ensures fault { IfErr result IsLoadedFault }
+    ensures fault { IfErr result (IsLoadedFault loaded.now) }
 {
     match bounds(alloc, model, scopes, keyword) {
         Ok(bounds) => Ok(bounds),
-        Err(BoundsFault::Refused(refusal)) => Err(refused_in(alloc, loaded, refusal)),
+        // The one rule on bounds, which is broken at the command.
+        Err(BoundsFault::Refused(_)) => {
+            let refusal = Refusal {
+                rule: Rule::Cells,
+                place: keyword,
+            };
+            Err(refused_in(alloc, loaded, refusal))
+        }
         Err(BoundsFault::Memory) => Err(AnalyseFault::Memory),
     }
 }
 
-/// The labels of the model's relations and atoms.
+/// The labels of the model's relations and atoms, which are tested: each text under them is that of one lasso, and there is an
+/// atom for each number of the universe. No labels of a model are known that are not so.
 fn labels_of(alloc: Global, model: &Model, scopes: &Scopes) -> Result<Labels, AllocError>
     ensures relations { IfOk result (λ labels. AreRelationsOf model.now labels) }
     ensures labels { IfOk result (λ labels. labels.relations
         ≡ relation_labels_of model.now scopes.now) }
     ensures atoms { IfOk result (λ labels. labels.atoms ≡ universe_texts model.now scopes.now) }
     ensures counted { IfOk result (λ labels. length scopes.now.numbers ≡ length model.now.sigs) }
+    ensures read { IfOk result HaveLassos }
+    ensures universe { IfOk result (λ labels. length labels.atoms ≡ universe_size scopes.now) }
 {
     let relations = model.sigs.len().saturating_add(model.fields.len());
     let known = scopes.numbers.len();
@@ -121,20 +144,27 @@ fn labels_of(alloc: Global, model: &Model, scopes: &Scopes) -> Result<Labels, Al
     if scopes.bits < 1 || scopes.bits > 12 {
         return Err(AllocError);
     }
-    make_labels(alloc, model, scopes)
+    let labels = make_labels(alloc, model, scopes)?;
+    let have = have_lassos(alloc, &labels)?;
+    if !have {
+        return Err(AllocError);
+    }
+    if !has_universe(&labels, scopes) {
+        return Err(AllocError);
+    }
+    Ok(labels)
 }
 
 /// Resolves and bounds a loaded model and writes its formulas in the kernel of the language. The
-/// model keeps what resolved models keep, but for the rows of its fields' types, of which no
-/// clause speaks.
+/// model keeps what resolved models keep.
 ///
 /// A refusal is the first broken rule: on names, sigs, fields and readings, then of the command
 /// and its scopes, with the name of the text that has its place.
 pub fn prepare_loaded(alloc: Global, loaded: Loaded, command: u32) -> Result<Prepared, AnalyseFault>
-    ensures kept { IfOk result (λ prepared. IsModelButTypes prepared.model) }
+    ensures kept { IfOk result (λ prepared. IsModel prepared.model) }
     ensures loaded { IfOk result (λ prepared. prepared.loaded ≡ loaded) }
     ensures ready { IfOk result (IsReady command) }
-    ensures fault { IfErr result IsLoadedFault }
+    ensures fault { IfErr result (IsLoadedFault loaded) }
 {
     let resolved = model_of(alloc, &loaded)?;
     let model = kept(alloc, open_params(alloc, resolved, command)?)?;

@@ -2,11 +2,13 @@
 
 ghost use Rattle.std.specs.Prelude.{◌≤◌, ℕ, length, Option, IfOk, IfErr, IsTrue};
 ghost use Rattle.bound_uppers.specs.Shortest.{HasFewestStates};
+ghost use Rattle.answer_laws.specs.Form.{IsLassoOf};
 ghost use Rattle.answer_analysis.specs.Found.{IsFound, IsFoundIn, IsLoadedFault, IsTraceOf};
 
 use crate::answer::Answer;
 use crate::fault::AnalyseFault;
 use crate::ready::{Prepared, prepare_loaded};
+use answer_checks::fits_labels;
 use answer_search::{Found, search_target};
 use answer_texts::table;
 use bound_laws::satisfying_lassos_are_candidates;
@@ -30,18 +32,23 @@ pub fn analyse_loaded(
     chooser: Box<dyn Chooser>,
     budget: Option<u64>,
 ) -> Result<Answer, AnalyseFault>
-    ensures found { IfOk result (IsFound command budget) }
-    ensures fault { IfErr result IsLoadedFault }
+    ensures found { IfOk result (IsFound loaded command budget) }
+    ensures fault { IfErr result (IsLoadedFault loaded) }
 {
     let prepared = prepare_loaded(alloc, loaded, command)?;
     let answer = search_prepared(alloc, prepared, chooser, budget)?;
     Ok(answer)
 }
 
-/// Whether a lasso satisfies a model that was made ready and its command, by their meaning alone.
+/// Whether a lasso is one of the labels of a model that was made ready, and satisfies the model and its command, by their
+/// meaning alone.
 pub fn is_trace(alloc: Global, prepared: &Prepared, lasso: &Lasso) -> Result<bool, AllocError>
-    ensures { IfOk result (λ b. IsTrue b → IsTraceOf prepared.now lasso.now) }
+    ensures trace { IfOk result (λ b. IsTrue b → IsTraceOf prepared.now lasso.now) }
+    ensures fits { IfOk result (λ b. IsTrue b → IsLassoOf prepared.now.labels lasso.now) }
 {
+    if !fits_labels(&prepared.labels, lasso) {
+        return Ok(false);
+    }
     let Some((command, _)) = prepared.parts.as_slice().split_last() else {
         // The command is a part.
         return Err(AllocError);
@@ -51,8 +58,8 @@ pub fn is_trace(alloc: Global, prepared: &Prepared, lasso: &Lasso) -> Result<boo
     Ok(holds)
 }
 
-/// The answer of a search in a model that was made ready. A lasso is an answer only where it satisfies the model and the
-/// command by their meaning: that is tested on it, though no search is known to find another.
+/// The answer of a search in a model that was made ready. A lasso is an answer only where it is one of the labels and satisfies
+/// the model and the command by their meaning: that is tested on it, though no search is known to find another.
 pub fn search_prepared(
     alloc: Global,
     prepared: Prepared,

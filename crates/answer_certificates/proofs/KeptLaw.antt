@@ -278,7 +278,7 @@ module _ (number : ℕ) (prepared : Prepared) (kept : List ℕ) (clauses : List 
   no_lasso : SatisfyingAreCandidates → All IsCovered prepared.target.formulas → IsUsual prepared.model →
       (lasso : LassoValue) → IsLassoOver prepared.model prepared.scopes lasso → length lasso.states ≤ out.limits.states → KeepsFacts prepared kept lasso → ⊥
   no_lasso law covered usual lasso over few keeps =
-      let right = right_of prepared ready.scopes_are usual in
+      let right = right_of number prepared ready usual in
       let (r, other, renaming, renamed, candidate, satisfied) = law prepared.model prepared.scopes out.limits lasso (facts_at prepared.model.facts kept) (claim_of keeps.command.formula) right limits_are over few keeps.satisfies in
       let also : KeepsFacts prepared kept other = record { facts = keeps.facts; command = keeps.command; parts_are = keeps.parts_are; satisfies = satisfied } in
       no_candidate covered other candidate also

@@ -3,3 +3,4 @@ pub mod Keeping
 pub mod Staying
 pub mod KeptLaw
 pub mod LeastLaw
+pub mod ShrunkLaw

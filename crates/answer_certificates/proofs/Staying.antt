@@ -1,20 +1,16 @@
 -- The formulas that stay where facts are left out.
-use Rattle.std.proofs.Common.{◌≡◌, ℕ, zero, suc, ◌+◌, ◌-◌, ◌<◌, ◌≤◌, Bool, true, false, not, ◌||◌, cond, List, [], ◌∷◌, ◌++◌, map, length, drop, get_or, slice_get, replicate, Option, Some, refl, sym, ap, ◌∙◌, subst, append_assoc, append-nil, drop-cons, add-one, nat_lt}
+use Rattle.std.proofs.Common.{◌≡◌, ℕ, zero, suc, ◌+◌, ◌-◌, ◌<◌, ◌≤◌, Bool, true, false, not, ◌||◌, cond, List, [], ◌∷◌, ◌++◌, map, length, drop, get_or, slice_get, replicate, Some, refl, sym, ap, ◌∙◌, subst, append_assoc, append-nil, drop-cons, add-one, nat_lt}
 use Rattle.std.proofs.lemmas.List.{drop_all}
 use Rattle.std.proofs.lemmas.Option.{slice_get-get_or}
 use Rattle.core_tree.specs.declared.tree.Formula.{Formula}
 use Rattle.core_tree.specs.Trees.{Claim, claim_of}
 use Rattle.core_meaning.specs.declared.target.Target.{Target}
 use Rattle.bound_uppers.specs.declared.table.Bounds.{Bounds}
-use Rattle.answer_search.specs.Clauses.{SaysTarget, RulesOut}
-use Rattle.answer_search.specs.Limits.{AreLimitsOf}
+use Rattle.answer_search.specs.Clauses.{SaysTargetWithin, RulesOut}
 use Rattle.answer_search.specs.declared.found.Found.{Found}
 use Rattle.answer_search.specs.declared.found.Found.TheVariants.{Trace, Refuted, Unknown}
-use Rattle.core_tree.specs.declared.model.Model.{Model}
-use Rattle.answer_certificates.specs.declared.facts.Core.{Core}
-use Rattle.answer_certificates.specs.declared.facts.Core.TheVariants as core
 use Rattle.answer_certificates.specs.Parts.{staying, stays, IsPartOf}
-use Rattle.answer_certificates.specs.Core.{IsSearchedFor, IsShrunk, IsCore}
+use Rattle.answer_certificates.specs.Core.{IsSearchedFor}
 
 -- the formulas from a place on
 next_formula : (formulas : List Formula) (place : ℕ) (f : Formula) → place < length formulas → get_or formulas place f ≡ f → drop place formulas ≡ f ∷ drop (place + 1) formulas
@@ -68,19 +64,7 @@ whole_part target first n dropped is = record {
 
 -- ---- what the searches show
 
-pub searched_for : (target part : Target) (first : ℕ) (limits : Bounds) (dropped : List Bool) (found : Found) → IsPartOf target first dropped part → SaysTarget part limits found → RulesOut part limits found → IsSearchedFor target first limits dropped found
+pub searched_for : (target part : Target) (first : ℕ) (limits : Bounds) (dropped : List Bool) (found : Found) → IsPartOf target first dropped part → SaysTargetWithin part limits found → RulesOut part limits found → IsSearchedFor target first limits dropped found
 searched_for target part first limits dropped (Trace lasso) is says rules = tt
 searched_for target part first limits dropped (Refuted proof) is says rules = record { part = part; is_part = is; says = says; ruled = rules }
 searched_for target part first limits dropped (Unknown proof) is says rules = record { part = part; is_part = is; says = says }
-
-pub shrunk_core : (model : Model) (target : Target) (first facts : ℕ) (limits : Bounds) (budget : Option ℕ) (found : Core) → limits.states ≡ target.scopes.states → AreLimitsOf model target.scopes limits → IsShrunk target first facts limits budget found → IsCore model target first facts budget found
-shrunk_core model target first facts limits budget (core.Trace lasso) states are shrunk = absurd shrunk
-shrunk_core model target first facts limits budget (core.Refuted kept proof) states are shrunk = (
-  shrunk.0,
-  (shrunk.1.0 ∙ states, shrunk.1.1),
-  record { dropped = shrunk.2; left_out = shrunk.3; limits = limits; states = states; limits_are = are; refuted = shrunk.4 },
-)
-shrunk_core model target first facts limits budget (core.Unknown proof) states are shrunk = (
-  (shrunk.0.0 ∙ states, shrunk.0.1),
-  record { dropped = shrunk.1; limits = limits; states = states; limits_are = are; said = shrunk.2 },
-)

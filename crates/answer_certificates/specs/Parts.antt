@@ -1,5 +1,5 @@
 -- A target without the formulas of some facts.
-use Rattle.std.specs.Prelude.{◌≡◌, ◌<◌, ◌-◌, ℕ, ◌+◌, ℤ, Bool, false, not, ◌||◌, nat_lt, if◌then◌else◌, List, [], ◌∷◌, map, length, slice_index_or}
+use Rattle.std.specs.Prelude.{◌≡◌, ◌<◌, ◌≤◌, ◌-◌, ℕ, ◌+◌, ℤ, Bool, false, not, ◌||◌, nat_lt, if◌then◌else◌, List, [], ◌∷◌, map, length, slice_index_or}
 use Rattle.std.specs.List.{Contains}
 use Rattle.core_tree.specs.declared.model.Model.{Model}
 use Rattle.core_tree.specs.declared.tree.Formula.{Formula}
@@ -41,10 +41,11 @@ pub record AreRefutedFor (target : Target) (first : ℕ) (limits : Bounds) (drop
   pub says : SayTarget part limits clauses
   pub ruled : IsRuledOut part limits
 
--- clauses say what a target does without the formulas of some facts, within the bounds of the model, over as many states as the
--- scopes say
-pub record SayPart (model : Model) (target : Target) (first : ℕ) (clauses : List (List ℤ)) : Type 0 where
+-- clauses say what a target does without the formulas of some of its so many facts, within the bounds of the model, over as many
+-- states as the scopes say
+pub record SayPart (model : Model) (target : Target) (first facts : ℕ) (clauses : List (List ℤ)) : Type 0 where
   pub dropped : List Bool
+  pub few : length dropped ≤ facts
   pub limits : Bounds
   pub states : limits.states ≡ target.scopes.states
   pub limits_are : AreLimitsOf model target.scopes limits

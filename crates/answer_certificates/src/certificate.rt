@@ -5,6 +5,7 @@ ghost use Rattle.answer_analysis.specs.Found.{IsTraceOf};
 ghost use Rattle.answer_analysis.specs.declared.ready.Prepared.{Prepared as PreparedOf};
 ghost use Rattle.answer_search.specs.Found.{Spends};
 ghost use Rattle.answer_trace.specs.Text.{trace_text};
+ghost use Rattle.answer_laws.specs.Form.{IsLassoOf};
 ghost use Rattle.answer_texts.specs.Certified.{trace_part};
 ghost use Rattle.answer_certificates.specs.Certificate.{IsShort, ShowsTrace, IsSpentText};
 
@@ -37,7 +38,8 @@ pub fn trace_shown(
     part: Part,
 ) -> Result<Bytes, AllocError>
     ensures { (prepared : PreparedOf) → labels.now ≡ prepared.labels → IsTraceOf prepared lasso.now
-        → IsShort prepared lasso.now → IfOk result (ShowsTrace prepared part) }
+        → IsLassoOf prepared.labels lasso.now → IsShort prepared lasso.now →
+        IfOk result (ShowsTrace prepared part) }
 {
     let shown = lasso_part(alloc, labels, lasso, part)?;
     Ok(shown)
@@ -79,14 +81,15 @@ pub fn spent_shown(
     Ok(shown)
 }
 
-/// Goes on where a lasso that a search has found satisfies the prepared model and its command. No search is known to find
-/// another; the answer to such a one would be that of want of memory.
+/// Goes on where a lasso that a search has found is one of the prepared model's labels and satisfies the model and its command.
+/// No search is known to find another; the answer to such a one would be that of want of memory.
 pub(crate) fn test_trace(
     alloc: Global,
     prepared: &Prepared,
     lasso: &Lasso,
 ) -> Result<(), AllocError>
-    ensures { IfOk result (λ r. IsTraceOf prepared.now lasso.now) }
+    ensures trace { IfOk result (λ r. IsTraceOf prepared.now lasso.now) }
+    ensures fits { IfOk result (λ r. IsLassoOf prepared.now.labels lasso.now) }
 {
     let holds = is_trace(alloc, prepared, lasso)?;
     if holds { Ok(()) } else { Err(AllocError) }

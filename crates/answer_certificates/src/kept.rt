@@ -1,7 +1,8 @@
 //! The search for facts that rule out every trace, and the texts of its answers.
 
-ghost use Rattle.std.specs.Prelude.{◌≡◌, ◌-◌, length, IfOk};
+ghost use Rattle.std.specs.Prelude.{◌≡◌, ◌-◌, ℕ, length, Option, IfOk};
 ghost use Rattle.sat_lrat.specs.Step.{Refutes};
+ghost use Rattle.answer_search.specs.Found.{AreNewWithin};
 ghost use Rattle.answer_certificates.specs.Certificate.{IsCoreText, ShowsFacts};
 ghost use Rattle.answer_certificates.specs.Named.{AreNamed};
 
@@ -97,7 +98,8 @@ fn core_shown(
     part: Part,
 ) -> Result<Bytes, AllocError>
     requires { Refutes proof.cnf.clauses proof.lines }
-    ensures { IfOk result (λ text. ShowsFacts proof.cnf proof.states part facts.now text) }
+    ensures { (budget : Option ℕ) → AreNewWithin budget proof.cnf.clauses proof.lines →
+        IfOk result (λ text. ShowsFacts proof.cnf proof.states budget part facts.now text) }
 {
     bounds.states = proof.states;
     let rows = table(alloc, labels, &bounds)?;

@@ -1,9 +1,11 @@
 //! The search for a trace of the fewest states, and the texts of its answers.
 
-ghost use Rattle.std.specs.Prelude.{◌≡◌, ◌⊎◌, ◌<◌, ◌-◌, ℕ, IfOk, length, None, Some};
+ghost use Rattle.std.specs.Prelude.{◌≡◌, ◌⊎◌, ◌<◌, ◌-◌, ℕ, IfOk, length, Option, None, Some};
 ghost use Rattle.answer_analysis.specs.Found.{IsReady, IsTraceOf, NoneWithin};
+ghost use Rattle.answer_laws.specs.Form.{IsLassoOf};
 ghost use Rattle.sat_lrat.specs.Step.{Refutes};
-ghost use Rattle.answer_certificates.specs.Certificate.{IsLeastText, ShowsOne, ShowsAbove, IsNoneText, SayOverStates};
+ghost use Rattle.answer_search.specs.Found.{AreNewWithin};
+ghost use Rattle.answer_certificates.specs.Certificate.{HasFewStates, IsLeastText, ShowsOne, ShowsAbove, IsNoneText, SayOverStates};
 
 use crate::certificate::{Certificate, lasso_part, spent_shown, test_trace};
 use crate::{Least, find_least};
@@ -58,17 +60,27 @@ fn least_shown(
     part: Part,
 ) -> Result<Bytes, AllocError>
     requires trace { IsTraceOf prepared lasso.now }
+    requires fits { IsLassoOf prepared.labels lasso.now }
     requires none { below ≡ None → length lasso.now.states ≡ 1 }
     requires some { (proof : _) → below ≡ Some proof → (1 < length lasso.now.states)
         × Refutes proof.cnf.clauses proof.lines × ((number : ℕ) → IsReady number prepared →
         NoneWithin prepared (length lasso.now.states - 1)) }
     requires says { (proof : _) → below ≡ Some proof →
         SayOverStates prepared (length lasso.now.states - 1) proof.cnf }
-    ensures { IfOk result (λ text. ShowsOne prepared part text ⊎ ShowsAbove prepared part text) }
+    requires few { HasFewStates prepared lasso.now }
+    ensures { (budget : Option ℕ) → ((proof : _) → below ≡ Some proof →
+        AreNewWithin budget proof.cnf.clauses proof.lines) →
+        IfOk result (λ text. ShowsOne prepared part text ⊎ ShowsAbove prepared part budget text) }
 {
     match below {
-        None => one_shown(alloc, &prepared, lasso, part),
-        Some(proof) => above_shown(alloc, prepared, lasso, proof, part),
+        None => {
+            let text = one_shown(alloc, &prepared, lasso, part)?;
+            Ok(text)
+        }
+        Some(proof) => {
+            let text = above_shown(alloc, prepared, lasso, proof, part)?;
+            Ok(text)
+        }
     }
 }
 
@@ -80,7 +92,9 @@ fn one_shown(
     part: Part,
 ) -> Result<Bytes, AllocError>
     requires trace { IsTraceOf prepared.now lasso.now }
+    requires fits { IsLassoOf prepared.now.labels lasso.now }
     requires one { length lasso.now.states ≡ 1 }
+    requires few { HasFewStates prepared.now lasso.now }
     ensures { IfOk result (λ text. ShowsOne prepared.now part text) }
 {
     let shown = lasso_part(alloc, &prepared.labels, lasso, part)?;
@@ -96,12 +110,15 @@ fn above_shown(
     part: Part,
 ) -> Result<Bytes, AllocError>
     requires trace { IsTraceOf prepared lasso.now }
+    requires fits { IsLassoOf prepared.labels lasso.now }
     requires more { 1 < length lasso.now.states }
+    requires few { HasFewStates prepared lasso.now }
     requires refutes { Refutes proof.cnf.clauses proof.lines }
     requires none { (number : ℕ) → IsReady number prepared →
         NoneWithin prepared (length lasso.now.states - 1) }
     requires says { SayOverStates prepared (length lasso.now.states - 1) proof.cnf }
-    ensures { IfOk result (λ text. ShowsAbove prepared part text) }
+    ensures { (budget : Option ℕ) → AreNewWithin budget proof.cnf.clauses proof.lines →
+        IfOk result (λ text. ShowsAbove prepared part budget text) }
 {
     let trace = print_trace(alloc, &prepared.labels, lasso)?;
     let mut bounds = prepared.bounds;
@@ -121,7 +138,8 @@ fn none_shown(
     part: Part,
 ) -> Result<Bytes, AllocError>
     requires { Refutes proof.cnf.clauses proof.lines }
-    ensures { IfOk result (λ text. IsNoneText proof.cnf proof.states part text) }
+    ensures { (budget : Option ℕ) → AreNewWithin budget proof.cnf.clauses proof.lines →
+        IfOk result (λ text. IsNoneText proof.cnf proof.states budget part text) }
 {
     bounds.states = proof.states;
     let rows = table(alloc, labels, &bounds)?;

@@ -14,8 +14,9 @@ use std::alloc::{AllocError, Global};
 /// Looks for a lasso of the target with one state, then with two, up to as many as its scopes have, which `bounds` of the
 /// bounds' builder does not refuse. The budget counts for each search. The only error is want of memory.
 ///
-/// What is refuted rules out every lasso within the model's bounds of so many states, if all formulas of the target have only the
-/// plain forms.
+/// A lasso lies within the model's bounds and meets the target, as far as its formulas have only the plain forms. What is refuted
+/// rules out every lasso within these bounds of so many states, if all formulas have only the plain forms; its lemmas are new,
+/// and at most as many as the budget.
 pub fn find_least<C: Chooser>(
     alloc: Global,
     model: &Model,

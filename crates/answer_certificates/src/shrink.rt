@@ -59,11 +59,11 @@ enum Tried {
 
 /// What is left where no fact is left out.
 fn all_kept(alloc: Global, question: &Question, proof: Proof) -> Result<Left, AllocError>
-    requires refuted { IsRefuted question.now.limits.now.states proof }
+    requires refuted { IsRefuted question.now.limits.now.states question.now.budget proof }
     requires says { SayTarget question.now.target.now question.now.limits.now proof.cnf.clauses }
     requires ruled { IsRuledOut question.now.target.now question.now.limits.now }
     ensures { IfOk result (IsLeft question.now.target.now question.now.first question.now.facts
-        question.now.limits.now) }
+        question.now.limits.now question.now.budget) }
 {
     let dropped = vec![in alloc; false; question.facts as usize]?;
     Ok(Left { dropped, proof })
@@ -76,7 +76,7 @@ fn trim<C: Chooser>(
     proof: Proof,
     chooser: &mut C,
 ) -> Result<Tried, AllocError>
-    requires refuted { IsRefuted question.now.limits.now.states proof }
+    requires refuted { IsRefuted question.now.limits.now.states question.now.budget proof }
     requires says { SayTarget question.now.target.now question.now.limits.now proof.cnf.clauses }
     requires ruled { IsRuledOut question.now.target.now question.now.limits.now }
     ensures { IfOk result (IsTried question.now.target.now question.now.first question.now.facts
@@ -120,7 +120,7 @@ fn leave_out<C: Chooser>(
     chooser: &mut C,
 ) -> Result<Tried, AllocError>
     requires { IsLeft question.now.target.now question.now.first question.now.facts
-        question.now.limits.now left }
+        question.now.limits.now question.now.budget left }
     ensures { IfOk result (IsTried question.now.target.now question.now.first question.now.facts
         question.now.limits.now question.now.budget) }
 {
@@ -138,7 +138,7 @@ fn leave_out<C: Chooser>(
 /// The facts that are kept.
 fn facts_of(alloc: Global, question: &Question, left: Left) -> Result<Core, AllocError>
     requires { IsLeft question.now.target.now question.now.first question.now.facts
-        question.now.limits.now left }
+        question.now.limits.now question.now.budget left }
     ensures { IfOk result (IsShrunk question.now.target.now question.now.first question.now.facts
         question.now.limits.now question.now.budget) }
 {
@@ -157,7 +157,7 @@ fn shrink<C: Chooser>(
     chooser: &mut C,
 ) -> Result<Core, AllocError>
     requires { IsLeft question.now.target.now question.now.first question.now.facts
-        question.now.limits.now left }
+        question.now.limits.now question.now.budget left }
     ensures { IfOk result (IsShrunk question.now.target.now question.now.first question.now.facts
         question.now.limits.now question.now.budget) }
 {
@@ -177,6 +177,9 @@ fn shrink<C: Chooser>(
 ///
 /// The last formula of the target is the command's and stands behind those of the facts, and the bounds' builder doesn't
 /// refuse the target's scopes. The budget counts for each search. The only error is want of memory.
+///
+/// A lasso shows the sequence of one within the model's bounds that meets the target, as far as its formulas have only the plain
+/// forms. The lemmas of a refutation are new, and at most as many as the budget.
 pub fn find_core<C: Chooser>(
     alloc: Global,
     model: &Model,

@@ -1,6 +1,5 @@
 -- What is said of a trace: of a lasso whose text it is, and by what the model means on it.
 use Rattle.std.specs.Prelude.{◌≡◌, ◌↔◌, ℕ, Bool, IsTrue, List, [], ◌∷◌, ◌++◌, All, codes, ⊤}
-use Rattle.answer_analysis.specs.Found.{IsReady}
 use Rattle.answer_analysis.specs.declared.ready.Prepared.{Prepared}
 use Rattle.syntax_tree.specs.declared.loaded.Loaded.{Loaded}
 use Rattle.core_tree.specs.Trees.{Term, claim_of}
@@ -14,7 +13,7 @@ use Rattle.answer_texts.specs.Judged.{judgement_text, is_satisfied}
 use Rattle.answer_texts.specs.declared.fact.FactName.{FactName}
 use Rattle.answer_texts.specs.declared.judgement.Judgement.{Judgement}
 use Rattle.answer_texts.specs.declared.judgement.JudgedFact.{JudgedFact}
-use Rattle.answer_laws.specs.Labelled.{IsLabelled, AreNumbered}
+use Rattle.answer_laws.specs.Form.{IsLassoOf}
 use Rattle.eval_sets.specs.SetOf.{IsSetOf}
 use Rattle.eval_trace.specs.Asked.{IsFirstWithout}
 use Rattle.answer_trace.specs.Text.{trace_text, tuples_text}
@@ -59,10 +58,11 @@ pub record IsSatisfied (prepared : Prepared) (lasso : LassoValue) : Type 0 where
   pub declared : (i : ℕ) → DeclaresAt prepared.model prepared.scopes lasso i
   pub parts_hold : All (PartHolds prepared lasso) prepared.parts
 
--- the trace is the text of a lasso, the text is that of the judgement on it, and everything holds just where the lasso satisfies
--- the model and the command
+-- the trace is the text of a lasso of the model's labels, the text is that of the judgement on it, and everything holds just
+-- where the lasso satisfies the model and the command
 pub record IsJudged (prepared : Prepared) (trace : List ℕ) (satisfied : Bool) (text : List ℕ) : Type 0 where
   pub lasso : LassoValue
+  pub fits : IsLassoOf prepared.labels lasso
   pub spelled : trace_text prepared.labels lasso ≡ trace
   pub judgement : Judgement
   pub right : IsRight prepared lasso judgement
@@ -73,19 +73,20 @@ pub record IsJudged (prepared : Prepared) (trace : List ℕ) (satisfied : Bool) 
 abbrev pub value_text : List (List ℕ) → List (List ℕ) → List ℕ
 value_text atoms tuples = codes "value =" ++ (tuples_text atoms tuples ++ codes "\n")
 
--- the trace is the text of a lasso, and the text has just the tuples that the expression has at the position of its sequence
+-- the trace is the text of a lasso of the model's labels, and the text has just the tuples that the expression has at the
+-- position of its sequence
 pub record IsValued (prepared : Prepared) (value : Term) (position : ℕ) (trace : List ℕ) (text : List ℕ) : Type 0 where
   pub lasso : LassoValue
+  pub fits : IsLassoOf prepared.labels lasso
   pub spelled : trace_text prepared.labels lasso ≡ trace
   pub set : TupleList
   pub sorted : IsTupleSet set
   pub has : IsSetOf set (InTermAt prepared.model prepared.scopes lasso value no_names position)
   pub text_is : text ≡ value_text prepared.labels.atoms set.tuples
 
--- The line is the first at which no text of a lasso of the model's labels has all lines up to it: of a model that was made ready,
--- whose sigs and fields are called so that traces can be read under their names, and whose universe is small enough.
+-- the line is the first at which no text of a lasso of the model's labels has all lines up to it
 abbrev pub IsBadTrace : Prepared → List ℕ → ℕ → Type 0
-IsBadTrace prepared trace line = (number : ℕ) → IsReady number prepared → IsLabelled prepared.model → AreNumbered prepared.model prepared.scopes → NamesFirst prepared.labels trace line
+IsBadTrace prepared trace line = NamesFirst prepared.labels trace line
 
 -- an answer that a text is no trace
 abbrev pub IsNotRead : Prepared → List ℕ → TraceAnswer → Type 0

@@ -2,11 +2,13 @@
 
 ghost use Rattle.std.specs.Prelude.{◌≡◌, ◌↔◌, IfOk, IsTrue};
 ghost use Rattle.answer_trace.specs.Text.{trace_text};
+ghost use Rattle.answer_laws.specs.Form.{HaveLassos, IsLassoOf};
 ghost use Rattle.answer_judge.specs.Judged.{IsJudgement, IsRight, IsJudgedFact, AreJudged, PartHolds};
 
 use crate::answer::TraceAnswer;
 use crate::unread::not_read;
 use answer_analysis::{Part, Prepared};
+use answer_laws::read_lassos_are_of_the_labels;
 use answer_texts::{
     JudgedFact, JudgedFactList, Judgement, fact_name, is_satisfied, judgement_text,
 };
@@ -23,8 +25,10 @@ pub fn judge_trace(
     prepared: &Prepared,
     trace: &[u8],
 ) -> Result<TraceAnswer, AllocError>
+    requires { HaveLassos prepared.now.labels }
     ensures { IfOk result (λ answer. IsJudgement prepared.now trace.now answer) }
 {
+    read_lassos_are_of_the_labels();
     match read_trace(alloc, &prepared.labels, trace) {
         Ok(lasso) => judged_text(alloc, prepared, &lasso, trace),
         Err(fault) => {
@@ -41,7 +45,8 @@ fn judged_text(
     lasso: &Lasso,
     trace: &[u8],
 ) -> Result<TraceAnswer, AllocError>
-    requires { trace_text prepared.now.labels lasso.now ≡ trace.now }
+    requires fits { IsLassoOf prepared.now.labels lasso.now }
+    requires spelled { trace_text prepared.now.labels lasso.now ≡ trace.now }
     ensures { IfOk result (λ answer. IsJudgement prepared.now trace.now answer) }
 {
     let judgement = judgement_on(alloc, prepared, lasso)?;

@@ -2,11 +2,12 @@
 
 ghost use Rattle.std.specs.Prelude.{IfOk};
 ghost use Rattle.answer_trace.specs.Faults.{Faults};
+ghost use Rattle.answer_laws.specs.Form.{HaveLassos};
 ghost use Rattle.answer_judge.specs.Judged.{IsNotRead};
 
 use crate::answer::TraceAnswer;
 use answer_analysis::Prepared;
-use answer_laws::{labels_have_lassos, named_lines_are_first};
+use answer_laws::named_lines_are_first;
 use answer_trace::TraceFault;
 use std::alloc::AllocError;
 
@@ -16,10 +17,10 @@ pub(crate) fn not_read(
     trace: &[u8],
     fault: TraceFault,
 ) -> Result<TraceAnswer, AllocError>
-    requires { Faults prepared.now.labels trace.now fault }
+    requires read { HaveLassos prepared.now.labels }
+    requires faults { Faults prepared.now.labels trace.now fault }
     ensures { IfOk result (λ answer. IsNotRead prepared.now trace.now answer) }
 {
-    labels_have_lassos();
     named_lines_are_first();
     match fault {
         TraceFault::BadTrace { line } => Ok(TraceAnswer::BadTrace(line)),

@@ -3,11 +3,13 @@
 ghost use Rattle.std.specs.Prelude.{◌≡◌, IfOk};
 ghost use Rattle.core_tree.specs.Trees.{term_of};
 ghost use Rattle.answer_trace.specs.Text.{trace_text};
+ghost use Rattle.answer_laws.specs.Form.{HaveLassos, IsLassoOf};
 ghost use Rattle.answer_judge.specs.Judged.{IsValue, value_text};
 
 use crate::answer::TraceAnswer;
 use crate::unread::not_read;
 use answer_analysis::Prepared;
+use answer_laws::read_lassos_are_of_the_labels;
 use answer_trace::{TextList, push_tuples, read_trace};
 use base_types::Bytes;
 use core_meaning::Lasso;
@@ -25,9 +27,11 @@ pub fn value_on_trace(
     position: u64,
     trace: &[u8],
 ) -> Result<TraceAnswer, AllocError>
+    requires { HaveLassos prepared.now.labels }
     ensures { IfOk result (λ answer. IsValue prepared.now (term_of value.now) position trace.now
         answer) }
 {
+    read_lassos_are_of_the_labels();
     match read_trace(alloc, &prepared.labels, trace) {
         Ok(lasso) => valued(alloc, prepared, value, position, &lasso, trace),
         Err(fault) => {
@@ -46,7 +50,8 @@ fn valued(
     lasso: &Lasso,
     trace: &[u8],
 ) -> Result<TraceAnswer, AllocError>
-    requires { trace_text prepared.now.labels lasso.now ≡ trace.now }
+    requires fits { IsLassoOf prepared.now.labels lasso.now }
+    requires spelled { trace_text prepared.now.labels lasso.now ≡ trace.now }
     ensures { IfOk result (λ answer. IsValue prepared.now (term_of value.now) position trace.now
         answer) }
 {

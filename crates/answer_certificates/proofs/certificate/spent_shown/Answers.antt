@@ -4,6 +4,7 @@ use Rattle.answer_certificates.proofs.certificate.spent_shown.Goals as goal
 pub returns : goal.returns
 returns c = record {
   table = c.in_ok-rows.rows;
+  lined = c.in_ok-rows.ensures;
   lines = c.args.proof.lines;
   spent = c.requires.0;
   lemmas = c.requires.1;

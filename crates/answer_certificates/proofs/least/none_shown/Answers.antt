@@ -1,9 +1,11 @@
 use Rattle.answer_certificates.proofs.least.none_shown.Goals as goal
 
 pub returns : goal.returns
-returns c = record {
+returns c budget fresh = record {
   table = c.in_ok-rows.rows;
+  lined = c.in_ok-rows.ensures;
   lines = c.args.proof.lines;
   refutes = c.requires;
+  fresh = fresh;
   text_is = cc (c.from_vec-shown.ensures, c.in_ok-text.ensures);
 }

@@ -5,6 +5,6 @@ use Rattle.answer_certificates.proofs.search.find_least.Given as goal
 
 abbrev pub invariant-loop-fewer : goal.invariant-loop-fewer
 invariant-loop-fewer g l = record {
-  below : IsBelow l.model l.target (l.fewer + 1) l.below;
+  below : IsBelow l.model l.target l.budget (l.fewer + 1) l.below;
   limits : AreLimitsOf l.model l.target.scopes l.limits;
 }

@@ -4,7 +4,8 @@ use Rattle.answer_judge.proofs.judge.judged_text.Goals as goal
 pub returns : goal.returns
 returns c = record {
   lasso = c.args.lasso.now;
-  spelled = c.requires;
+  fits = c.requires.fits;
+  spelled = c.requires.spelled;
   judgement = c.in_ok-judgement.judgement;
   right = c.in_ok-judgement.ensures;
   text_is = cc (c.from_vec-shown.ensures, c.in_ok-text.ensures);

@@ -3,7 +3,8 @@ use Rattle.answer_judge.proofs.value.valued.Goals as goal
 pub returns : goal.returns
 returns c = record {
   lasso = c.args.lasso.now;
-  spelled = c.requires;
+  fits = c.requires.fits;
+  spelled = c.requires.spelled;
   set = c.in_ok-set.set;
   sorted = c.arity.ensures.set;
   has = c.in_ok-set.ensures;

@@ -1,0 +1,6 @@
+use Rattle.std.proofs.Common.{inr, refl}
+use Rattle.answer_analysis.specs.Found.{too_large}
+use Rattle.answer_analysis.proofs.ready.bounds_of.Goals as goal
+
+pub refused_in-requires : goal.refused_in-requires
+refused_in-requires c = inr (too_large refl)

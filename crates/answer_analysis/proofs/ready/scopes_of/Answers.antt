@@ -1,0 +1,6 @@
+use Rattle.std.proofs.Common.{inr}
+use Rattle.answer_analysis.proofs.FaultLaw.{of_scopes}
+use Rattle.answer_analysis.proofs.ready.scopes_of.Goals as goal
+
+pub refused_in-requires : goal.refused_in-requires
+refused_in-requires c = inr (of_scopes _ _ c.scopes.result c.in-Err-Refused.refusal (cc (c.in-Err-Refused.is, c.in-Err-Refused.field-0-is)) c.scopes.ensures.absent c.scopes.ensures.fault)
