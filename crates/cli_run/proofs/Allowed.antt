@@ -1,7 +1,7 @@
 -- Which answers the settings allow, from what came of the files.
 use Rattle.std.proofs.Common.{◌≡◌, ◌≢◌, ℕ, List, [], ◌∷◌, map, Option, Some, None, Vec, Global, IfOk, Result, Ok, Err, cond, not, true, is_some, refl, sym, ap, ◌∙◌, subst, inl, inr}
 use Rattle.std.specs.declared.alloc.AllocError.{AllocError}
-use Rattle.base_types.specs.Causes.{SomeRose, NoneFell}
+use Rattle.base_types.specs.Causes.{SomeRose}
 use Rattle.base_types.specs.Texts as texts
 use Rattle.base_types.specs.Texts.{Texts}
 use Rattle.base_types.specs.declared.limits.TheConstants.{MODULE_BYTES, FILE_BYTES}
@@ -11,34 +11,37 @@ use Rattle.cli_words.specs.declared.named.Mode.TheVariants.{Exec, Commands, Lrat
 use Rattle.cli_words.specs.Named.{takes_second}
 use Rattle.cli_words.specs.Settings.{has_second}
 use Rattle.cli_words.specs.declared.settings.Settings.{Settings}
-use Rattle.cli_run.specs.Files.{Asked, IsFile, asked, asked_in, second_asked, at_start, file_rule, first_broken, first_of}
-use Rattle.cli_run.specs.Run.{AllowsFiles, IsOnModel, IsOnRing, IsOnProof, IsCheckedIn, RefusedFor, RefusedIn, model_in, model_of}
-use Rattle.cli_run.specs.Root.{SpellsModule, ListsModule}
-use Rattle.cli_run.specs.declared.answer.Answer.{Answer}
-use Rattle.cli_run.specs.declared.answer.Answer.TheVariants.{Usage, Refused, ReadFault, Trace, Refuted, Unknown, Made, Listed, Checked, Traced}
-use Rattle.cli_run.specs.declared.files.File.TheVariants.{Whole, Broken}
+use Rattle.cli_model.specs.Files.{Asked, IsFile, asked, asked_in, second_asked, at_start, file_rule, first_broken, first_of}
+use Rattle.cli_model.specs.Model.{IsOnModel, IsOnRing}
+use Rattle.cli_run.specs.Allowed.{AllowsFiles, IsOnProof, IsCheckedIn, RefusedFor, model_in, model_of}
+use Rattle.cli_model.specs.Loads.{IsLoadedIn}
+use Rattle.cli_model.specs.Refused.{RefusedIn}
+use Rattle.cli_model.specs.Root.{ListsModule}
+use Rattle.cli_model.specs.declared.answer.Answer.{Answer}
+use Rattle.cli_model.specs.declared.answer.Answer.TheVariants.{Usage, Refused, ReadFault, Trace, Refuted, Unknown, Made, Listed, Checked, Traced}
+use Rattle.cli_model.specs.declared.files.File.TheVariants.{Whole, Broken}
 
 module _ (settings : Settings) (held : List (Option Texts)) (before now : List ℕ) where
   -- an answer on the text of a model, once all files are whole
   pub on_model : (text : List ℕ) → ((told : List Texts) → held ≡ map (λ t. Some t) told → model_of told settings ≡ Some text) → (a : Answer) →
       IsOnModel settings held text before now a → AllowsFiles [] settings held before now a
   on_model text is Usage h = absurd h
-  on_model text is (Refused refusal name) h = (h.0, λ told tells. subst (λ o. RefusedIn o settings refusal name) (sym (is told tells)) h.1)
+  on_model text is (Refused refusal name) h = (h.0, λ told tells. subst (λ o. RefusedIn held o settings refusal name) (sym (is told tells)) h.1)
   on_model text is (ReadFault name) h = (inr h.0, h.1)
-  on_model text is (Trace bytes) h = (h.0, record { mode = h.1; whole = λ told tells. refl; spells = λ told tells. subst (λ o. SpellsModule o) (sym (is told tells)) h.2 }, h.3)
-  on_model text is (Refuted bytes) h = (h.0, record { mode = h.1; whole = λ told tells. refl; spells = λ told tells. subst (λ o. SpellsModule o) (sym (is told tells)) h.2 }, h.3)
-  on_model text is (Unknown bytes) h = (h.0, record { mode = h.1; whole = λ told tells. refl; spells = λ told tells. subst (λ o. SpellsModule o) (sym (is told tells)) h.2 }, h.3)
+  on_model text is (Trace bytes) h = (h.0, h.2, record { mode = h.1; whole = λ told tells. refl; loads = λ told tells. subst (λ o. IsLoadedIn held settings.file o h.2) (sym (is told tells)) h.3 }, h.4)
+  on_model text is (Refuted bytes) h = (h.0, h.2, record { mode = h.1; whole = λ told tells. refl; loads = λ told tells. subst (λ o. IsLoadedIn held settings.file o h.2) (sym (is told tells)) h.3 }, h.4)
+  on_model text is (Unknown bytes) h = (h.0, h.2, record { mode = h.1; whole = λ told tells. refl; loads = λ told tells. subst (λ o. IsLoadedIn held settings.file o h.2) (sym (is told tells)) h.3 }, h.4)
   on_model text is (Made bytes) h = absurd h
   on_model text is (Listed list) h = (h.0, record { mode = h.1; whole = λ told tells. refl; lists = λ told tells. subst (λ o. ListsModule o list) (sym (is told tells)) h.2 })
   on_model text is (Checked verdict clauses lines) h = absurd h
-  on_model text is (Traced said second) h = (h.0, record { whole = λ told tells. refl; spells = λ told tells. subst (λ o. SpellsModule o) (sym (is told tells)) h.1 }, h.2)
+  on_model text is (Traced said second) h = (h.0, h.1, record { whole = λ told tells. refl; loads = λ told tells. subst (λ o. IsLoadedIn held settings.file o h.1) (sym (is told tells)) h.2 }, h.3)
 
   -- a file that breaks a rule as a whole is refused
   pub on_broken : (name : List ℕ) (most : ℕ) (files : List Asked) (rule : Rule) → IsFile held name most before now (Broken rule) →
       AllowsFiles ((name, most) ∷ files) settings held before now (Refused (at_start rule) name)
   on_broken name most files rule h = (
     h.0,
-    λ told tells. subst (λ o. RefusedFor (first_of o name (first_broken told files)) (model_of told settings) settings (at_start rule) name) (sym (h.1 told tells)) (refl, refl),
+    λ told tells. subst (λ o. RefusedFor held (first_of o name (first_broken told files)) (model_of told settings) settings (at_start rule) name) (sym (h.1 told tells)) (refl, refl),
   )
 
   pub on_failed : (name : List ℕ) (most : ℕ) (files : List Asked) → SomeRose before now → AllowsFiles ((name, most) ∷ files) settings held before now (ReadFault name)
@@ -50,23 +53,26 @@ module _ (settings : Settings) (held : List (Option Texts)) (before now : List �
   on_whole name most files Usage whole h = absurd h
   on_whole name most files (Refused refusal n) whole h = (
     h.0,
-    λ told tells. subst (λ o. RefusedFor (first_of o name (first_broken told files)) (model_of told settings) settings refusal n) (sym (whole told tells)) (h.1 told tells),
+    λ told tells. subst (λ o. RefusedFor held (first_of o name (first_broken told files)) (model_of told settings) settings refusal n) (sym (whole told tells)) (h.1 told tells),
   )
   on_whole name most files (ReadFault n) whole h = (elim h.0 [ inl one ↦ inl (inr one) | inr other ↦ inr other ], h.1)
   on_whole name most files (Trace text) whole h = (
     h.0,
-    record { mode = h.1.mode; whole = λ told tells. ap (λ o. first_of o name (first_broken told files)) (whole told tells) ∙ h.1.whole told tells; spells = h.1.spells },
-    h.2,
+    h.1,
+    record { mode = h.2.mode; whole = λ told tells. ap (λ o. first_of o name (first_broken told files)) (whole told tells) ∙ h.2.whole told tells; loads = h.2.loads },
+    h.3,
   )
   on_whole name most files (Refuted text) whole h = (
     h.0,
-    record { mode = h.1.mode; whole = λ told tells. ap (λ o. first_of o name (first_broken told files)) (whole told tells) ∙ h.1.whole told tells; spells = h.1.spells },
-    h.2,
+    h.1,
+    record { mode = h.2.mode; whole = λ told tells. ap (λ o. first_of o name (first_broken told files)) (whole told tells) ∙ h.2.whole told tells; loads = h.2.loads },
+    h.3,
   )
   on_whole name most files (Unknown text) whole h = (
     h.0,
-    record { mode = h.1.mode; whole = λ told tells. ap (λ o. first_of o name (first_broken told files)) (whole told tells) ∙ h.1.whole told tells; spells = h.1.spells },
-    h.2,
+    h.1,
+    record { mode = h.2.mode; whole = λ told tells. ap (λ o. first_of o name (first_broken told files)) (whole told tells) ∙ h.2.whole told tells; loads = h.2.loads },
+    h.3,
   )
   on_whole name most files (Made text) whole h = h
   on_whole name most files (Listed list) whole h = (
@@ -85,8 +91,9 @@ module _ (settings : Settings) (held : List (Option Texts)) (before now : List �
   )
   on_whole name most files (Traced said second) whole h = (
     h.0,
-    record { whole = λ told tells. ap (λ o. first_of o name (first_broken told files)) (whole told tells) ∙ h.1.whole told tells; spells = h.1.spells },
-    h.2,
+    h.1,
+    record { whole = λ told tells. ap (λ o. first_of o name (first_broken told files)) (whole told tells) ∙ h.2.whole told tells; loads = h.2.loads },
+    h.3,
   )
 
 -- a mode on one model asks for that model
@@ -158,9 +165,6 @@ then_allows settings held later before mid now name most files rest asks answer 
     (on_whole settings held before now name most rest answer (λ told tells. (file.1 told tells).1)
     (subst (λ ns. AllowsFiles rest settings held ns now answer) file.0 (subst (λ h. AllowsFiles rest settings h mid now answer) keeps allows)))
 
-pub then_later : (before mid now : List ℕ) → mid ≡ before → NoneFell mid now → NoneFell before now
-then_later before mid now same later = subst (λ ns. NoneFell ns now) same later
-
 -- both files are whole, and the answer is the verdict on them
 pub proof_allows : (settings : Settings) (held : List (Option Texts)) (before now : List ℕ) (name : List ℕ) (most : ℕ) → settings.mode ≡ Lrat → settings.second ≡ Some name →
     (clauses : List ℕ) → ((told : List Texts) → held ≡ map (λ t. Some t) told → texts.text_of told settings.file ≡ Some clauses) → (text : Vec ℕ Global) → IsFile held name most before now (Whole text) →
@@ -181,12 +185,6 @@ proof_allows settings held before now name most mode second clauses tells text f
 -- a mode that takes a second file has one
 pub has_one : (settings : Settings) → settings.mode ≡ Lrat → has_second settings ≡ true → is_some settings.second ≡ true
 has_one settings mode has = subst (λ m. cond (takes_second m) (is_some settings.second) (not (is_some settings.second)) ≡ true) mode has
-
-pub has_one_replay : (settings : Settings) → settings.mode ≡ Replay → has_second settings ≡ true → is_some settings.second ≡ true
-has_one_replay settings mode has = subst (λ m. cond (takes_second m) (is_some settings.second) (not (is_some settings.second)) ≡ true) mode has
-
-pub has_one_eval : (settings : Settings) → settings.mode ≡ Eval → has_second settings ≡ true → is_some settings.second ≡ true
-has_one_eval settings mode has = subst (λ m. cond (takes_second m) (is_some settings.second) (not (is_some settings.second)) ≡ true) mode has
 
 -- the answer on a model that is made
 ring_one : (settings : Settings) (held : List (Option Texts)) (before now : List ℕ) → settings.mode ≡ Make → (a : Answer) → IsOnRing before now a → AllowsFiles [] settings held before now a

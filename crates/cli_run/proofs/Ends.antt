@@ -12,20 +12,24 @@ use Rattle.sat_verdict.specs.declared.mode.Verdict.TheVariants as says
 use Rattle.answer_judge.specs.Answer as traced
 use Rattle.answer_judge.specs.declared.answer.TraceAnswer.{TraceAnswer}
 use Rattle.answer_judge.specs.declared.answer.TraceAnswer.TheVariants as tell
-use Rattle.cli_run.specs.Answer.{text_of, status_of, usage_line}
-use Rattle.cli_run.specs.Files.{asked, asked_in, file_rule, first_broken}
+use Rattle.cli_model.specs.Answer.{text_of, status_of, usage_line}
+use Rattle.cli_model.specs.Files.{asked, asked_in, file_rule, first_broken}
 use Rattle.base_types.specs.declared.limits.TheConstants.{FILE_BYTES}
 use Rattle.cli_run.specs.Outcome.{Run, RunsOn, IsOneOf, EndsWith, statuses_of, Wrote, RefusesText, ChecksProof, ReadsTrace, ListsCommands, MakesModel, FailsToRead, FailsToWrite, FindsTrace, FindsNone, LeavesOpen}
 use Rattle.cli_run.specs.Promises.{IsRightRun}
-use Rattle.cli_run.specs.Run.{Allows, written, no_memory, write_fault, Finished, delivered, gave_up, Justified, IsProofOf, IsCheckedIn, RefusedFor, looks, reads_trace, analyses, IsSaid, model_in, model_of}
-use Rattle.cli_run.specs.Root.{SpellsModule, ListsModule, SpellIn}
+use Rattle.cli_model.specs.Loads.{IsLoadedIn}
+use Rattle.cli_model.specs.Model.{IsSaid}
+use Rattle.cli_model.specs.Modes.{looks, reads_trace, analyses}
+use Rattle.cli_run.specs.Allowed.{Allows, written, no_memory, write_fault, Finished, delivered, gave_up, Justified, IsProofOf, IsCheckedIn, RefusedFor, model_in, model_of}
+use Rattle.cli_model.specs.Root.{SpellsModule, ListsModule, SpellIn}
 use Rattle.syntax_lexer.specs.Tokens.{tokens_of}
+use Rattle.syntax_tree.specs.declared.loaded.Loaded.{Loaded}
 use Rattle.base_types.specs.declared.place.Refusal.{Refusal}
 use Rattle.cli_words.specs.declared.named.Mode.{Mode}
 use Rattle.cli_words.specs.declared.named.Mode.TheVariants.{Exec, Commands, Lrat, Make, Replay, Eval, Least, Core}
 use Rattle.sat_verdict.proofs.Verdicts.{one_verdict}
-use Rattle.cli_run.specs.declared.answer.Answer.{Answer}
-use Rattle.cli_run.specs.declared.answer.Answer.TheVariants.{Usage, Refused, ReadFault, Trace, Refuted, Unknown, Made, Listed, Checked, Traced}
+use Rattle.cli_model.specs.declared.answer.Answer.{Answer}
+use Rattle.cli_model.specs.declared.answer.Answer.TheVariants.{Usage, Refused, ReadFault, Trace, Refuted, Unknown, Made, Listed, Checked, Traced}
 
 verdict_status : (v : Verdict) → (lrat.status_of v ≡ 0) ⊎ (lrat.status_of v ≡ 1) ⊎ (lrat.status_of v ≡ 3)
 verdict_status says.Refuted = inl refl
@@ -55,8 +59,8 @@ other_traced s n zero one three is = elim (traced_status s) [
 ]
 
 -- a mode that reads a trace is none of the others
-no_trace_lrat : (m : Mode) (settings : Settings) (trace : List ℕ) (s : TraceAnswer) → m ≡ Lrat → IsSaid m settings trace s → ⊥
-no_trace_lrat m settings trace s is on = absurd (subst (λ k. IsSaid k settings trace s) is on)
+no_trace_lrat : (loaded : Loaded) (m : Mode) (settings : Settings) (trace : List ℕ) (s : TraceAnswer) → m ≡ Lrat → IsSaid loaded m settings trace s → ⊥
+no_trace_lrat loaded m settings trace s is on = absurd (subst (λ k. IsSaid loaded k settings trace s) is on)
 
 -- a mode that analyses a model checks no proof
 no_lrat_analyses : (m : Mode) → m ≡ Lrat → IsTrue (analyses m) → ⊥
@@ -135,20 +139,20 @@ verdict_among v = elim (verdict_status v) [
   | inr rest ↦ elim rest [ inl e ↦ inl (inr (inl e)) | inr e ↦ inr (inl e) ]
 ]
 
-said_among : (m : Mode) (settings : Settings) (trace : List ℕ) (s : TraceAnswer) → IsSaid m settings trace s → Among m (traced.status_of s)
-said_among Replay settings trace (tell.Judged true text) on = inl (inl refl)
-said_among Replay settings trace (tell.Judged false text) on = inl (inr (inl refl))
-said_among Replay settings trace (tell.Valued text) (prepared, ready, on) = absurd on
-said_among Replay settings trace (tell.BadTrace line) on = inr (inl refl)
-said_among Eval settings trace (tell.Judged satisfied text) (prepared, ready, (value, on)) = absurd on
-said_among Eval settings trace (tell.Valued text) on = inl (inl refl)
-said_among Eval settings trace (tell.BadTrace line) on = inr (inl refl)
-said_among Exec settings trace s on = absurd on
-said_among Least settings trace s on = absurd on
-said_among Core settings trace s on = absurd on
-said_among Commands settings trace s on = absurd on
-said_among Lrat settings trace s on = absurd on
-said_among Make settings trace s on = absurd on
+said_among : (loaded : Loaded) (m : Mode) (settings : Settings) (trace : List ℕ) (s : TraceAnswer) → IsSaid loaded m settings trace s → Among m (traced.status_of s)
+said_among loaded Replay settings trace (tell.Judged true text) on = inl (inl refl)
+said_among loaded Replay settings trace (tell.Judged false text) on = inl (inr (inl refl))
+said_among loaded Replay settings trace (tell.Valued text) (prepared, made, on) = absurd on
+said_among loaded Replay settings trace (tell.BadTrace line) on = inr (inl refl)
+said_among loaded Eval settings trace (tell.Judged satisfied text) (prepared, made, (value, on)) = absurd on
+said_among loaded Eval settings trace (tell.Valued text) on = inl (inl refl)
+said_among loaded Eval settings trace (tell.BadTrace line) on = inr (inl refl)
+said_among loaded Exec settings trace s on = absurd on
+said_among loaded Least settings trace s on = absurd on
+said_among loaded Core settings trace s on = absurd on
+said_among loaded Commands settings trace s on = absurd on
+said_among loaded Lrat settings trace s on = absurd on
+said_among loaded Make settings trace s on = absurd on
 
 -- an answer's own status is neither of the two that say that it couldn't be delivered
 not_five : (a : Answer) → status_of a ≡ 5 → ⊥
@@ -267,7 +271,7 @@ module _ (run : Run) where
   refused_given (Some settings) (Checked v clauses lines) fit allows is same line =
       inr (inl (record { settings = settings; verdict = v; clauses = clauses; lines = lines; fit = fit; cause = allows.1; line = line; has = same }))
   refused_given (Some settings) (Traced s second) fit allows is same line =
-      inr (inr (record { settings = settings; said = s; second = second; fit = fit; model = allows.1; cause = allows.2; line = line; has = same }))
+      inr (inr (record { settings = settings; said = s; second = second; fit = fit; loaded = allows.1; model = allows.2; cause = allows.3; line = line; has = same }))
 
   checked_given : (o : Option Settings) (a : Answer) → run.settings ≡ o → May run o a → run.status ≡ status_of a → (run.status ≡ 0) ⊎ (run.status ≡ 1) → Wrote run (text_of a) →
       ChecksProof run ⊎ ReadsTrace run ⊎ ListsCommands run ⊎ MakesModel run
@@ -293,22 +297,22 @@ module _ (run : Run) where
   checked_given (Some settings) (Checked v clauses lines) fit allows same low line =
       inl (record { settings = settings; verdict = v; clauses = clauses; lines = lines; fit = fit; cause = allows.1; line = line; has = same })
   checked_given (Some settings) (Traced s second) fit allows same low line =
-      inr (inl (record { settings = settings; said = s; second = second; fit = fit; model = allows.1; cause = allows.2; line = line; has = same }))
+      inr (inl (record { settings = settings; said = s; second = second; fit = fit; loaded = allows.1; model = allows.2; cause = allows.3; line = line; has = same }))
 
   -- where the files of a proof are whole, the answer is the verdict on their texts, unless a library failed
   proof_given : (settings : Settings) (a : Answer) (told : List Texts) (name clauses lines : List ℕ) (verdict : Verdict) → May run (Some settings) a → run.held ≡ map (λ t. Some t) told →
       IsProofOf told settings name clauses lines verdict → IsOneOf (status_of a) (lrat.status_of verdict ∷ 4 ∷ [])
   proof_given settings Usage told name clauses lines verdict allows tells is = absurd allows
   proof_given settings (Refused refusal n) told name clauses lines verdict allows tells is =
-      let why : RefusedFor None (model_of told settings) settings refusal n = subst (λ o. RefusedFor o (model_of told settings) settings refusal n) is.whole (allows.1 told tells) in
+      let why : RefusedFor run.held None (model_of told settings) settings refusal n = subst (λ o. RefusedFor run.held o (model_of told settings) settings refusal n) is.whole (allows.1 told tells) in
       elim why [
         | inl one ↦ absurd (one.2 is.mode)
         | inr other ↦ elim other [ inl searches ↦ absurd (no_lrat_analyses settings.mode is.mode searches.0) | inr makes ↦ cc (makes, is.mode) ]
       ]
   proof_given settings (ReadFault n) told name clauses lines verdict allows tells is = inr (inl refl)
-  proof_given settings (Trace text) told name clauses lines verdict allows tells is = absurd (no_lrat_looks settings.mode is.mode allows.1.mode)
-  proof_given settings (Refuted text) told name clauses lines verdict allows tells is = absurd (no_lrat_looks settings.mode is.mode allows.1.mode)
-  proof_given settings (Unknown text) told name clauses lines verdict allows tells is = absurd (no_lrat_looks settings.mode is.mode allows.1.mode)
+  proof_given settings (Trace text) told name clauses lines verdict allows tells is = absurd (no_lrat_looks settings.mode is.mode allows.2.mode)
+  proof_given settings (Refuted text) told name clauses lines verdict allows tells is = absurd (no_lrat_looks settings.mode is.mode allows.2.mode)
+  proof_given settings (Unknown text) told name clauses lines verdict allows tells is = absurd (no_lrat_looks settings.mode is.mode allows.2.mode)
   proof_given settings (Made text) told name clauses lines verdict allows tells is = cc (allows.1, is.mode)
   proof_given settings (Listed list) told name clauses lines verdict allows tells is = cc (allows.1.mode, is.mode)
   proof_given settings (Checked v first second) told name clauses lines verdict allows tells is =
@@ -317,7 +321,7 @@ module _ (run : Run) where
       let two : texts.text_of told second ≡ Some lines = ap (texts.text_of told) named ∙ is.lines_are in
       let on : IsCheckedIn (Some clauses) (Some lines) v = subst (λ o. IsCheckedIn (Some clauses) o v) two (subst (λ o. IsCheckedIn o (texts.text_of told second) v) one (allows.1.checked told tells)) in
       inl (ap lrat.status_of (one_verdict clauses lines v verdict on.verdict_on is.verdict_on))
-  proof_given settings (Traced s n) told name clauses lines verdict allows tells is = absurd (no_trace_lrat settings.mode settings allows.2.trace s is.mode allows.2.on)
+  proof_given settings (Traced s n) told name clauses lines verdict allows tells is = absurd (no_trace_lrat allows.1 settings.mode settings allows.3.trace s is.mode allows.3.on)
 
   read_fault_given : (o : Option Settings) (a : Answer) → run.settings ≡ o → May run o a → status_of a ≡ 4 → Wrote run (text_of a) → FailsToRead run
   read_fault_given None Usage fit allows is line = absurd (omega arith)
@@ -356,7 +360,7 @@ module _ (run : Run) where
   trace_given (Some settings) Usage fit allows is line = absurd allows
   trace_given (Some settings) (Refused refusal name) fit allows is line = absurd (omega arith)
   trace_given (Some settings) (ReadFault name) fit allows is line = absurd (omega arith)
-  trace_given (Some settings) (Trace text) fit allows is line = record { settings = settings; text = text; fit = fit; searched = allows.1; shown = allows.2; line = line }
+  trace_given (Some settings) (Trace text) fit allows is line = record { settings = settings; text = text; fit = fit; loaded = allows.1; searched = allows.2; shown = allows.3; line = line }
   trace_given (Some settings) (Refuted text) fit allows is line = absurd (omega arith)
   trace_given (Some settings) (Unknown text) fit allows is line = absurd (omega arith)
   trace_given (Some settings) (Made text) fit allows is line = absurd (omega arith)
@@ -379,7 +383,7 @@ module _ (run : Run) where
   absent_given (Some settings) (Refused refusal name) fit allows is line = absurd (omega arith)
   absent_given (Some settings) (ReadFault name) fit allows is line = absurd (omega arith)
   absent_given (Some settings) (Trace text) fit allows is line = absurd (omega arith)
-  absent_given (Some settings) (Refuted text) fit allows is line = record { settings = settings; text = text; fit = fit; searched = allows.1; absent = allows.2; line = line }
+  absent_given (Some settings) (Refuted text) fit allows is line = record { settings = settings; text = text; fit = fit; loaded = allows.1; searched = allows.2; absent = allows.3; line = line }
   absent_given (Some settings) (Unknown text) fit allows is line = absurd (omega arith)
   absent_given (Some settings) (Made text) fit allows is line = absurd (omega arith)
   absent_given (Some settings) (Listed list) fit allows is line = absurd (omega arith)
@@ -402,7 +406,7 @@ module _ (run : Run) where
   unknown_given (Some settings) (ReadFault name) fit allows is line = absurd (omega arith)
   unknown_given (Some settings) (Trace text) fit allows is line = absurd (omega arith)
   unknown_given (Some settings) (Refuted text) fit allows is line = absurd (omega arith)
-  unknown_given (Some settings) (Unknown text) fit allows is line = record { settings = settings; text = text; fit = fit; searched = allows.1; open_at = allows.2; line = line }
+  unknown_given (Some settings) (Unknown text) fit allows is line = record { settings = settings; text = text; fit = fit; loaded = allows.1; searched = allows.2; open_at = allows.3; line = line }
   unknown_given (Some settings) (Made text) fit allows is line = absurd (omega arith)
   unknown_given (Some settings) (Listed list) fit allows is line = absurd (omega arith)
   unknown_given (Some settings) (Checked v clauses lines) fit allows is line = absurd (other_status v 30 (λ e. omega arith) (λ e. omega arith) (λ e. omega arith) is)
@@ -414,15 +418,15 @@ module _ (run : Run) where
   broken_given settings Usage told broken allows tells breaks = absurd allows
   broken_given settings (Refused refusal name) told broken allows tells breaks = inl refl
   broken_given settings (ReadFault name) told broken allows tells breaks = inr (inl refl)
-  broken_given settings (Trace text) told broken allows tells breaks = cc (allows.1.whole told tells, breaks)
-  broken_given settings (Refuted text) told broken allows tells breaks = cc (allows.1.whole told tells, breaks)
-  broken_given settings (Unknown text) told broken allows tells breaks = cc (allows.1.whole told tells, breaks)
+  broken_given settings (Trace text) told broken allows tells breaks = cc (allows.2.whole told tells, breaks)
+  broken_given settings (Refuted text) told broken allows tells breaks = cc (allows.2.whole told tells, breaks)
+  broken_given settings (Unknown text) told broken allows tells breaks = cc (allows.2.whole told tells, breaks)
   broken_given settings (Made text) told broken allows tells breaks =
       let none : asked settings ≡ [] = ap (λ m. asked_in m settings.file settings.second) allows.1 in
       cc (ap (first_broken told) none, breaks)
   broken_given settings (Listed list) told broken allows tells breaks = cc (allows.1.whole told tells, breaks)
   broken_given settings (Checked v clauses lines) told broken allows tells breaks = cc (allows.1.whole told tells, breaks)
-  broken_given settings (Traced s second) told broken allows tells breaks = cc (allows.1.whole told tells, breaks)
+  broken_given settings (Traced s second) told broken allows tells breaks = cc (allows.2.whole told tells, breaks)
 
   -- where the file of a trace breaks a rule as a whole, the answer is a refusal or a library's fault
   second_given : (settings : Settings) (a : Answer) (told : List Texts) (second : List ℕ) (rule : Rule) → May run (Some settings) a → run.held ≡ map (λ t. Some t) told →
@@ -430,15 +434,15 @@ module _ (run : Run) where
   second_given settings Usage told second rule allows tells mode named breaks = absurd allows
   second_given settings (Refused refusal name) told second rule allows tells mode named breaks = inl refl
   second_given settings (ReadFault name) told second rule allows tells mode named breaks = inr (inl refl)
-  second_given settings (Trace text) told second rule allows tells mode named breaks = absurd (no_trace_looks settings.mode allows.1.mode mode)
-  second_given settings (Refuted text) told second rule allows tells mode named breaks = absurd (no_trace_looks settings.mode allows.1.mode mode)
-  second_given settings (Unknown text) told second rule allows tells mode named breaks = absurd (no_trace_looks settings.mode allows.1.mode mode)
+  second_given settings (Trace text) told second rule allows tells mode named breaks = absurd (no_trace_looks settings.mode allows.2.mode mode)
+  second_given settings (Refuted text) told second rule allows tells mode named breaks = absurd (no_trace_looks settings.mode allows.2.mode mode)
+  second_given settings (Unknown text) told second rule allows tells mode named breaks = absurd (no_trace_looks settings.mode allows.2.mode mode)
   second_given settings (Made text) told second rule allows tells mode named breaks = let bad : false ≡ true = no_trace_in settings.mode Make allows.1 mode in cc
   second_given settings (Listed list) told second rule allows tells mode named breaks = let bad : false ≡ true = no_trace_in settings.mode Commands allows.1.mode mode in cc
   second_given settings (Checked v clauses lines) told second rule allows tells mode named breaks = let bad : false ≡ true = no_trace_in settings.mode Lrat allows.1.mode mode in cc
   second_given settings (Traced s n) told second rule allows tells mode named breaks =
-      let same : n ≡ second = cc (allows.2.named, named) in
-      let whole : file_rule told (second, FILE_BYTES) ≡ None = subst (λ x. file_rule told (x, FILE_BYTES) ≡ None) same (allows.2.tells told tells).1 in
+      let same : n ≡ second = cc (allows.3.named, named) in
+      let whole : file_rule told (second, FILE_BYTES) ≡ None = subst (λ x. file_rule told (x, FILE_BYTES) ≡ None) same (allows.3.tells told tells).1 in
       cc (whole, breaks)
 
   -- each mode has its own statuses
@@ -446,13 +450,13 @@ module _ (run : Run) where
   mode_given settings Usage allows = absurd allows
   mode_given settings (Refused refusal name) allows = inr (inl refl)
   mode_given settings (ReadFault name) allows = inr (inr refl)
-  mode_given settings (Trace text) allows = inl (ten_of settings.mode allows.1.mode)
-  mode_given settings (Refuted text) allows = inl (twenty_of settings.mode allows.1.mode)
-  mode_given settings (Unknown text) allows = inl (thirty_of settings.mode allows.1.mode)
+  mode_given settings (Trace text) allows = inl (ten_of settings.mode allows.2.mode)
+  mode_given settings (Refuted text) allows = inl (twenty_of settings.mode allows.2.mode)
+  mode_given settings (Unknown text) allows = inl (thirty_of settings.mode allows.2.mode)
   mode_given settings (Made text) allows = subst (λ m. Among m 0) (sym allows.1) (inl (inl refl))
   mode_given settings (Listed list) allows = subst (λ m. Among m 0) (sym allows.1.mode) (inl (inl refl))
   mode_given settings (Checked v clauses lines) allows = subst (λ m. Among m (lrat.status_of v)) (sym allows.1.mode) (verdict_among v)
-  mode_given settings (Traced s n) allows = said_among settings.mode settings allows.2.trace s allows.2.on
+  mode_given settings (Traced s n) allows = said_among allows.1 settings.mode settings allows.3.trace s allows.3.on
 
   -- a text that can't be cut into tokens spells no module
   uncut : (model : Option (List ℕ)) (text : List ℕ) (refusal : Refusal) → model ≡ Some text → tokens_of 0 text ≡ Err refusal → SpellsModule model → ⊥
@@ -466,6 +470,11 @@ module _ (run : Run) where
   listed_spells : (model : Option (List ℕ)) (list : List ℕ) → ListsModule model list → SpellsModule model
   listed_spells None list lists = absurd lists
   listed_spells (Some text) list lists = record { tree = lists.tree; spelled = lists.spelled }
+
+  -- a module of which something is loaded is one that the text spells
+  loaded_spells : (held : List (Option Texts)) (file : List ℕ) (model : Option (List ℕ)) (loaded : Loaded) → IsLoadedIn held file model loaded → SpellsModule model
+  loaded_spells held file None loaded loads = absurd loads
+  loaded_spells held file (Some text) loaded loads = record { tree = loads.tree; spelled = loads.spelled }
 
   -- a run that makes a model reads none
   no_model_made : (settings : Settings) (told : List Texts) (text : List ℕ) → settings.mode ≡ Make → model_of told settings ≡ Some text → ⊥
@@ -485,13 +494,13 @@ module _ (run : Run) where
   uncut_given settings Usage told text refusal allows tells is cut = absurd allows
   uncut_given settings (Refused r name) told text refusal allows tells is cut = inl refl
   uncut_given settings (ReadFault name) told text refusal allows tells is cut = inr (inl refl)
-  uncut_given settings (Trace bytes) told text refusal allows tells is cut = absurd (uncut (model_of told settings) text refusal is cut (allows.1.spells told tells))
-  uncut_given settings (Refuted bytes) told text refusal allows tells is cut = absurd (uncut (model_of told settings) text refusal is cut (allows.1.spells told tells))
-  uncut_given settings (Unknown bytes) told text refusal allows tells is cut = absurd (uncut (model_of told settings) text refusal is cut (allows.1.spells told tells))
+  uncut_given settings (Trace bytes) told text refusal allows tells is cut = absurd (uncut (model_of told settings) text refusal is cut (loaded_spells run.held settings.file (model_of told settings) allows.1 (allows.2.loads told tells)))
+  uncut_given settings (Refuted bytes) told text refusal allows tells is cut = absurd (uncut (model_of told settings) text refusal is cut (loaded_spells run.held settings.file (model_of told settings) allows.1 (allows.2.loads told tells)))
+  uncut_given settings (Unknown bytes) told text refusal allows tells is cut = absurd (uncut (model_of told settings) text refusal is cut (loaded_spells run.held settings.file (model_of told settings) allows.1 (allows.2.loads told tells)))
   uncut_given settings (Made bytes) told text refusal allows tells is cut = absurd (no_model_made settings told text allows.1 is)
   uncut_given settings (Listed list) told text refusal allows tells is cut = absurd (uncut (model_of told settings) text refusal is cut (listed_spells (model_of told settings) list (allows.1.lists told tells)))
   uncut_given settings (Checked v clauses lines) told text refusal allows tells is cut = absurd (no_model settings told text allows.1.mode is)
-  uncut_given settings (Traced s second) told text refusal allows tells is cut = absurd (uncut (model_of told settings) text refusal is cut (allows.1.spells told tells))
+  uncut_given settings (Traced s second) told text refusal allows tells is cut = absurd (uncut (model_of told settings) text refusal is cut (loaded_spells run.held settings.file (model_of told settings) allows.1 (allows.2.loads told tells)))
 
   -- where a count has changed, the answer is a library's fault
   risen_given : (o : Option Settings) (a : Answer) → May run o a → run.faults_after ≢ run.faults_before → status_of a ≡ 4

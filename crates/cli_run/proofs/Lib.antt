@@ -1,5 +1,2 @@
 pub mod Allowed
 pub mod Ends
-pub mod Fetched
-pub mod OnModel
-mod Certified

@@ -1,6 +1,3 @@
-pub mod Answer
-pub mod Files
+pub mod Allowed
 pub mod Outcome
 pub mod Promises
-pub mod Run
-pub mod Root

@@ -4,6 +4,7 @@ use Rattle.std.specs.Prelude.{◌≡◌, ℕ, ◌⊎◌, List, [], ◌∷◌, ma
 use Rattle.base_types.specs.Causes.{Rose, SomeRose}
 use Rattle.base_types.specs.Texts.{Texts}
 use Rattle.base_types.specs.declared.place.Refusal.{Refusal}
+use Rattle.syntax_tree.specs.declared.loaded.Loaded.{Loaded}
 use Rattle.answer_judge.specs.Answer as traced
 use Rattle.answer_judge.specs.declared.answer.TraceAnswer.{TraceAnswer}
 use Rattle.cli_words.specs.declared.named.Mode.{Mode}
@@ -12,11 +13,12 @@ use Rattle.cli_words.specs.declared.named.Mode.TheVariants.{Replay, Eval, Least,
 use Rattle.cli_words.specs.declared.settings.Settings.{Settings}
 use Rattle.sat_verdict.specs.Mode as lrat
 use Rattle.sat_verdict.specs.declared.mode.Verdict.{Verdict}
-use Rattle.cli_run.specs.Answer.{text_of, refused_line, fault_line, checked_line}
-use Rattle.cli_run.specs.Files.{asked}
-use Rattle.cli_run.specs.Run.{Allows, Written, Begun, IsRefused, IsSearched, IsListed, IsOnModule}
-use Rattle.cli_run.specs.Run.{IsReadTrace, IsSought, IsProof, ShownTrace, ShownNone, ShownSpent}
-use Rattle.cli_run.specs.declared.answer.Answer.{Answer}
+use Rattle.cli_model.specs.Answer.{text_of, refused_line, fault_line, checked_line}
+use Rattle.cli_model.specs.Files.{asked}
+use Rattle.cli_run.specs.Allowed.{Allows, Written, Begun, IsRefused, IsSearched, IsListed, IsOnModule}
+use Rattle.cli_model.specs.Model.{IsReadTrace, ShownTrace, ShownNone, ShownSpent}
+use Rattle.cli_run.specs.Allowed.{IsSought, IsProof}
+use Rattle.cli_model.specs.declared.answer.Answer.{Answer}
 
 -- what a caller sees of a run
 pub record Run : Type 0 where
@@ -67,8 +69,9 @@ Wrote r text = Written r.got_before r.got_after text
 
 -- The line of a rule that a text breaks was written. Where a file is absent or too large, it is the
 -- line of the first such file; and else, where the text of the model that the mode reads can't be
--- cut into tokens, it is the line of its first break. Where the root spells a module, it may be the
--- line of any rule at any place.
+-- cut into tokens, it is the line of its first break. Where it spells a module, it is the line of a
+-- rule of loading, in the text that the line names; or of a later rule, at a place of the loaded
+-- text that it names; or of the expression, or of the file of a trace.
 pub record RefusesText (r : Run) : Type 0 where
   pub settings : Settings
   pub refusal : Refusal
@@ -89,15 +92,16 @@ pub record ChecksProof (r : Run) : Type 0 where
   pub line : Wrote r (checked_line verdict clauses lines)
   pub has : r.status ≡ lrat.status_of verdict
 
--- A trace was read: whether everything holds in it, or the tuples of an expression, were written;
--- or the line that the second file is no text of a trace.
+-- A trace was read: whether everything holds in it, or the tuples of an expression, were written,
+-- by the model of what is loaded; or the line that the second file is no text of a trace.
 pub record ReadsTrace (r : Run) : Type 0 where
   pub settings : Settings
   pub said : TraceAnswer
   pub second : List ℕ
   pub fit : r.settings ≡ Some settings
-  pub model : IsOnModule r.held (asked settings) settings
-  pub cause : IsReadTrace r.held settings said second
+  pub loaded : Loaded
+  pub model : IsOnModule r.held (asked settings) settings loaded
+  pub cause : IsReadTrace r.held loaded settings said second
   pub line : Wrote r (traced.text_of said second)
   pub has : r.status ≡ traced.status_of said
 
@@ -136,15 +140,16 @@ pub record FailsToWrite (r : Run) : Type 0 where
   pub front : Begun r.got_before r.got_after (text_of answer)
 
 -- The words ask for a search, no file breaks a rule as a whole, the text of the model spells a
--- module, and the part that is asked for was written of a trace. In a search for the fewest states
--- the trace has one state, or the part is of clauses of one state less too, and of lines that
--- refute them.
+-- module, and the part that is asked for was written of a trace of the model of what is loaded. In
+-- a search for the fewest states the trace has one state, or the part is of clauses of one state
+-- less too, and of lines that refute them.
 pub record FindsTrace (r : Run) : Type 0 where
   pub settings : Settings
   pub text : List ℕ
   pub fit : r.settings ≡ Some settings
-  pub searched : IsSearched r.held (asked settings) settings
-  pub shown : ShownTrace settings.mode settings.command settings.part text
+  pub loaded : Loaded
+  pub searched : IsSearched r.held (asked settings) settings loaded
+  pub shown : ShownTrace loaded settings.mode settings.command settings.part settings.conflicts text
   pub line : Wrote r text
 
 -- The same, and the part that is asked for was written of clauses and of lines that refute them. In
@@ -153,8 +158,9 @@ pub record FindsNone (r : Run) : Type 0 where
   pub settings : Settings
   pub text : List ℕ
   pub fit : r.settings ≡ Some settings
-  pub searched : IsSearched r.held (asked settings) settings
-  pub absent : ShownNone settings.mode settings.command settings.part text
+  pub loaded : Loaded
+  pub searched : IsSearched r.held (asked settings) settings loaded
+  pub absent : ShownNone loaded settings.mode settings.command settings.part settings.conflicts text
   pub line : Wrote r text
 
 -- The same, and the budget is spent: clauses were written with as many lemmas as it has.
@@ -162,6 +168,7 @@ pub record LeavesOpen (r : Run) : Type 0 where
   pub settings : Settings
   pub text : List ℕ
   pub fit : r.settings ≡ Some settings
-  pub searched : IsSearched r.held (asked settings) settings
-  pub open_at : ShownSpent settings.mode settings.command settings.conflicts text
+  pub loaded : Loaded
+  pub searched : IsSearched r.held (asked settings) settings loaded
+  pub open_at : ShownSpent loaded settings.mode settings.command settings.conflicts text
   pub line : Wrote r text

@@ -12,12 +12,13 @@ use Rattle.cli_words.specs.declared.settings.Settings.{Settings}
 use Rattle.sat_verdict.specs.Mode as lrat
 use Rattle.sat_verdict.specs.declared.mode.Verdict.{Verdict}
 use Rattle.syntax_lexer.specs.Tokens.{tokens_of}
-use Rattle.cli_run.specs.Answer.{usage_line}
-use Rattle.cli_run.specs.Files.{asked, file_rule, first_broken}
+use Rattle.cli_model.specs.Answer.{usage_line}
+use Rattle.cli_model.specs.Files.{asked, file_rule, first_broken}
 use Rattle.cli_run.specs.Outcome.{Run, RunsOn, EndsWith, statuses_of, Wrote, RefusesText}
 use Rattle.cli_run.specs.Outcome.{ChecksProof, ReadsTrace, ListsCommands, MakesModel, FailsToRead}
 use Rattle.cli_run.specs.Outcome.{FailsToWrite, FindsTrace, FindsNone, LeavesOpen}
-use Rattle.cli_run.specs.Run.{IsProofOf, model_of, reads_trace}
+use Rattle.cli_model.specs.Modes.{reads_trace}
+use Rattle.cli_run.specs.Allowed.{IsProofOf, model_of}
 
 -- a run that keeps every promise
 pub record IsRightRun (r : Run) : Type 0 where

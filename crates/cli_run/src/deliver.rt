@@ -1,9 +1,9 @@
 //! The answer is written by one call.
 
-ghost use Rattle.cli_run.specs.Run.{Delivered, Finished};
+ghost use Rattle.cli_run.specs.Allowed.{Delivered, Finished};
 
-use crate::Answer;
 use base_types::Sink;
+use cli_model::Answer;
 use std::alloc::{AllocError, Global};
 
 /// The status of a run that had no memory. Nothing was written.

@@ -5,17 +5,10 @@
 //! comes.
 #![tactic(auto)]
 
-mod analysis;
-mod answer;
 mod deliver;
-mod files;
-mod parsed;
-mod refusals;
-mod root;
 mod run;
 mod shelves;
-mod traced;
 mod work;
 
-pub use answer::Answer;
+pub use cli_model::Answer;
 pub use run::run_words;

@@ -4,13 +4,13 @@ ghost use Rattle.std.specs.Prelude.{◌≡◌, map, string_bytes, vec_len};
 ghost use Rattle.base_types.specs.Causes.{NoneFell};
 ghost use Rattle.cli_words.specs.Settings.{fitting};
 ghost use Rattle.cli_run.specs.Promises.{IsRightRun};
-ghost use Rattle.cli_run.specs.Run.{Justified};
+ghost use Rattle.cli_run.specs.Allowed.{Justified};
 
-use crate::Answer;
 use crate::deliver::finish;
 use crate::shelves::Shelves;
 use crate::work::answer;
 use base_types::{Library, Sink};
+use cli_model::Answer;
 use sat_decide::Chooser;
 use std::alloc::{AllocError, Global};
 use std::mem;

@@ -1,4 +1,4 @@
-use Rattle.cli_run.specs.Run.{delivered}
+use Rattle.cli_run.specs.Allowed.{delivered}
 use Rattle.cli_run.proofs.deliver.finish.Goals as goal
 
 pub returns-in-Ok : goal.returns-in-Ok

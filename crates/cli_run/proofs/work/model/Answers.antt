@@ -1,8 +1,9 @@
 use Rattle.std.proofs.Common.{◌∙◌, ◌∷◌, [], ap, sym, subst}
 use Rattle.base_types.specs.declared.limits.TheConstants.{MODULE_BYTES}
-use Rattle.cli_run.specs.Files.{asked, IsFile}
-use Rattle.cli_run.specs.declared.files.File.TheVariants.{Whole, Broken, Failed}
-use Rattle.cli_run.proofs.Allowed.{whole_allows, then_later, broken_allows, failed_allows}
+use Rattle.cli_model.specs.Files.{asked, IsFile}
+use Rattle.cli_model.specs.declared.files.File.TheVariants.{Whole, Broken, Failed}
+use Rattle.cli_model.proofs.OnModel.{then_later}
+use Rattle.cli_run.proofs.Allowed.{whole_allows, broken_allows, failed_allows}
 use Rattle.cli_run.proofs.work.model.Goals as goal
 
 pub on_model-requires-clause-short : goal.on_model-requires-clause-short

@@ -1,7 +1,7 @@
 use Rattle.std.proofs.Common.{◌≡◌, [], ap, Some}
 use Rattle.base_types.specs.declared.limits.TheConstants.{FILE_BYTES}
-use Rattle.cli_run.specs.Files.{second_asked}
-use Rattle.cli_run.specs.declared.files.File.TheVariants.{Whole, Broken, Failed}
+use Rattle.cli_model.specs.Files.{second_asked}
+use Rattle.cli_model.specs.declared.files.File.TheVariants.{Whole, Broken, Failed}
 use Rattle.cli_run.proofs.Allowed.{proof_allows, if_ok, broken_allows, failed_allows}
 use Rattle.cli_run.proofs.work.proof.Goals as goal
 

@@ -1,8 +1,9 @@
 use Rattle.std.proofs.Common.{◌∙◌, ◌∷◌, ap, sym}
 use Rattle.base_types.specs.declared.limits.TheConstants.{FILE_BYTES}
-use Rattle.cli_run.specs.Files.{asked, second_asked}
-use Rattle.cli_run.specs.declared.files.File.TheVariants.{Whole, Broken, Failed}
-use Rattle.cli_run.proofs.Allowed.{asked_lrat, then_allows, then_later, broken_allows, failed_allows}
+use Rattle.cli_model.specs.Files.{asked, second_asked}
+use Rattle.cli_model.specs.declared.files.File.TheVariants.{Whole, Broken, Failed}
+use Rattle.cli_model.proofs.OnModel.{then_later}
+use Rattle.cli_run.proofs.Allowed.{asked_lrat, then_allows, broken_allows, failed_allows}
 use Rattle.cli_run.proofs.work.refutation.Goals as goal
 
 pub proof-requires-clause-tells : goal.proof-requires-clause-tells

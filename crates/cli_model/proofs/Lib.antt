@@ -1,0 +1,4 @@
+mod Certified
+pub mod Fetched
+pub mod OnModel
+pub mod Questions

@@ -1,0 +1,15 @@
+use Rattle.cli_model.proofs.OnModel.{after_on, loaded_of, trace_fault_on, later_of}
+use Rattle.cli_model.proofs.traced.traced.Goals as goal
+
+pub returns-in-Ok-clause-on : goal.returns-in-Ok-clause-on
+returns-in-Ok-clause-on g c =
+    let told = g.L.Libraries.told c.args.libraries.now in
+    after_on c.args.settings.now told (g.L.Libraries.told c.load_tree.new.libraries) c.args.text.now (g.L.Libraries.counts c.args.libraries.now) (g.L.Libraries.counts c.load_tree.new.libraries)
+    (g.L.Libraries.counts c.on_loaded.new.libraries) c.on_loaded.result c.in-Ok.loaded c.in-Ok.ensures.cause c.load_tree.ensures.keeps
+    (loaded_of told c.text-name.result.now c.args.settings.now.file c.args.text.now c.args.parsed.tree c.in-Ok.loaded c.text-name.ensures c.requires.spells c.in-Ok.ensures.texts c.in-Ok.ensures.opens c.in-Ok.ensures.distinct)
+    c.requires.mode c.on_loaded.ensures.after
+
+pub returns-in-Err-clause-on : goal.returns-in-Err-clause-on
+returns-in-Err-clause-on g c =
+    trace_fault_on c.args.settings.now (g.L.Libraries.told c.args.libraries.now) c.args.text.now (g.L.Libraries.counts c.args.libraries.now) (g.L.Libraries.counts c.load_tree.new.libraries)
+    c.not_loaded.result c.in-Err.fault c.text-name.result.now c.args.parsed.tree c.text-name.ensures c.in-Err.ensures.cause c.in-Err.ensures.refused c.requires.spells c.requires.mode c.not_loaded.ensures

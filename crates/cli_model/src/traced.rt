@@ -1,0 +1,236 @@
+//! A trace is read: the model is loaded, then the expression is read, then the file of the trace.
+
+ghost use Rattle.std.specs.Prelude.{◌≡◌, ◌≤◌, length, true, is_some, Some, Ok, IfOk, IsTrue};
+ghost use Rattle.base_types.specs.Causes.{NoneFell};
+ghost use Rattle.syntax_lexer.specs.Tokens.{tokens_of};
+ghost use Rattle.cli_model.specs.Root.{SpellIn};
+ghost use Rattle.cli_model.specs.Model.{IsOnModel, IsModelOf, IsAfter, IsSaid, IsSaidOf, RefusesAt};
+ghost use Rattle.cli_model.specs.Modes.{reads_trace};
+ghost use Rattle.cli_model.specs.Refused.{BreaksExpression, RefusesExpression};
+
+use crate::Answer;
+use crate::analysis::{not_analysed, not_loaded};
+use crate::files::{File, whole_file};
+use crate::parsed::Parsed;
+use crate::ready::made_ready;
+use crate::refusals::{read_fault, refused};
+use answer_analysis::Prepared;
+use answer_judge::{ReadValue, TraceAnswer, judge_trace, read_value, value_on_trace};
+use base_types::limits::FILE_BYTES;
+use base_types::{Libraries, Name, Refusal};
+use cli_words::{Mode, Settings};
+use core_tree::Expr;
+use load_modules::load_tree;
+use std::alloc::{AllocError, Global};
+use syntax_tree::Loaded;
+
+/// The name of the text of an expression.
+const EXPRESSION: &str = "expr";
+
+/// The answer of a run that reads a trace of the module with this text, whose model is loaded
+/// first. The text is there for the proof: only the clauses name it.
+#[tactic(auto, using(crate::proofs::OnModel::later_of, crate::proofs::OnModel::then_later))]
+pub fn traced<L: Libraries>(
+    alloc: Global,
+    settings: &Settings,
+    text: &[u8],
+    parsed: Parsed,
+    libraries: &mut L,
+) -> Result<Answer, AllocError>
+    requires mode { IsTrue (reads_trace settings.now.mode) }
+    requires second { is_some settings.now.second ≡ true }
+    requires spells { SpellIn (tokens_of 0 text.now) parsed.tree }
+    ensures keeps { L.told libraries.new ≡ L.told libraries.old }
+    ensures later { NoneFell (L.counts libraries.old) (L.counts libraries.new) }
+    ensures on { IfOk result (λ answer. IsOnModel settings.now (L.told libraries.old) text.now
+        (L.counts libraries.old) (L.counts libraries.new) answer) }
+{
+    let name = settings.file.text();
+    match load_tree(alloc, libraries, name, parsed.tree, parsed.tokens) {
+        Ok(loaded) => on_loaded(alloc, settings, loaded, libraries),
+        Err(fault) => not_loaded(fault),
+    }
+}
+
+/// The answer once the model is loaded.
+fn on_loaded<L: Libraries>(
+    alloc: Global,
+    settings: &Settings,
+    loaded: Loaded,
+    libraries: &mut L,
+) -> Result<Answer, AllocError>
+    requires mode { IsTrue (reads_trace settings.now.mode) }
+    requires second { is_some settings.now.second ≡ true }
+    ensures keeps { L.told libraries.new ≡ L.told libraries.old }
+    ensures later { NoneFell (L.counts libraries.old) (L.counts libraries.new) }
+    ensures after { IfOk result (λ answer. IsAfter loaded settings.now (L.told libraries.old)
+        (L.counts libraries.old) (L.counts libraries.new) answer) }
+{
+    match made_ready(alloc, loaded, settings.command) {
+        Ok(prepared) => on_prepared(alloc, settings, &prepared, libraries),
+        Err(fault) => not_analysed(fault),
+    }
+}
+
+/// What is asked of a trace.
+#[derive(Drop)]
+enum Question {
+    /// What holds on it.
+    Judgement,
+    /// The tuples of an expression.
+    Value(Expr),
+    /// The expression breaks a rule.
+    Refused(Refusal),
+}
+
+/// What the settings ask of a trace.
+fn asked_question(
+    alloc: Global,
+    settings: &Settings,
+    prepared: &Prepared,
+) -> Result<Question, AllocError>
+    ensures { (refusal : _) → result ≡ Ok (Question.Refused refusal) →
+        RefusesExpression prepared.now.loaded settings.now refusal }
+{
+    let Some(expression) = &settings.expression else {
+        return Ok(Question::Judgement);
+    };
+    match settings.mode {
+        Mode::Eval => value_asked(alloc, prepared, expression),
+        _ => Ok(Question::Judgement),
+    }
+}
+
+/// What an expression asks of a trace.
+fn value_asked(
+    alloc: Global,
+    prepared: &Prepared,
+    expression: &Name,
+) -> Result<Question, AllocError>
+    ensures { (refusal : _) → result ≡ Ok (Question.Refused refusal) →
+        BreaksExpression prepared.now.loaded expression.now refusal }
+{
+    let loaded = &prepared.loaded;
+    let count = loaded.texts.len();
+    if count > u32::MAX as usize {
+        return Err(AllocError);
+    }
+    let number = count as u32;
+    let text = expression.text().as_bytes();
+    match read_value(
+        alloc,
+        loaded,
+        &prepared.model,
+        &prepared.scopes,
+        number,
+        text,
+    )? {
+        ReadValue::Tree(value) => Ok(Question::Value(value)),
+        ReadValue::Refused(refusal) => Ok(Question::Refused(refusal)),
+    }
+}
+
+/// The answer where an expression is refused, at a place in its own text or in that of a body that
+/// it calls.
+fn refused_value(alloc: Global, prepared: &Prepared, refusal: Refusal) -> Result<Answer, AllocError>
+    ensures { IfOk result (λ answer. RefusesAt prepared.now.loaded refusal answer) }
+{
+    let texts = &prepared.loaded.texts;
+    let number = refusal.place.module as usize;
+    if number >= texts.len() {
+        return Ok(Answer::Refused(refusal, Name::copy(alloc, EXPRESSION)?));
+    }
+    let name = texts.get(number).name.text();
+    Ok(Answer::Refused(refusal, Name::copy(alloc, name)?))
+}
+
+/// The answer once the model is prepared.
+fn on_prepared<L: Libraries>(
+    alloc: Global,
+    settings: &Settings,
+    prepared: &Prepared,
+    libraries: &mut L,
+) -> Result<Answer, AllocError>
+    requires made { IsModelOf prepared.now.loaded settings.now.command prepared.now }
+    requires mode { IsTrue (reads_trace settings.now.mode) }
+    requires second { is_some settings.now.second ≡ true }
+    ensures keeps { L.told libraries.new ≡ L.told libraries.old }
+    ensures later { NoneFell (L.counts libraries.old) (L.counts libraries.new) }
+    ensures after { IfOk result (λ answer. IsAfter prepared.now.loaded settings.now
+        (L.told libraries.old) (L.counts libraries.old) (L.counts libraries.new) answer) }
+{
+    match asked_question(alloc, settings, prepared)? {
+        Question::Judgement => on_second(alloc, settings, prepared, None, libraries),
+        Question::Value(value) => on_second(alloc, settings, prepared, Some(&value), libraries),
+        Question::Refused(refusal) => refused_value(alloc, prepared, refusal),
+    }
+}
+
+/// The answer once the expression is read, if there is one.
+fn on_second<L: Libraries>(
+    alloc: Global,
+    settings: &Settings,
+    prepared: &Prepared,
+    value: Option<&Expr>,
+    libraries: &mut L,
+) -> Result<Answer, AllocError>
+    requires made { IsModelOf prepared.now.loaded settings.now.command prepared.now }
+    requires mode { IsTrue (reads_trace settings.now.mode) }
+    requires second { is_some settings.now.second ≡ true }
+    ensures keeps { L.told libraries.new ≡ L.told libraries.old }
+    ensures later { NoneFell (L.counts libraries.old) (L.counts libraries.new) }
+    ensures after { IfOk result (λ answer. IsAfter prepared.now.loaded settings.now
+        (L.told libraries.old) (L.counts libraries.old) (L.counts libraries.new) answer) }
+{
+    let Some(second) = &settings.second else {
+        unreachable!();
+    };
+    let name = second.text();
+    match whole_file(alloc, libraries, name, FILE_BYTES)? {
+        File::Whole(trace) => on_trace(alloc, settings, prepared, value, name, &trace),
+        File::Broken(rule) => refused(alloc, rule, name),
+        File::Failed => read_fault(alloc, name),
+    }
+}
+
+/// The answer on the text of the trace in the file `second`.
+fn on_trace(
+    alloc: Global,
+    settings: &Settings,
+    prepared: &Prepared,
+    value: Option<&Expr>,
+    second: &str,
+    trace: &[u8],
+) -> Result<Answer, AllocError>
+    requires made { IsModelOf prepared.now.loaded settings.now.command prepared.now }
+    requires mode { IsTrue (reads_trace settings.now.mode) }
+    ensures { IfOk result (λ answer. IsSaidOf prepared.now.loaded settings.now second.now
+        trace.now answer) }
+{
+    let said = said_of(alloc, settings, prepared, value, trace)?;
+    Ok(Answer::Traced(said, Name::copy(alloc, second)?))
+}
+
+/// What the settings ask of a trace, answered.
+fn said_of(
+    alloc: Global,
+    settings: &Settings,
+    prepared: &Prepared,
+    value: Option<&Expr>,
+    trace: &[u8],
+) -> Result<TraceAnswer, AllocError>
+    requires made { IsModelOf prepared.now.loaded settings.now.command prepared.now }
+    requires mode { IsTrue (reads_trace settings.now.mode) }
+    ensures { IfOk result (λ said. IsSaid prepared.now.loaded settings.now.mode settings.now
+        trace.now said) }
+{
+    match settings.mode {
+        Mode::Replay => judge_trace(alloc, prepared, trace),
+        Mode::Eval => match value {
+            Some(value) => value_on_trace(alloc, prepared, value, settings.position, trace),
+            // Settings that fit have an expression.
+            None => Err(AllocError),
+        },
+        _ => unreachable!(),
+    }
+}
