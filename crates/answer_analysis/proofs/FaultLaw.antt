@@ -7,8 +7,8 @@ use Rattle.syntax_tree.specs.declared.instance.Text.{Text}
 use Rattle.syntax_tree.specs.declared.loaded.Loaded.{Loaded}
 use Rattle.core_meaning.specs.declared.scopes.Scopes.{Scopes}
 use Rattle.bound_scopes.specs.Limits.{IsScopeFault, no_command}
-use Rattle.bound_scopes.specs.declared.fault.ScopeFault.{ScopeFault}
-use Rattle.bound_scopes.specs.declared.fault.ScopeFault.TheVariants.{Refused}
+use Rattle.base_types.specs.declared.fault.Fault.{Fault}
+use Rattle.base_types.specs.declared.fault.Fault.TheVariants.{Refused}
 use Rattle.answer_analysis.specs.Found.{IsLoadedFault, IsOfCommand, IsOfModel, no_such, on_scopes}
 use Rattle.answer_analysis.specs.declared.fault.AnalyseFault.TheVariants as analyse
 
@@ -18,7 +18,7 @@ pub named_fault : (loaded : Loaded) (refusal : Refusal) (text : Text) (name : Li
 named_fault loaded refusal text name get at why = (ap (option_map (λ (t : Text). t.name)) get ∙ ap (λ n. Some n) (sym at), why)
 
 -- a refusal of scopes is by a rule on a command and its scopes
-pub of_scopes : (count command : ℕ) (r : Result Scopes ScopeFault) (refusal : Refusal) → r ≡ Err (Refused refusal) → (count ≤ command → r ≡ Err (Refused no_command)) →
+pub of_scopes : (count command : ℕ) (r : Result Scopes Fault) (refusal : Refusal) → r ≡ Err (Refused refusal) → (count ≤ command → r ≡ Err (Refused no_command)) →
     (command < count → IfErr r (λ e. IsScopeFault e)) → IsOfCommand refusal
 of_scopes count command r refusal is none fault = go (ltb command count) refl
   where

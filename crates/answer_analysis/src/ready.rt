@@ -18,14 +18,14 @@ ghost use Rattle.answer_laws.specs.Form.{HaveLassos};
 use crate::fault::{AnalyseFault, refused_in};
 use answer_checks::{extends_plain, has_universe, have_lassos, keeps_whole_model};
 use answer_trace::{Labels, make_labels};
-use base_types::{Position, Refusal, Rule};
-use bound_scopes::{ScopeFault, scopes};
-use bound_uppers::{Bounds, BoundsFault, bounds};
+use base_types::{Fault, Position, Refusal, Rule};
+use bound_scopes::scopes;
+use bound_uppers::{Bounds, bounds};
 use core_meaning::{Scopes, Target};
 use core_tree::Model;
 use form_skolem::open_params;
 use form_target::{PartList, parts_of, target_of};
-use resolve_model::{ResolveFault, resolve};
+use resolve_model::resolve;
 use std::alloc::{AllocError, Global};
 use syntax_tree::Loaded;
 
@@ -50,8 +50,8 @@ fn model_of(alloc: Global, loaded: &Loaded) -> Result<Model, AnalyseFault>
 {
     match resolve(alloc, loaded) {
         Ok(model) => Ok(model),
-        Err(ResolveFault::Refused(refusal)) => Err(refused_in(alloc, loaded, refusal)),
-        Err(ResolveFault::Memory) => Err(AnalyseFault::Memory),
+        Err(Fault::Refused(refusal)) => Err(refused_in(alloc, loaded, refusal)),
+        Err(Fault::Memory) => Err(AnalyseFault::Memory),
     }
 }
 
@@ -88,8 +88,8 @@ fn scopes_of(
 {
     match scopes(alloc, model, command) {
         Ok(scopes) => Ok(scopes),
-        Err(ScopeFault::Refused(refusal)) => Err(refused_in(alloc, loaded, refusal)),
-        Err(ScopeFault::Memory) => Err(AnalyseFault::Memory),
+        Err(Fault::Refused(refusal)) => Err(refused_in(alloc, loaded, refusal)),
+        Err(Fault::Memory) => Err(AnalyseFault::Memory),
     }
 }
 
@@ -113,14 +113,14 @@ fn bounds_of(
     match bounds(alloc, model, scopes, keyword) {
         Ok(bounds) => Ok(bounds),
         // The one rule on bounds, which is broken at the command.
-        Err(BoundsFault::Refused(_)) => {
+        Err(Fault::Refused(_)) => {
             let refusal = Refusal {
                 rule: Rule::Cells,
                 place: keyword,
             };
             Err(refused_in(alloc, loaded, refusal))
         }
-        Err(BoundsFault::Memory) => Err(AnalyseFault::Memory),
+        Err(Fault::Memory) => Err(AnalyseFault::Memory),
     }
 }
 

@@ -7,14 +7,13 @@ ghost use Rattle.syntax_lexer.specs.Tokens.{tokens_of};
 ghost use Rattle.answer_judge.specs.Expression.{large_text};
 
 use base_types::limits::MODULE_BYTES;
-use base_types::{Position, Refusal, Rule};
-use bound_scopes::{ScopeFault, check_value};
+use base_types::{Fault, Position, Refusal, Rule};
+use bound_scopes::check_value;
 use core_meaning::Scopes;
 use core_tree::{Expr, Model};
-use resolve_model::{ResolveFault, resolve_value};
+use resolve_model::resolve_value;
 use std::alloc::{AllocError, Global};
-use syntax_expr::ParseFault;
-use syntax_lexer::{LexFault, lex};
+use syntax_lexer::lex;
 use syntax_parser::parse_expr;
 use syntax_tree::{Expr as Tree, Loaded, Token};
 
@@ -52,8 +51,8 @@ pub fn read_value(
     }
     match lex(alloc, number, text) {
         Ok(tokens) => parsed(alloc, loaded, model, scopes, &tokens),
-        Err(LexFault::Refused(refusal)) => Ok(ReadValue::Refused(refusal)),
-        Err(LexFault::Memory) => Err(AllocError),
+        Err(Fault::Refused(refusal)) => Ok(ReadValue::Refused(refusal)),
+        Err(Fault::Memory) => Err(AllocError),
     }
 }
 
@@ -93,8 +92,8 @@ fn parsed(
             }
             resolved(alloc, loaded, model, scopes, &parsed.tree, tokens[0].place)
         }
-        Err(ParseFault::Refused(refusal)) => Ok(ReadValue::Refused(refusal)),
-        Err(ParseFault::Memory) => Err(AllocError),
+        Err(Fault::Refused(refusal)) => Ok(ReadValue::Refused(refusal)),
+        Err(Fault::Memory) => Err(AllocError),
     }
 }
 
@@ -109,8 +108,8 @@ fn resolved(
 ) -> Result<ReadValue, AllocError> {
     match resolve_value(alloc, loaded, model, tree) {
         Ok(value) => checked(alloc, model, scopes, value, first),
-        Err(ResolveFault::Refused(refusal)) => Ok(ReadValue::Refused(refusal)),
-        Err(ResolveFault::Memory) => Err(AllocError),
+        Err(Fault::Refused(refusal)) => Ok(ReadValue::Refused(refusal)),
+        Err(Fault::Memory) => Err(AllocError),
     }
 }
 
@@ -128,7 +127,7 @@ fn checked(
     }
     match check_value(alloc, model, scopes, &value, first) {
         Ok(()) => Ok(ReadValue::Tree(value)),
-        Err(ScopeFault::Refused(refusal)) => Ok(ReadValue::Refused(refusal)),
-        Err(ScopeFault::Memory) => Err(AllocError),
+        Err(Fault::Refused(refusal)) => Ok(ReadValue::Refused(refusal)),
+        Err(Fault::Memory) => Err(AllocError),
     }
 }

@@ -8,6 +8,7 @@
 #![tactic(auto)]
 
 mod assignment;
+mod fault;
 mod library;
 pub mod limits;
 mod list;
@@ -17,6 +18,7 @@ mod sink;
 mod text;
 
 pub use assignment::Assignment;
+pub use fault::Fault;
 pub use library::{Fetch, FetchFault, Library};
 pub use list::Libraries;
 pub use memory::{MemoryLibrary, MemorySink};

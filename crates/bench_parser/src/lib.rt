@@ -12,13 +12,12 @@ mod same;
 use anyhow::Result;
 use base_library::EmbeddedLibrary;
 use base_types::limits::MODULE_BYTES;
-use base_types::{Fetch, Library, Position, Refusal, Rule};
+use base_types::{Fault, Fetch, Library, Position, Refusal, Rule};
 use same::same_words;
 use std::alloc::Global;
 use std::fs;
 use std::rt::Files;
-use syntax_expr::ParseFault;
-use syntax_lexer::{LexFault, lex};
+use syntax_lexer::lex;
 use syntax_parser::parse_module;
 use syntax_printer::spell;
 use syntax_tree::Token;
@@ -37,8 +36,8 @@ fn said_of_tokens(alloc: Global, tokens: &[Token]) -> Said
 {
     let tree = match parse_module(alloc, tokens) {
         Ok(tree) => tree,
-        Err(ParseFault::Refused(refusal)) => return Said::Refused(refusal),
-        Err(ParseFault::Memory) => return Said::Lost,
+        Err(Fault::Refused(refusal)) => return Said::Refused(refusal),
+        Err(Fault::Memory) => return Said::Lost,
     };
     match spell(alloc, &tree) {
         Ok(words) if same_words(tokens, &words) => Said::Spelled,
@@ -51,8 +50,8 @@ fn said_of_text(alloc: Global, text: &[u8]) -> Said
 {
     match lex(alloc, 0, text) {
         Ok(tokens) => said_of_tokens(alloc, &tokens),
-        Err(LexFault::Refused(refusal)) => Said::Refused(refusal),
-        Err(LexFault::Memory) => Said::Lost,
+        Err(Fault::Refused(refusal)) => Said::Refused(refusal),
+        Err(Fault::Memory) => Said::Lost,
     }
 }
 

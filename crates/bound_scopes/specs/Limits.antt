@@ -8,8 +8,8 @@ use Rattle.core_tree.specs.declared.model.Model.{Model}
 use Rattle.core_meaning.specs.declared.scopes.Scopes.{Scopes}
 use Rattle.core_meaning.specs.Kept.{universe_size}
 use Rattle.bound_scopes.specs.Numbers.{AreSigScopes}
-use Rattle.bound_scopes.specs.declared.fault.ScopeFault.{ScopeFault}
-use Rattle.bound_scopes.specs.declared.fault.ScopeFault.TheVariants.{Refused, Memory}
+use Rattle.base_types.specs.declared.fault.Fault.{Fault}
+use Rattle.base_types.specs.declared.fault.Fault.TheVariants.{Refused, Memory}
 
 -- one entry for each sig, as its declaration asks, and numbers within the limits
 pub record AreScopes (model : Model) (s : Scopes) : Type 0 where
@@ -27,12 +27,12 @@ abbrev pub IsScopeRule : Rule → Type 0
 IsScopeRule rule = IsTrue (is_scope_number (number_of rule))
 
 -- a refusal by one of these rules, or want of memory
-abbrev pub IsScopeFault : ScopeFault → Type 0
+abbrev pub IsScopeFault : Fault → Type 0
 IsScopeFault Memory = Unit {0}
 IsScopeFault (Refused r) = IsScopeRule r.rule
 
 -- the numbers of the rules that a value may break
-abbrev pub IsValueFault : ScopeFault → Type 0
+abbrev pub IsValueFault : Fault → Type 0
 IsValueFault Memory = Unit {0}
 IsValueFault (Refused r) = IsTrue (number_of r.rule == 46 || number_of r.rule == 48 || number_of r.rule == 49)
 

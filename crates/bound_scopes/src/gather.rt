@@ -4,11 +4,10 @@
 
 ghost use Rattle.std.specs.Prelude.{◌≡◌, ◌≤◌, IfErr};
 ghost use Rattle.bound_scopes.specs.Limits.{IsValueFault};
-ghost use Rattle.bound_scopes.specs.declared.fault.ScopeFault.TheVariants.{Refused};
+ghost use Rattle.base_types.specs.declared.fault.Fault.TheVariants.{Refused};
 
-use crate::fault::ScopeFault;
 use base_types::limits::{INLINED_DEPTH, PAST_DEPTH};
-use base_types::{Position, Refusal, Rule};
+use base_types::{Fault, Position, Refusal, Rule};
 use core_meaning::Scopes;
 use core_tree::{Command, Expr, Fact, Field, Model, Origin, Sig};
 use form_measures::{Measure, Reach, Summary, earliest, expr_depth, formula_depth, summaries};
@@ -202,7 +201,7 @@ pub fn check_value(
     scopes: &Scopes,
     value: &Expr,
     first: Position,
-) -> Result<(), ScopeFault>
+) -> Result<(), Fault>
     requires bits { (1 ≤ scopes.now.bits) × (scopes.now.bits ≤ 12) }
     ensures fault { IfErr result (λ e. IsValueFault e) }
 {
@@ -233,8 +232,8 @@ fn value_depth(
 }
 
 /// A broken rule and its place.
-pub(crate) fn refused(rule: Rule, place: Position) -> ScopeFault
+pub(crate) fn refused(rule: Rule, place: Position) -> Fault
     ensures { result ≡ Refused (record { rule = rule; place = place }) }
 {
-    ScopeFault::Refused(Refusal { rule, place })
+    Fault::Refused(Refusal { rule, place })
 }

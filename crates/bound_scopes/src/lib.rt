@@ -4,11 +4,9 @@
 
 mod atoms;
 mod entries;
-mod fault;
 mod gather;
 mod keeps;
 mod limits;
 
-pub use fault::ScopeFault;
 pub use gather::check_value;
 pub use limits::scopes;

@@ -10,15 +10,14 @@ ghost use Rattle.bound_numbers.specs.Listed.{number_or};
 ghost use Rattle.bound_numbers.specs.Tables.{AreNumbered};
 ghost use Rattle.bound_scopes.specs.Limits.{AreScopes, IsScopeRule, IsScopeFault, no_command};
 ghost use Rattle.bound_scopes.specs.Numbers.{AreSigScopes, IsListed};
-ghost use Rattle.bound_scopes.specs.declared.fault.ScopeFault.TheVariants.{Refused};
+ghost use Rattle.base_types.specs.declared.fault.Fault.TheVariants.{Refused};
 
 use crate::atoms::fits;
 use crate::entries::{bad_entry, conflict, exact_subset, exact_var};
-use crate::fault::ScopeFault;
 use crate::gather::{over_limit, refused, wide_literal};
 use crate::keeps::{are_listed, are_sig_scopes};
 use base_types::limits::{ATOMS, BITWIDTH, STEPS};
-use base_types::{Position, Rule};
+use base_types::{Fault, Position, Rule};
 use bound_numbers::{Asked, Numbered, first_entry, numbers};
 use core_meaning::{Scopes, SigScopeList};
 use core_tree::{
@@ -50,7 +49,7 @@ const ROOT: Position = Position {
 /// bitwidth or a number of states out of range (S64, S65), too many atoms (S66), a number outside
 /// the bitwidth (S46), too many nested past operators (S48), and too great a depth once calls are
 /// written out (S49).
-pub fn scopes(alloc: Global, model: &Model, command: u32) -> Result<Scopes, ScopeFault>
+pub fn scopes(alloc: Global, model: &Model, command: u32) -> Result<Scopes, Fault>
     ensures ok { IfOk result (λ s. AreScopes model.now s) }
     ensures listed { IfSome (slice_get model.now.commands command)
         (λ c. IfOk result (λ s. All (IsListed s.numbers) c.scope)) }
@@ -90,7 +89,7 @@ fn kept_numbers(
 }
 
 /// The scopes of a command of the model.
-fn scopes_of(alloc: Global, model: &Model, command: &Command) -> Result<Scopes, ScopeFault>
+fn scopes_of(alloc: Global, model: &Model, command: &Command) -> Result<Scopes, Fault>
     ensures ok { IfOk result (λ s. AreScopes model.now s) }
     ensures listed { IfOk result (λ s. All (IsListed s.numbers) command.now.scope) }
     ensures by { IfOk result (AreScopesBy model.now command.now) }
@@ -112,7 +111,7 @@ fn scopes_of(alloc: Global, model: &Model, command: &Command) -> Result<Scopes, 
 }
 
 /// Asks of what the command lists that it keeps S61, S62 and S63.
-fn check_listed(alloc: Global, sigs: &[Sig], entries: &[ScopeEntry]) -> Result<(), ScopeFault>
+fn check_listed(alloc: Global, sigs: &[Sig], entries: &[ScopeEntry]) -> Result<(), Fault>
     ensures { IfErr result (λ e. IsScopeFault e) }
 {
     let bad = bad_entry(alloc, sigs, entries)?;
@@ -122,7 +121,7 @@ fn check_listed(alloc: Global, sigs: &[Sig], entries: &[ScopeEntry]) -> Result<(
 }
 
 /// A rule that is broken where there is a place for it.
-fn ask(rule: Rule, found: Option<Origin>) -> Result<(), ScopeFault>
+fn ask(rule: Rule, found: Option<Origin>) -> Result<(), Fault>
     requires { IsScopeRule rule }
     ensures { IfErr result (λ e. IsScopeFault e) }
 {
@@ -133,12 +132,7 @@ fn ask(rule: Rule, found: Option<Origin>) -> Result<(), ScopeFault>
 }
 
 /// A number in its range, or the refusal at its place.
-fn in_range(
-    rule: Rule,
-    given: Option<Numbered>,
-    default: u32,
-    greatest: u32,
-) -> Result<u32, ScopeFault>
+fn in_range(rule: Rule, given: Option<Numbered>, default: u32, greatest: u32) -> Result<u32, Fault>
     requires default { (1 ≤ default) × (default ≤ greatest) }
     requires rule { IsScopeRule rule }
     ensures ok { IfOk result (λ n. (1 ≤ n) × (n ≤ greatest)) }
@@ -158,7 +152,7 @@ fn in_range(
 }
 
 /// The bitwidth, or S64.
-fn bits_of(entries: &ScopeEntryList) -> Result<u32, ScopeFault>
+fn bits_of(entries: &ScopeEntryList) -> Result<u32, Fault>
     ensures ok { IfOk result (λ n. (1 ≤ n) × (n ≤ 12)) }
     ensures is { IfOk result (λ n. n ≡ bits_in entries.now) }
     ensures fault { IfErr result (λ e. IsScopeFault e) }
@@ -169,7 +163,7 @@ fn bits_of(entries: &ScopeEntryList) -> Result<u32, ScopeFault>
 }
 
 /// The states that are listed or usual, or S65.
-fn steps_of(entries: &ScopeEntryList) -> Result<u32, ScopeFault>
+fn steps_of(entries: &ScopeEntryList) -> Result<u32, Fault>
     ensures ok { IfOk result (λ n. (1 ≤ n) × (n ≤ 32)) }
     ensures is { IfOk result (λ n. n ≡ steps_in entries.now) }
     ensures fault { IfErr result (λ e. IsScopeFault e) }
@@ -189,7 +183,7 @@ fn integers_of(bits: u32) -> u64
 }
 
 /// Asks that the atoms and the integers are few enough (S66).
-fn check_atoms(numbers: &SigScopeList, bits: u32, keyword: Position) -> Result<(), ScopeFault>
+fn check_atoms(numbers: &SigScopeList, bits: u32, keyword: Position) -> Result<(), Fault>
     requires { (1 ≤ bits) × (bits ≤ 12) }
     ensures ok { IfOk result (λ _. atom_count numbers.now + 2 ^ bits ≤ 16384) }
     ensures fault { IfErr result (λ e. IsScopeFault e) }
@@ -204,7 +198,7 @@ fn check_atoms(numbers: &SigScopeList, bits: u32, keyword: Position) -> Result<(
 
 /// Asks of all trees that count for the command that they keep the bitwidth (S46) and the limits of
 /// past operators (S48) and depth (S49).
-fn check_trees(alloc: Global, model: &Model, command: &Command, bits: u32) -> Result<(), ScopeFault>
+fn check_trees(alloc: Global, model: &Model, command: &Command, bits: u32) -> Result<(), Fault>
     requires { (1 ≤ bits) × (bits ≤ 12) }
     ensures { IfErr result (λ e. IsScopeFault e) }
 {

@@ -21,5 +21,5 @@ pub use laws::{lassos_unroll, one_lasso_is_decoded, rows_rise};
 pub use numbering::layout;
 pub use places::{Cells, Layout};
 pub use shortening::shortest;
-pub use table::{Bound, BoundList, Bounds, BoundsFault};
+pub use table::{Bound, BoundList, Bounds};
 pub use uppers::bounds;

@@ -99,7 +99,8 @@ fn longer(alloc: Global, sets: &AtomSets, set: &TupleSet, kind: u32) -> Result<T
     requires sets { AreColumns sets.now }
     requires few { set.now.arity < 9 }
     ensures { IfOk result (λ s. (row : List ℕ) (n : ℕ) → n < length row → kind ≡ slice_index row n
-        → HasJust set.now n (InKinds sets.now (take n row)) → HasJust s (n + 1) (InKinds sets.now (take (n + 1) row))) }
+        → HasJust set.now n (InKinds sets.now (take n row)) →
+        HasJust s (n + 1) (InKinds sets.now (take (n + 1) row))) }
 {
     let column = set_of(sets, kind);
     let more = product(alloc, set, column)?;

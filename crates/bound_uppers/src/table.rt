@@ -25,23 +25,3 @@ pub struct Bounds {
     pub relations: BoundList,
     pub states: u32,
 }
-
-/// Why there are no bounds.
-#[derive(Clone, Copy, Debug, PartialEq, Eq)]
-pub enum BoundsFault {
-    /// The table would have more than 1,000,000 variables.
-    Refused(Refusal),
-    /// Memory was refused.
-    Memory,
-}
-
-impl From<AllocError> for BoundsFault {
-    ghost use Rattle.std.specs.Prelude.{◌≡◌};
-    ghost use Rattle.bound_uppers.specs.declared.table.BoundsFault.TheVariants.{Memory};
-
-    ghost from_gives = { λ _ fault. fault ≡ Memory };
-
-    fn from(_error: AllocError) -> Self {
-        BoundsFault::Memory
-    }
-}

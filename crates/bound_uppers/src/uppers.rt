@@ -22,8 +22,8 @@ use crate::kinds::{sig_kinds, type_kinds};
 use crate::numbers::{AtomRange, AtomRanges, spans_of};
 use crate::order::orders;
 use crate::rows::{rows_hold, rows_set, rows_size, span_set};
-use crate::table::{Bound, BoundList, Bounds, BoundsFault};
-use base_types::{Position, Refusal, Rule};
+use crate::table::{Bound, BoundList, Bounds};
+use base_types::{Fault, Position, Refusal, Rule};
 use bound_owners::own::{constants_of, have_origins, table_standing};
 use bound_owners::tops::tops;
 use core_meaning::Scopes;
@@ -470,7 +470,7 @@ pub fn bounds(
     model: &Model,
     scopes: &Scopes,
     keyword: Position,
-) -> Result<Bounds, BoundsFault>
+) -> Result<Bounds, Fault>
     ensures table { IfOk result IsTable }
     ensures order { IfOk result (λ b. (r : ℕ) (c : Bound) → slice_get b.relations r ≡ Some c →
         c.order ≡ order_of model.now r) }
@@ -485,7 +485,7 @@ pub fn bounds(
     let ups = tops(alloc, model.sigs.as_slice())?;
     let states = states_of(scopes.states);
     if is_large(alloc, model, &ups, &spans, states)? {
-        return Err(BoundsFault::Refused(Refusal {
+        return Err(Fault::Refused(Refusal {
             rule: Rule::Cells,
             place: keyword,
         }));

@@ -6,10 +6,10 @@ ghost use Rattle.syntax_lexer.specs.Tokens.{tokens_of};
 ghost use Rattle.cli_model.specs.Root.{ReadsTo, ParsesTo};
 
 use crate::parsed::{Parsed, Root};
+use base_types::Fault;
 use base_types::limits::MODULE_BYTES;
 use std::alloc::{AllocError, Global};
-use syntax_expr::ParseFault;
-use syntax_lexer::{LexFault, lex};
+use syntax_lexer::lex;
 use syntax_parser::parse_module;
 use syntax_tree::Token;
 
@@ -22,8 +22,8 @@ pub fn root_of(alloc: Global, text: &[u8]) -> Result<Root, AllocError>
 {
     match lex(alloc, 0, text) {
         Ok(tokens) => root_of_tokens(alloc, &tokens),
-        Err(LexFault::Refused(refusal)) => Ok(Root::Broken(refusal)),
-        Err(LexFault::Memory) => Err(AllocError),
+        Err(Fault::Refused(refusal)) => Ok(Root::Broken(refusal)),
+        Err(Fault::Memory) => Err(AllocError),
     }
 }
 
@@ -38,7 +38,7 @@ fn root_of_tokens(alloc: Global, tokens: &[Token]) -> Result<Root, AllocError>
             tree,
             tokens: tokens.len(),
         })),
-        Err(ParseFault::Refused(refusal)) => Ok(Root::Broken(refusal)),
-        Err(ParseFault::Memory) => Err(AllocError),
+        Err(Fault::Refused(refusal)) => Ok(Root::Broken(refusal)),
+        Err(Fault::Memory) => Err(AllocError),
     }
 }

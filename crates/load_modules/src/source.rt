@@ -17,11 +17,10 @@ ghost use Rattle.syntax_places.specs.Pieces.{at_places};
 ghost use Rattle.base_types.specs.declared.limits.TheConstants.{TREE_DEPTH};
 
 use base_types::limits::MODULE_BYTES;
-use base_types::{Name, Rule};
+use base_types::{Fault, Name, Rule};
 use load_state::{LoadFault, Source, Table, refused, start_of};
 use std::alloc::{AllocError, Global};
-use syntax_expr::ParseFault;
-use syntax_lexer::{LexFault, lex};
+use syntax_lexer::lex;
 use syntax_parser::parse_module;
 use syntax_tree::{Module, Text, Token};
 
@@ -73,10 +72,8 @@ fn tokens_of(alloc: Global, number: u32, name: &str, bytes: &[u8]) -> Result<Vec
 {
     match lex(alloc, number, bytes) {
         Ok(tokens) => Ok(tokens),
-        Err(LexFault::Refused(refusal)) => {
-            Err(refused(alloc, refusal.rule, refusal.place, name))
-        }
-        Err(LexFault::Memory) => Err(LoadFault::Memory),
+        Err(Fault::Refused(refusal)) => { Err(refused(alloc, refusal.rule, refusal.place, name)) }
+        Err(Fault::Memory) => Err(LoadFault::Memory),
     }
 }
 
@@ -93,10 +90,10 @@ fn tree_of(alloc: Global, name: &str, tokens: &[Token]) -> Result<Module, LoadFa
 {
     match parse_module(alloc, tokens) {
         Ok(tree) => Ok(tree),
-        Err(ParseFault::Refused(refusal)) => {
+        Err(Fault::Refused(refusal)) => {
             Err(refused(alloc, rule_of_tokens(refusal.rule), refusal.place, name))
         }
-        Err(ParseFault::Memory) => Err(LoadFault::Memory),
+        Err(Fault::Memory) => Err(LoadFault::Memory),
     }
 }
 

@@ -3,11 +3,11 @@
 
 ghost use Rattle.std.specs.Prelude.{◌≡◌, ◌<◌, ◌≤◌, true, IsTrue, IfErr, IfOk, OnOk, length, map};
 ghost use Rattle.load_state.specs.Causes.{IsTried, IsUnread, Causes, IsQuietFault};
-ghost use Rattle.load_state.specs.Keys.{texts_of, text_at};
 ghost use Rattle.load_state.specs.Opens.{IsPlaceOf};
 ghost use Rattle.load_state.specs.Places.{IsInText};
 ghost use Rattle.load_modules.specs.Refused.{IsOfText, Refuses};
 ghost use Rattle.load_modules.specs.Told.{IsFront, Learns, LearnsPath, Keeps, StaysDistinct, IsTaken, IsGrown, texts_in};
+ghost use Rattle.load_state.specs.Loadings.{instance_text};
 
 use crate::source::read_text;
 use base_types::limits::MODULE_BYTES;
@@ -201,8 +201,7 @@ fn target_of<L: Libraries>(
     limit: usize,
     request: &Request,
 ) -> Result<Target, LoadFault>
-    requires { IsPlaceOf (text_at loading.old.keys.items (texts_of loading.old.sources.items)
-        instance) request.now.place }
+    requires { IsPlaceOf (instance_text loading.old instance) request.now.place }
     ensures keeps { L.told libraries.new ≡ L.told libraries.old }
     ensures cause { Causes root.now (L.counts libraries.old) (L.counts libraries.new) result }
     ensures refused { IfErr result (Refuses (L.told libraries.old) root.now loading.old) }
@@ -230,9 +229,8 @@ fn found_or_refused(
     found: Option<u32>,
 ) -> Result<Target, LoadFault>
     ensures quiet { IfErr result IsQuietFault }
-    ensures refused { IsPlaceOf (text_at loading.old.keys.items (texts_of loading.old.sources.items)
-        instance) request.now.place → IfErr result
-        (IsInText (text_at loading.old.keys.items (texts_of loading.old.sources.items) instance)) }
+    ensures refused { IsPlaceOf (instance_text loading.old instance) request.now.place →
+        IfErr result (IsInText (instance_text loading.old instance)) }
     ensures grows { length loading.old.keys.items ≤ length loading.new.keys.items }
     ensures new { IfOk result (λ t. t.is_new ≡ true →
         (length loading.old.keys.items < length loading.new.keys.items)

@@ -1,6 +1,7 @@
 pub mod Causes
 pub mod Keys
 pub mod Leads
+pub mod Loadings
 pub mod Names
 pub mod Opens
 pub mod Places

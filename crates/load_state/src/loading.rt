@@ -2,7 +2,8 @@
 
 ghost use Rattle.std.specs.Prelude.{◌≡◌, ◌++◌, [], ◌∷◌, OnOk, IfOk, MatchOption, slice_get, Some};
 ghost use Rattle.std.specs.Bool.{Decides};
-ghost use Rattle.load_state.specs.Keys.{pair_of, Lacks, IsAt, answer_in, is_followed, is_open_from, texts_of, text_at};
+ghost use Rattle.load_state.specs.Keys.{pair_of, Lacks, IsAt, answer_in, is_followed, is_open_from};
+ghost use Rattle.load_state.specs.Loadings.{instance_text};
 
 use crate::reach::{InstanceSet, Reach};
 use crate::source::Source;
@@ -188,8 +189,7 @@ pub fn key_at(keys: &[Key], instance: usize) -> Result<&Key, AllocError>
 
 /// The text of the instance of this number.
 pub fn source_of(loading: &Loading, instance: usize) -> Result<&Source, AllocError>
-    ensures { IfOk result (λ source. text_at loading.now.keys.items
-        (texts_of loading.now.sources.items) instance ≡ Some source.now.text) }
+    ensures { IfOk result (λ source. instance_text loading.now instance ≡ Some source.now.text) }
 {
     let key = key_at(&loading.keys, instance)?;
     loading.sources.get(key.text as usize).ok_or(AllocError)

@@ -2,11 +2,12 @@
 
 ghost use Rattle.std.specs.Prelude.{◌≡◌, ◌+◌, ◌<◌, ◌≤◌, true, false, IsTrue, IfErr, IfOk, OnOk, OnErr, length, map, [], ◌∷◌, ◌++◌};
 ghost use Rattle.load_state.specs.Causes.{IsQuietFault};
-ghost use Rattle.load_state.specs.Keys.{pair_of, AreDistinct, IsAt, is_open_from, texts_of, text_at};
+ghost use Rattle.load_state.specs.Keys.{pair_of, AreDistinct, IsAt, is_open_from};
 ghost use Rattle.load_state.specs.Opens.{IsAsked, IsPlaceOf, IsOpenCount};
 ghost use Rattle.load_state.specs.Places.{IsInText};
 ghost use Rattle.load_state.specs.Refusals.{is_of_loading};
 ghost use Rattle.load_state.specs.declared.fault.LoadFault.TheVariants.{Memory};
+ghost use Rattle.load_state.specs.Loadings.{instance_text};
 
 use crate::argument::Opener;
 use crate::label::{longer_path, new_label};
@@ -46,8 +47,7 @@ pub fn note(
 /// How many opens an instance has, with those that enums imply.
 #[tactic(auto, using(crate::proofs::Opens::opens_counted))]
 pub fn open_count(loading: &Loading, instance: usize) -> Result<usize, AllocError>
-    ensures { IfOk result (IsOpenCount (text_at loading.now.keys.items
-        (texts_of loading.now.sources.items) instance)) }
+    ensures { IfOk result (IsOpenCount (instance_text loading.now instance)) }
 {
     let source = source_of(loading, instance)?;
     let written = source.text.tree.opens.len();
@@ -65,10 +65,8 @@ pub fn request_at(
     number: usize,
 ) -> Result<Request, LoadFault>
     ensures quiet { IfErr result IsQuietFault }
-    ensures refused { IfErr result (IsInText (text_at loading.now.keys.items
-        (texts_of loading.now.sources.items) instance)) }
-    ensures asked { IfOk result (IsAsked (text_at loading.now.keys.items
-        (texts_of loading.now.sources.items) instance) instance number) }
+    ensures refused { IfErr result (IsInText (instance_text loading.now instance)) }
+    ensures asked { IfOk result (IsAsked (instance_text loading.now instance) instance number) }
 {
     let key = key_at(&loading.keys, instance)?;
     let source = source_of(loading, instance)?;
@@ -117,9 +115,8 @@ pub fn placed(
     ensures texts { loading.new.sources.items ≡ loading.old.sources.items }
     ensures asked { loading.new.asked.items ≡ loading.old.asked.items }
     ensures finished { loading.new.finished.items ≡ loading.old.finished.items }
-    ensures refused { IsPlaceOf (text_at loading.old.keys.items (texts_of loading.old.sources.items)
-        instance) request.now.place → IfErr result
-        (IsInText (text_at loading.old.keys.items (texts_of loading.old.sources.items) instance)) }
+    ensures refused { IsPlaceOf (instance_text loading.old instance) request.now.place →
+        IfErr result (IsInText (instance_text loading.old instance)) }
     ensures off_chain { IfOk result (λ t. is_open_from loading.old.finished.items text 0
         loading.old.keys.items ≡ false) }
     ensures reached { IfOk result (λ t. IsAt loading.new.keys.items t.instance
@@ -160,9 +157,8 @@ pub fn refused_open(
 ) -> LoadFault
     requires { IsTrue (is_of_loading rule) }
     ensures quiet { IsQuietFault result }
-    ensures refused { IsPlaceOf (text_at loading.now.keys.items (texts_of loading.now.sources.items)
-        instance) request.now.place → IsInText (text_at loading.now.keys.items
-        (texts_of loading.now.sources.items) instance) result }
+    ensures refused { IsPlaceOf (instance_text loading.now instance) request.now.place →
+        IsInText (instance_text loading.now instance) result }
 {
     match source_of(loading, instance) {
         Ok(source) => refused(alloc, rule, request.place, source.text.name.text()),

@@ -3,8 +3,8 @@ use Rattle.std.specs.Prelude.{◌≡◌, ℕ, ◌<◌, Bool, true, false}
 use Rattle.base_types.specs.declared.place.Refusal.{Refusal}
 use Rattle.base_types.specs.declared.place.Rule.{Rule}
 use Rattle.base_types.specs.declared.place.Rule.TheVariants as rule
-use Rattle.resolve_hierarchy.specs.declared.sigs.HierarchyFault.{HierarchyFault}
-use Rattle.resolve_hierarchy.specs.declared.sigs.HierarchyFault.TheVariants as fault
+use Rattle.base_types.specs.declared.fault.Fault.{Fault}
+use Rattle.base_types.specs.declared.fault.Fault.TheVariants as fault
 
 abbrev pub is_of_hierarchy : Rule → Bool
 is_of_hierarchy rule.NoParent = true
@@ -18,6 +18,6 @@ pub record IsOfHierarchy (texts : ℕ) (r : Refusal) : Type 0 where
   pub number : is_of_hierarchy r.rule ≡ true
   pub inside : r.place.module < texts
 
-abbrev pub IsFault : ℕ → HierarchyFault → Type 0
+abbrev pub IsFault : ℕ → Fault → Type 0
 IsFault texts (fault.Refused r) = IsOfHierarchy texts r
 IsFault texts fault.Memory = Unit {0}

@@ -9,8 +9,9 @@ use crate::fields::{Types, note_twice};
 use crate::order::{Order, note_cycle, order_of};
 use crate::parents::{Above, Parent, all_above, note_all_extends};
 use crate::search::is_set;
-use crate::sigs::{Hierarchy, HierarchyFault, Kind};
+use crate::sigs::{Hierarchy, Kind};
 use base_lists::Items;
+use base_types::Fault;
 use resolve_names::Names;
 use resolve_types::Member;
 use std::alloc::{AllocError, Global};
@@ -266,11 +267,11 @@ fn found(
 /// Refused by the first broken rule: a parent that names not one sig, a sig that is its own
 /// ancestor, a subset sig or `Int` that is extended, or two fields of one name in one sig or in
 /// sigs that overlap. The earliest instance counts, then the least place, then the lower number.
-pub fn hierarchy(alloc: Global, loaded: &Loaded, names: &Names) -> Result<Hierarchy, HierarchyFault>
+pub fn hierarchy(alloc: Global, loaded: &Loaded, names: &Names) -> Result<Hierarchy, Fault>
     ensures { IfErr result (IsFault (length loaded.now.texts)) }
 {
     match found(alloc, loaded, names) {
-        Err(_) => Err(HierarchyFault::Memory),
+        Err(_) => Err(Fault::Memory),
         Ok(Err(noted)) => Err(refused(loaded, noted)),
         Ok(Ok(hierarchy)) => Ok(hierarchy),
     }

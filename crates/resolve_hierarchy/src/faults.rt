@@ -4,8 +4,7 @@ ghost use Rattle.std.specs.Prelude.{length};
 ghost use Rattle.resolve_hierarchy.specs.Refused.{is_of_hierarchy, IsFault};
 ghost use Rattle.std.specs.Prelude.{◌≡◌, true};
 
-use crate::sigs::HierarchyFault;
-use base_types::{Position, Refusal, Rule};
+use base_types::{Fault, Position, Refusal, Rule};
 use resolve_names::place_in;
 use syntax_tree::Loaded;
 
@@ -80,13 +79,13 @@ pub fn note(least: &mut Option<Noted>, noted: Noted) {
 }
 
 /// The refusal by a broken rule.
-pub fn refused(loaded: &Loaded, noted: Noted) -> HierarchyFault
+pub fn refused(loaded: &Loaded, noted: Noted) -> Fault
     ensures { IsFault (length loaded.now.texts) result }
 {
     match place_in(loaded, noted.instance, noted.place) {
         // No rule is noted for an instance that isn't there.
-        None => HierarchyFault::Memory,
-        Some(place) => HierarchyFault::Refused(Refusal {
+        None => Fault::Memory,
+        Some(place) => Fault::Refused(Refusal {
             rule: rule_of(noted.broken),
             place,
         }),

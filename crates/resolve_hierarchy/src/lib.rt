@@ -11,4 +11,4 @@ mod search;
 mod sigs;
 
 pub use build::hierarchy;
-pub use sigs::{Hierarchy, HierarchyFault, Kind};
+pub use sigs::{Hierarchy, Kind};

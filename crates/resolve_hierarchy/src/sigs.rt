@@ -35,15 +35,6 @@ pub struct Hierarchy {
     pub order: Items<u32>,
 }
 
-/// Why there is no hierarchy.
-#[derive(Clone, Copy, Debug, PartialEq, Eq, Drop)]
-pub enum HierarchyFault {
-    /// A parent that names not one sig, a sig that is its own ancestor, a subset sig or `Int` that
-    /// is extended, or two fields of one name in sigs that overlap; with its place.
-    Refused(Refusal),
-    Memory,
-}
-
 /// Whether two members meet.
 fn does_meet(lines: &Items<Items<u32>>, a: Member, b: Member) -> bool
     ensures { result ≡ meets_one lines.now a b }

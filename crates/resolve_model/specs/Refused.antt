@@ -3,8 +3,8 @@ use Rattle.std.specs.Prelude.{◌≡◌, ℕ, ◌<◌, Bool, true, false}
 use Rattle.base_types.specs.declared.place.Refusal.{Refusal}
 use Rattle.base_types.specs.declared.place.Rule.{Rule}
 use Rattle.base_types.specs.declared.place.Rule.TheVariants as rule
-use Rattle.resolve_model.specs.declared.fault.ResolveFault.{ResolveFault}
-use Rattle.resolve_model.specs.declared.fault.ResolveFault.TheVariants as fault
+use Rattle.base_types.specs.declared.fault.Fault.{Fault}
+use Rattle.base_types.specs.declared.fault.Fault.TheVariants as fault
 
 abbrev pub is_of_readings : Rule → Bool
 is_of_readings rule.NameTwice = true
@@ -26,11 +26,11 @@ pub record IsOfReadings (texts : ℕ) (r : Refusal) : Type 0 where
   pub number : is_of_readings r.rule ≡ true
   pub inside : r.place.module < texts
 
-abbrev pub IsFault : ℕ → ResolveFault → Type 0
+abbrev pub IsFault : ℕ → Fault → Type 0
 IsFault texts (fault.Refused r) = IsOfReadings texts r
 IsFault texts fault.Memory = Unit {0}
 
 -- a rule on names, sigs, fields and readings
-abbrev pub IsValueFault : ResolveFault → Type 0
+abbrev pub IsValueFault : Fault → Type 0
 IsValueFault (fault.Refused r) = is_of_readings r.rule ≡ true
 IsValueFault fault.Memory = Unit {0}

@@ -1,11 +1,9 @@
 //! From loaded trees to the model: each root replaced by its reading.
 #![tactic(auto)]
 
-mod fault;
 mod refused;
 mod solve;
 mod value;
 
-pub use fault::ResolveFault;
 pub use solve::resolve;
 pub use value::resolve_value;

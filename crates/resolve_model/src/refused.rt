@@ -3,8 +3,7 @@
 ghost use Rattle.std.specs.Prelude.{◌≡◌, true, length};
 ghost use Rattle.resolve_model.specs.Refused.{is_of_readings, IsFault, IsValueFault};
 
-use crate::fault::ResolveFault;
-use base_types::{Refusal, Rule};
+use base_types::{Fault, Refusal, Rule};
 use resolve_expr::faults::{Broken, Noted};
 use resolve_names::place_in;
 use syntax_tree::Loaded;
@@ -24,13 +23,13 @@ fn rule_of(broken: Broken) -> Rule
 }
 
 /// The refusal by a broken rule.
-pub fn refused(loaded: &Loaded, noted: Noted) -> ResolveFault
+pub fn refused(loaded: &Loaded, noted: Noted) -> Fault
     ensures { IsFault (length loaded.now.texts) result }
 {
     match place_in(loaded, noted.instance, noted.place) {
         // No rule is noted for an instance that isn't there.
-        None => ResolveFault::Memory,
-        Some(place) => ResolveFault::Refused(Refusal {
+        None => Fault::Memory,
+        Some(place) => Fault::Refused(Refusal {
             rule: rule_of(noted.broken),
             place,
         }),
@@ -38,10 +37,10 @@ pub fn refused(loaded: &Loaded, noted: Noted) -> ResolveFault
 }
 
 /// The refusal by a broken rule in an expression of its own text.
-pub fn refused_value(noted: Noted) -> ResolveFault
+pub fn refused_value(noted: Noted) -> Fault
     ensures { IsValueFault result }
 {
-    ResolveFault::Refused(Refusal {
+    Fault::Refused(Refusal {
         rule: rule_of(noted.broken),
         place: noted.place,
     })

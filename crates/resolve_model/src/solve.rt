@@ -4,15 +4,15 @@ ghost use Rattle.std.specs.Prelude.{length, IfOk, IfErr};
 ghost use Rattle.resolve_check.specs.Kept.{IsModelButTypes};
 ghost use Rattle.resolve_model.specs.Refused.{IsFault};
 
-use crate::fault::ResolveFault;
 use crate::refused::refused;
+use base_types::Fault;
 use core_tree::{Body, Bound, CommandList, Formula, Model};
 use resolve_check::keeps_model;
 use resolve_expr::faults::{Broken, Noted};
 use resolve_expr::known::first_known;
 use resolve_expr::state::State;
-use resolve_hierarchy::{Hierarchy, HierarchyFault, hierarchy};
-use resolve_names::{NameFault, Names, names};
+use resolve_hierarchy::{Hierarchy, hierarchy};
+use resolve_names::{Names, names};
 use resolve_paragraphs::{
     Claims, Edge, Ranks, Sources, all_appended, all_vars, call_ranks, literals, model_bodies,
     model_claims, model_commands, model_fields, model_sigs, ranked, settle_fields, type_bodies,
@@ -180,15 +180,15 @@ fn model_of(
     loaded: &Loaded,
     names: &Names,
     hierarchy: &Hierarchy,
-) -> Result<Model, ResolveFault>
+) -> Result<Model, Fault>
     ensures kept { IfOk result IsModelButTypes }
     ensures fault { IfErr result (IsFault (length loaded.now.texts)) }
 {
     match modelled(alloc, loaded, names, hierarchy) {
-        Err(_) => Err(ResolveFault::Memory),
+        Err(_) => Err(Fault::Memory),
         Ok(Err(noted)) => Err(refused(loaded, noted)),
         Ok(Ok(model)) => match kept(alloc, model) {
-            Err(_) => Err(ResolveFault::Memory),
+            Err(_) => Err(Fault::Memory),
             Ok(model) => Ok(model),
         },
     }
@@ -196,29 +196,25 @@ fn model_of(
 
 /// The hierarchy, with its fault.
 #[tactic(auto, using(crate::proofs::Rules::of_hierarchy))]
-pub fn hierarchy_of(
-    alloc: Global,
-    loaded: &Loaded,
-    names: &Names,
-) -> Result<Hierarchy, ResolveFault>
+pub fn hierarchy_of(alloc: Global, loaded: &Loaded, names: &Names) -> Result<Hierarchy, Fault>
     ensures { IfErr result (IsFault (length loaded.now.texts)) }
 {
     match hierarchy(alloc, loaded, names) {
         Ok(hierarchy) => Ok(hierarchy),
-        Err(HierarchyFault::Refused(refusal)) => Err(ResolveFault::Refused(refusal)),
-        Err(HierarchyFault::Memory) => Err(ResolveFault::Memory),
+        Err(Fault::Refused(refusal)) => Err(Fault::Refused(refusal)),
+        Err(Fault::Memory) => Err(Fault::Memory),
     }
 }
 
 /// The names, with their fault.
 #[tactic(auto, using(crate::proofs::Rules::of_names))]
-pub fn names_of(alloc: Global, loaded: &Loaded) -> Result<Names, ResolveFault>
+pub fn names_of(alloc: Global, loaded: &Loaded) -> Result<Names, Fault>
     ensures { IfErr result (IsFault (length loaded.now.texts)) }
 {
     match names(alloc, loaded) {
         Ok(names) => Ok(names),
-        Err(NameFault::Refused(refusal)) => Err(ResolveFault::Refused(refusal)),
-        Err(NameFault::Memory) => Err(ResolveFault::Memory),
+        Err(Fault::Refused(refusal)) => Err(Fault::Refused(refusal)),
+        Err(Fault::Memory) => Err(Fault::Memory),
     }
 }
 
@@ -229,7 +225,7 @@ pub fn names_of(alloc: Global, loaded: &Loaded) -> Result<Names, ResolveFault>
 /// Refused by the first broken rule: on names, then on sigs and fields, then on names in
 /// expressions and on readings, and last on calls. In each of these the earliest instance counts,
 /// then the least place, then the lower number.
-pub fn resolve(alloc: Global, loaded: &Loaded) -> Result<Model, ResolveFault>
+pub fn resolve(alloc: Global, loaded: &Loaded) -> Result<Model, Fault>
     ensures kept { IfOk result IsModelButTypes }
     ensures fault { IfErr result (IsFault (length loaded.now.texts)) }
 {

@@ -5,9 +5,9 @@ ghost use Rattle.core_tree.specs.Trees.{term_of};
 ghost use Rattle.resolve_check.specs.Kept.{IsRightValue};
 ghost use Rattle.resolve_model.specs.Refused.{IsValueFault};
 
-use crate::fault::ResolveFault;
 use crate::refused::refused_value;
 use crate::solve::{hierarchy_of, names_of, new_state};
+use base_types::Fault;
 use core_tree::{Expr, Model};
 use resolve_check::keeps_value;
 use resolve_expr::expression::prepare;
@@ -89,25 +89,25 @@ pub fn resolve_value(
     loaded: &Loaded,
     model: &Model,
     tree: &Tree,
-) -> Result<Expr, ResolveFault>
+) -> Result<Expr, Fault>
     ensures kept { IfOk result (λ e. IsRightValue model.now (term_of e)) }
     ensures fault { IfErr result IsValueFault }
 {
     let names = match names_of(alloc, loaded) {
-        Err(_) => return Err(ResolveFault::Memory),
+        Err(_) => return Err(Fault::Memory),
         Ok(names) => names,
     };
     let hierarchy = match hierarchy_of(alloc, loaded, &names) {
-        Err(_) => return Err(ResolveFault::Memory),
+        Err(_) => return Err(Fault::Memory),
         Ok(hierarchy) => hierarchy,
     };
     match valued(alloc, loaded, &names, &hierarchy, tree) {
         Ok(Ok(value)) => match fitting(alloc, model, value) {
-            Err(_) => Err(ResolveFault::Memory),
+            Err(_) => Err(Fault::Memory),
             Ok(value) => Ok(value),
         },
         Ok(Err(Some(noted))) => Err(refused_value(noted)),
-        Ok(Err(None)) => Err(ResolveFault::Memory),
-        Err(_) => Err(ResolveFault::Memory),
+        Ok(Err(None)) => Err(Fault::Memory),
+        Err(_) => Err(Fault::Memory),
     }
 }

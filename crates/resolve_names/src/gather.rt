@@ -6,9 +6,10 @@ ghost use Rattle.resolve_names.specs.Refused.{IsFault};
 
 use crate::entries::{Tables, declared_in, number_after};
 use crate::links::links_of;
-use crate::table::{NameFault, Names, Namespace};
+use crate::table::{Names, Namespace};
 use crate::twice::twice;
 use base_lists::Items;
+use base_types::Fault;
 use std::alloc::{AllocError, Global};
 use syntax_tree::{Instance, Loaded, Text};
 
@@ -98,17 +99,17 @@ fn gathered(alloc: Global, loaded: &Loaded) -> Result<Names, AllocError>
 ///
 /// Refused where two sigs or parameters, or two named assertions, of a module have one name: the
 /// earliest instance counts, and in it the least place of a second name.
-pub fn names(alloc: Global, loaded: &Loaded) -> Result<Names, NameFault>
+pub fn names(alloc: Global, loaded: &Loaded) -> Result<Names, Fault>
     ensures ok { IfOk result (λ n. length n.scopes ≡ length loaded.now.instances) }
     ensures err { IfErr result (IsFault (length loaded.now.texts)) }
 {
     match twice(alloc, loaded) {
-        Err(_) => return Err(NameFault::Memory),
-        Ok(Some(refusal)) => return Err(NameFault::Refused(refusal)),
+        Err(_) => return Err(Fault::Memory),
+        Ok(Some(refusal)) => return Err(Fault::Refused(refusal)),
         Ok(None) => {}
     }
     match gathered(alloc, loaded) {
-        Err(_) => Err(NameFault::Memory),
+        Err(_) => Err(Fault::Memory),
         Ok(names) => Ok(names),
     }
 }

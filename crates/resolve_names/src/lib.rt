@@ -13,6 +13,4 @@ mod twice;
 
 pub use gather::names;
 pub use source::{paragraph_at, place_in, text_of};
-pub use table::{
-    BodyEntry, Decl, Declared, FieldEntry, Link, NameFault, Names, Namespace, SigEntry,
-};
+pub use table::{BodyEntry, Decl, Declared, FieldEntry, Link, Names, Namespace, SigEntry};

@@ -100,12 +100,3 @@ pub struct Names {
     pub bodies: Items<BodyEntry>,
     pub ghost linked: { IsLinked scopes },
 }
-
-/// Why there are no names.
-#[derive(Clone, Copy, Debug, PartialEq, Eq, Drop)]
-pub enum NameFault {
-    /// Two sigs or parameters, or two assertions, of a module have one name; the place is that of
-    /// the second.
-    Refused(Refusal),
-    Memory,
-}

@@ -5,7 +5,7 @@ use Rattle.syntax_tree.specs.declared.token.TokenKind.{TokenKind}
 use Rattle.syntax_tree.specs.declared.token.TokenKind.TheVariants as kind
 use Rattle.syntax_tree.specs.Words.{Spelled}
 use Rattle.syntax_tree.specs.Spelling.{kinds}
-use Rattle.syntax_expr.specs.declared.fault.ParseFault.{ParseFault}
+use Rattle.base_types.specs.declared.fault.Fault.{Fault}
 
 -- what the next token says
 abbrev pub first_kind : List Token → TokenKind
@@ -13,7 +13,7 @@ first_kind [] = kind.End
 first_kind (t ∷ ts) = t.kind
 
 -- what was read is spelled by the tokens that are gone
-abbrev pub Reads : {A : Type 0} → (A → Spelled) → List Token → Result A ParseFault → List Token → Type 0
+abbrev pub Reads : {A : Type 0} → (A → Spelled) → List Token → Result A Fault → List Token → Type 0
 Reads words old (Ok x) new = kinds old ≡ words x ++ kinds new
 Reads words old (Err e) new = Unit {0}
 

@@ -6,8 +6,7 @@ ghost use Rattle.syntax_tree.specs.declared.token.TokenKind.TheVariants as kind;
 ghost use Rattle.syntax_tree.specs.Spelling.{kinds, EndsWell, declared_name};
 ghost use Rattle.syntax_expr.specs.Reads.{first_kind, Reads};
 
-use crate::fault::ParseFault;
-use base_types::{Name, Position, Refusal, Rule};
+use base_types::{Fault, Name, Position, Refusal, Rule};
 use std::alloc::Global;
 use std::marker::Model;
 use syntax_tree::{Named, Symbol, Token, TokenKind, Word, same_symbol, same_word};
@@ -72,8 +71,8 @@ impl<'a> Cursor<'a> {
     }
 
     /// The refusal of the next token.
-    pub fn refuse(&self, rule: Rule) -> ParseFault {
-        ParseFault::Refused(Refusal {
+    pub fn refuse(&self, rule: Rule) -> Fault {
+        Fault::Refused(Refusal {
             rule,
             place: self.place(),
         })
@@ -161,7 +160,7 @@ impl<'a> Cursor<'a> {
     }
 
     /// Goes past this symbol, which has to come next.
-    pub fn expect(&mut self, symbol: Symbol) -> Result<(), ParseFault>
+    pub fn expect(&mut self, symbol: Symbol) -> Result<(), Fault>
         ensures { IfOk result (λ _. kinds self.old ≡ kind.Symbol symbol ∷ kinds self.new) }
     {
         if self.eat(symbol) {
@@ -172,7 +171,7 @@ impl<'a> Cursor<'a> {
     }
 
     /// A copy of the name that has to come next.
-    pub fn name(&mut self, alloc: Global) -> Result<Name, ParseFault>
+    pub fn name(&mut self, alloc: Global) -> Result<Name, Fault>
         ensures { IfOk result (λ name. kinds self.old ≡ kind.Name name ∷ kinds self.new) }
     {
         match self.kind() {
@@ -186,7 +185,7 @@ impl<'a> Cursor<'a> {
     }
 
     /// The name that has to come next, with its place.
-    pub fn named(&mut self, alloc: Global) -> Result<Named, ParseFault>
+    pub fn named(&mut self, alloc: Global) -> Result<Named, Fault>
         ensures { Reads declared_name self.old result self.new }
     {
         let place = self.place();
@@ -195,9 +194,9 @@ impl<'a> Cursor<'a> {
     }
 
     /// The refusal of the token that stands so many places after the next one.
-    pub fn refuse_at(&self, after: usize, rule: Rule) -> ParseFault {
+    pub fn refuse_at(&self, after: usize, rule: Rule) -> Fault {
         match self.rest.get(after) {
-            Some(token) => ParseFault::Refused(Refusal {
+            Some(token) => Fault::Refused(Refusal {
                 rule,
                 place: token.place,
             }),

@@ -8,10 +8,9 @@ ghost use Rattle.syntax_expr.specs.Reads.{Reads};
 ghost use Rattle.syntax_expr.specs.Nests.{Nests, tree_words};
 
 use crate::cursor::Cursor;
-use crate::fault::ParseFault;
 use crate::setting::Setting;
 use crate::tokens::{begins_expr, begins_form};
-use base_types::Rule;
+use base_types::{Fault, Rule};
 use std::alloc::Global;
 use syntax_tree::{Expr, Word};
 
@@ -42,9 +41,9 @@ pub struct Grammar<F> {
     pub expr: F,
 }
 
-impl<F: Fn(Global, &mut Cursor<'_>, u32, u8, Setting) -> Result<Part, ParseFault>> Grammar<F> {
+impl<F: Fn(Global, &mut Cursor<'_>, u32, u8, Setting) -> Result<Part, Fault>> Grammar<F> {
     /// An operand of this level or a tighter one.
-    pub fn operand(&self, cursor: &mut Cursor<'_>, least: u8) -> Result<Part, ParseFault>
+    pub fn operand(&self, cursor: &mut Cursor<'_>, least: u8) -> Result<Part, Fault>
         requires { Nests self.now.depth (F.pre self.now.expr) (F.post self.now.expr) }
         ensures { Reads tree_words cursor.old result cursor.new }
     {
@@ -52,7 +51,7 @@ impl<F: Fn(Global, &mut Cursor<'_>, u32, u8, Setting) -> Result<Part, ParseFault
     }
 
     /// A whole expression that stands so.
-    pub fn whole(&self, cursor: &mut Cursor<'_>, setting: Setting) -> Result<Part, ParseFault>
+    pub fn whole(&self, cursor: &mut Cursor<'_>, setting: Setting) -> Result<Part, Fault>
         requires { Nests self.now.depth (F.pre self.now.expr) (F.post self.now.expr) }
         ensures { Reads tree_words cursor.old result cursor.new }
     {
@@ -60,7 +59,7 @@ impl<F: Fn(Global, &mut Cursor<'_>, u32, u8, Setting) -> Result<Part, ParseFault
     }
 
     /// The expression of a bound that stands so.
-    pub fn bound(&self, cursor: &mut Cursor<'_>, setting: Setting) -> Result<Part, ParseFault>
+    pub fn bound(&self, cursor: &mut Cursor<'_>, setting: Setting) -> Result<Part, Fault>
         requires { Nests self.now.depth (F.pre self.now.expr) (F.post self.now.expr) }
         ensures { Reads tree_words cursor.old result cursor.new }
     {
@@ -68,7 +67,7 @@ impl<F: Fn(Global, &mut Cursor<'_>, u32, u8, Setting) -> Result<Part, ParseFault
     }
 
     /// Refuses a form with parts where the tree may have none.
-    pub fn may_nest(&self, cursor: &Cursor<'_>) -> Result<(), ParseFault> {
+    pub fn may_nest(&self, cursor: &Cursor<'_>) -> Result<(), Fault> {
         if self.depth == 0 {
             return Err(cursor.refuse(Rule::TooDeep));
         }
@@ -76,7 +75,7 @@ impl<F: Fn(Global, &mut Cursor<'_>, u32, u8, Setting) -> Result<Part, ParseFault
     }
 
     /// Refuses the first token in braces where they may hold nothing.
-    pub fn may_hold(&self, cursor: &Cursor<'_>) -> Result<(), ParseFault> {
+    pub fn may_hold(&self, cursor: &Cursor<'_>) -> Result<(), Fault> {
         if self.depth > 0 {
             return Ok(());
         }
@@ -88,7 +87,7 @@ impl<F: Fn(Global, &mut Cursor<'_>, u32, u8, Setting) -> Result<Part, ParseFault
     }
 
     /// An expression of this level or a tighter one, or a form with variables where one may stand.
-    pub fn level(&self, cursor: &mut Cursor<'_>, least: u8) -> Result<Part, ParseFault>
+    pub fn level(&self, cursor: &mut Cursor<'_>, least: u8) -> Result<Part, Fault>
         requires { Nests self.now.depth (F.pre self.now.expr) (F.post self.now.expr) }
         ensures { Reads tree_words cursor.old result cursor.new }
     {
@@ -110,7 +109,7 @@ pub fn expr(
     depth: u32,
     least: u8,
     setting: Setting,
-) -> Result<Part, ParseFault>
+) -> Result<Part, Fault>
     ensures { Reads tree_words cursor.old result cursor.new }
 {
     if depth == 0 {

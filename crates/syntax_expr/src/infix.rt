@@ -9,7 +9,6 @@ ghost use Rattle.syntax_expr.specs.Reads.{Reads};
 ghost use Rattle.syntax_expr.specs.Nests.{Nests, tree_words, GoesOn};
 
 use crate::cursor::Cursor;
-use crate::fault::ParseFault;
 use crate::grammar::{Grammar, Part};
 use crate::quantified::multiplicity_word;
 use crate::setting::Setting;
@@ -18,7 +17,7 @@ use crate::tokens::{
     operator_level,
 };
 use base_lists::{Boxed, Items};
-use base_types::Rule;
+use base_types::{Fault, Rule};
 use std::alloc::Global;
 use syntax_tree::{
     Access, Comparator, Comparison, Expr, Infix, Multiplicity, Negation, Symbol, TokenKind, Word,
@@ -47,7 +46,7 @@ fn arithmetic(name: &str) -> Option<Infix>
 }
 
 /// `fun/` and the name of an operation on integers.
-fn arithmetic_at(cursor: &mut Cursor<'_>) -> Result<Infix, ParseFault>
+fn arithmetic_at(cursor: &mut Cursor<'_>) -> Result<Infix, Fault>
     ensures { Reads infix_words cursor.old result cursor.new }
 {
     if !cursor.eat_word(Word::Fun) {
@@ -76,7 +75,7 @@ fn negation(cursor: &mut Cursor<'_>) -> Negation
     }
 }
 
-fn comparator_at(cursor: &mut Cursor<'_>) -> Result<Comparator, ParseFault>
+fn comparator_at(cursor: &mut Cursor<'_>) -> Result<Comparator, Fault>
     ensures { IfOk result (λ c. kinds cursor.old ≡ comparator_token c ∷ kinds cursor.new) }
 {
     let Some(found) = comparator(cursor.kind()) else {
@@ -95,7 +94,7 @@ fn word_after(cursor: &mut Cursor<'_>, comparator: Comparator) -> Option<Multipl
     }
 }
 
-fn comparison(cursor: &mut Cursor<'_>) -> Result<Comparison, ParseFault>
+fn comparison(cursor: &mut Cursor<'_>) -> Result<Comparison, Fault>
     ensures { Reads comparison_words cursor.old result cursor.new }
 {
     let negation = negation(cursor);
@@ -117,7 +116,7 @@ fn right_level(comparator: Comparator) -> u8 {
 }
 
 /// `=>` or `implies`, and whether it is the word.
-fn implies(cursor: &mut Cursor<'_>) -> Result<bool, ParseFault>
+fn implies(cursor: &mut Cursor<'_>) -> Result<bool, Fault>
     ensures { IfOk result (λ is_word. kinds cursor.old ≡ implies_token is_word ∷ kinds cursor.new) }
 {
     if cursor.eat_word(Word::Implies) {
@@ -154,9 +153,9 @@ fn end_of(consequence: &Part) -> After {
     }
 }
 
-impl<F: Fn(Global, &mut Cursor<'_>, u32, u8, Setting) -> Result<Part, ParseFault>> Grammar<F> {
+impl<F: Fn(Global, &mut Cursor<'_>, u32, u8, Setting) -> Result<Part, Fault>> Grammar<F> {
     /// `->` with the multiplicity words round it. A word after it may begin a form with variables.
-    fn arrow(&self, cursor: &mut Cursor<'_>) -> Result<Infix, ParseFault>
+    fn arrow(&self, cursor: &mut Cursor<'_>) -> Result<Infix, Fault>
         ensures { Reads infix_words cursor.old result cursor.new }
     {
         let before = multiplicity_word(cursor);
@@ -171,7 +170,7 @@ impl<F: Fn(Global, &mut Cursor<'_>, u32, u8, Setting) -> Result<Part, ParseFault
 
     /// Refuses a form with variables after an arrow where it leads too deep, at the token that tells
     /// it from a multiplicity word and an operand.
-    fn may_hold_form(&self, cursor: &Cursor<'_>) -> Result<(), ParseFault> {
+    fn may_hold_form(&self, cursor: &Cursor<'_>) -> Result<(), Fault> {
         if self.depth > 1 || !is_multiplicity(cursor.kind()) {
             return Ok(());
         }
@@ -186,7 +185,7 @@ impl<F: Fn(Global, &mut Cursor<'_>, u32, u8, Setting) -> Result<Part, ParseFault
         lowest: u8,
         highest: u8,
         left_depth: u32,
-    ) -> Result<u8, ParseFault> {
+    ) -> Result<u8, Fault> {
         let level = operator_level(cursor.rest());
         if level == 0 || level < lowest || level > highest {
             return Ok(0);
@@ -202,7 +201,7 @@ impl<F: Fn(Global, &mut Cursor<'_>, u32, u8, Setting) -> Result<Part, ParseFault
     }
 
     /// The level of the operator whose first of two tokens may come next, or 0 where an item begins with this token.
-    fn pair_level(&self, cursor: &Cursor<'_>, level: u8, is_deep: bool) -> Result<u8, ParseFault> {
+    fn pair_level(&self, cursor: &Cursor<'_>, level: u8, is_deep: bool) -> Result<u8, Fault> {
         let may_be_item = self.setting.has_items() && !cursor.sees_word(Word::Set);
         if is_deep && !may_be_item {
             return Err(cursor.refuse(Rule::TooDeep));
@@ -219,7 +218,7 @@ impl<F: Fn(Global, &mut Cursor<'_>, u32, u8, Setting) -> Result<Part, ParseFault
         Err(cursor.refuse_at(1, Rule::Syntax))
     }
 
-    fn operator(&self, cursor: &mut Cursor<'_>, level: u8) -> Result<Infix, ParseFault>
+    fn operator(&self, cursor: &mut Cursor<'_>, level: u8) -> Result<Infix, Fault>
         ensures { Reads infix_words cursor.old result cursor.new }
     {
         if level == 14 {
@@ -232,7 +231,7 @@ impl<F: Fn(Global, &mut Cursor<'_>, u32, u8, Setting) -> Result<Part, ParseFault
         Ok(found)
     }
 
-    fn link(&self, cursor: &mut Cursor<'_>, level: u8) -> Result<(Infix, Part), ParseFault>
+    fn link(&self, cursor: &mut Cursor<'_>, level: u8) -> Result<(Infix, Part), Fault>
         requires { Nests self.now.depth (F.pre self.now.expr) (F.post self.now.expr) }
         ensures { Reads (λ found. infix_words found.0 ++ spelling found.1.tree) cursor.old result
             cursor.new }
@@ -242,7 +241,7 @@ impl<F: Fn(Global, &mut Cursor<'_>, u32, u8, Setting) -> Result<Part, ParseFault
         Ok((operator, operand))
     }
 
-    fn links(&self, cursor: &mut Cursor<'_>, level: u8, left: Part) -> Result<Part, ParseFault>
+    fn links(&self, cursor: &mut Cursor<'_>, level: u8, left: Part) -> Result<Part, Fault>
         requires { Nests self.now.depth (F.pre self.now.expr) (F.post self.now.expr) }
         ensures { GoesOn left.tree cursor.old result cursor.new }
     {
@@ -271,7 +270,7 @@ impl<F: Fn(Global, &mut Cursor<'_>, u32, u8, Setting) -> Result<Part, ParseFault
     }
 
     /// The arguments after the opening bracket of a box, and the greatest depth among them.
-    fn arguments(&self, cursor: &mut Cursor<'_>) -> Result<(Items<Expr>, u32), ParseFault>
+    fn arguments(&self, cursor: &mut Cursor<'_>) -> Result<(Items<Expr>, u32), Fault>
         requires { Nests self.now.depth (F.pre self.now.expr) (F.post self.now.expr) }
         ensures { IfOk result (λ found. kinds cursor.old ≡ separated s.Comma (map spelling found.0)
             ++ kinds cursor.new) }
@@ -292,7 +291,7 @@ impl<F: Fn(Global, &mut Cursor<'_>, u32, u8, Setting) -> Result<Part, ParseFault
     }
 
     /// A box with its arguments.
-    fn bracket(&self, cursor: &mut Cursor<'_>) -> Result<(Access<Expr>, bool, u32), ParseFault>
+    fn bracket(&self, cursor: &mut Cursor<'_>) -> Result<(Access<Expr>, bool, u32), Fault>
         requires { Nests self.now.depth (F.pre self.now.expr) (F.post self.now.expr) }
         ensures { Reads (λ found. access_words (spelled_access found.0)) cursor.old result
             cursor.new }
@@ -307,7 +306,7 @@ impl<F: Fn(Global, &mut Cursor<'_>, u32, u8, Setting) -> Result<Part, ParseFault
     }
 
     /// A step of a join, whether it is open, and its depth.
-    fn access(&self, cursor: &mut Cursor<'_>) -> Result<(Access<Expr>, bool, u32), ParseFault>
+    fn access(&self, cursor: &mut Cursor<'_>) -> Result<(Access<Expr>, bool, u32), Fault>
         requires { Nests self.now.depth (F.pre self.now.expr) (F.post self.now.expr) }
         ensures { Reads (λ found. access_words (spelled_access found.0)) cursor.old result
             cursor.new }
@@ -321,7 +320,7 @@ impl<F: Fn(Global, &mut Cursor<'_>, u32, u8, Setting) -> Result<Part, ParseFault
         Ok((Access::Dot(operand.tree), is_open, depth))
     }
 
-    fn join(&self, cursor: &mut Cursor<'_>, left: Part) -> Result<Part, ParseFault>
+    fn join(&self, cursor: &mut Cursor<'_>, left: Part) -> Result<Part, Fault>
         requires { Nests self.now.depth (F.pre self.now.expr) (F.post self.now.expr) }
         ensures { GoesOn left.tree cursor.old result cursor.new }
     {
@@ -347,7 +346,7 @@ impl<F: Fn(Global, &mut Cursor<'_>, u32, u8, Setting) -> Result<Part, ParseFault
         })
     }
 
-    fn prime(&self, cursor: &mut Cursor<'_>, left: Part) -> Result<Part, ParseFault>
+    fn prime(&self, cursor: &mut Cursor<'_>, left: Part) -> Result<Part, Fault>
         ensures { GoesOn left.tree cursor.old result cursor.new }
     {
         cursor.expect(Symbol::Prime)?;
@@ -362,7 +361,7 @@ impl<F: Fn(Global, &mut Cursor<'_>, u32, u8, Setting) -> Result<Part, ParseFault
         })
     }
 
-    fn sequence(&self, cursor: &mut Cursor<'_>, left: Part) -> Result<Part, ParseFault>
+    fn sequence(&self, cursor: &mut Cursor<'_>, left: Part) -> Result<Part, Fault>
         requires { Nests self.now.depth (F.pre self.now.expr) (F.post self.now.expr) }
         ensures { GoesOn left.tree cursor.old result cursor.new }
     {
@@ -382,7 +381,7 @@ impl<F: Fn(Global, &mut Cursor<'_>, u32, u8, Setting) -> Result<Part, ParseFault
         })
     }
 
-    fn compare(&self, cursor: &mut Cursor<'_>, left: Part) -> Result<Part, ParseFault>
+    fn compare(&self, cursor: &mut Cursor<'_>, left: Part) -> Result<Part, Fault>
         requires { Nests self.now.depth (F.pre self.now.expr) (F.post self.now.expr) }
         ensures { GoesOn left.tree cursor.old result cursor.new }
     {
@@ -407,7 +406,7 @@ impl<F: Fn(Global, &mut Cursor<'_>, u32, u8, Setting) -> Result<Part, ParseFault
     }
 
     /// What stands after `else`, where it may and does.
-    fn other(&self, cursor: &mut Cursor<'_>, after: After) -> Result<Other, ParseFault>
+    fn other(&self, cursor: &mut Cursor<'_>, after: After) -> Result<Other, Fault>
         requires { Nests self.now.depth (F.pre self.now.expr) (F.post self.now.expr) }
         ensures { Reads (λ other. else_words (spelled_other other.tree)) cursor.old result
             cursor.new }
@@ -429,7 +428,7 @@ impl<F: Fn(Global, &mut Cursor<'_>, u32, u8, Setting) -> Result<Part, ParseFault
         })
     }
 
-    fn implication(&self, cursor: &mut Cursor<'_>, left: Part) -> Result<Part, ParseFault>
+    fn implication(&self, cursor: &mut Cursor<'_>, left: Part) -> Result<Part, Fault>
         requires { Nests self.now.depth (F.pre self.now.expr) (F.post self.now.expr) }
         ensures { GoesOn left.tree cursor.old result cursor.new }
     {
@@ -448,7 +447,7 @@ impl<F: Fn(Global, &mut Cursor<'_>, u32, u8, Setting) -> Result<Part, ParseFault
         })
     }
 
-    fn wrapped(&self, cursor: &mut Cursor<'_>, level: u8, left: Part) -> Result<Part, ParseFault>
+    fn wrapped(&self, cursor: &mut Cursor<'_>, level: u8, left: Part) -> Result<Part, Fault>
         requires { Nests self.now.depth (F.pre self.now.expr) (F.post self.now.expr) }
         ensures { GoesOn left.tree cursor.old result cursor.new }
     {
@@ -463,12 +462,7 @@ impl<F: Fn(Global, &mut Cursor<'_>, u32, u8, Setting) -> Result<Part, ParseFault
     }
 
     /// The expression that goes on from this one with operators of level `least` and above.
-    pub fn longer(
-        &self,
-        cursor: &mut Cursor<'_>,
-        least: u8,
-        mut left: Part,
-    ) -> Result<Part, ParseFault>
+    pub fn longer(&self, cursor: &mut Cursor<'_>, least: u8, mut left: Part) -> Result<Part, Fault>
         requires { Nests self.now.depth (F.pre self.now.expr) (F.post self.now.expr) }
         ensures { GoesOn left.tree cursor.old result cursor.new }
     {

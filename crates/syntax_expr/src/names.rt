@@ -7,18 +7,13 @@ ghost use Rattle.syntax_tree.specs.Spelling.{separated, one_name, declared_name,
 ghost use Rattle.syntax_expr.specs.Reads.{Reads};
 
 use crate::cursor::Cursor;
-use crate::fault::ParseFault;
 use base_lists::Items;
-use base_types::Name;
+use base_types::{Fault, Name};
 use std::alloc::Global;
 use syntax_tree::{Named, QualName, Symbol, Token, TokenKind, Word};
 
 /// One or more names, with the mark between two of them.
-pub fn names(
-    alloc: Global,
-    cursor: &mut Cursor<'_>,
-    mark: Symbol,
-) -> Result<Items<Name>, ParseFault>
+pub fn names(alloc: Global, cursor: &mut Cursor<'_>, mark: Symbol) -> Result<Items<Name>, Fault>
     ensures some { IfOk result (λ names. 0 < length names) }
     ensures reads { Reads (λ names. separated mark (map one_name names)) cursor.old result
         cursor.new }
@@ -35,7 +30,7 @@ pub fn names(
 }
 
 /// One or more names that are declared here, with commas between them.
-pub fn declared_names(alloc: Global, cursor: &mut Cursor<'_>) -> Result<Items<Named>, ParseFault>
+pub fn declared_names(alloc: Global, cursor: &mut Cursor<'_>) -> Result<Items<Named>, Fault>
     ensures some { IfOk result (λ names. 0 < length names) }
     ensures reads { Reads (λ names. separated s.Comma (map declared_name names)) cursor.old result
         cursor.new }
@@ -63,7 +58,7 @@ pub fn begins_own(rest: &[Token]) -> bool {
 }
 
 /// A name with the path before it.
-pub fn qual_name(alloc: Global, cursor: &mut Cursor<'_>) -> Result<QualName, ParseFault>
+pub fn qual_name(alloc: Global, cursor: &mut Cursor<'_>) -> Result<QualName, Fault>
     ensures right { IfOk result (λ name. IsTrue (name_right name)) }
     ensures reads { Reads name_words cursor.old result cursor.new }
 {

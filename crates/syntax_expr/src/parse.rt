@@ -11,13 +11,12 @@ ghost use Rattle.syntax_expr.specs.Reads.{Reads, Spells};
 ghost use Rattle.syntax_expr.specs.Nests.{tree_words};
 
 use crate::cursor::Cursor;
-use crate::fault::ParseFault;
 use crate::grammar::{BOUND, Grammar, expr};
 use crate::quantified::multiplicity_word;
 use crate::setting::Setting;
 use base_lists::Items;
-use base_types::Rule;
 use base_types::limits::TREE_DEPTH;
+use base_types::{Fault, Rule};
 use std::alloc::Global;
 use syntax_tree::{
     Bound, Decl, Expr, Multiplicity, Token, decls_right, deepest_bound, depth, shape_of,
@@ -88,7 +87,7 @@ fn are_decls(decls: &[Decl<Expr>]) -> bool
 
 /// The tree, where it keeps the rules on levels and is no deeper than a tree may be. The rules of
 /// the grammar read no other; it is tested once more on the tree itself.
-fn checked_value(cursor: &Cursor<'_>, tree: Expr) -> Result<Expr, ParseFault>
+fn checked_value(cursor: &Cursor<'_>, tree: Expr) -> Result<Expr, Fault>
     ensures same { IfOk result (λ e. e ≡ tree) }
     ensures right { IfOk result (λ e. IsTrue (value_right TREE_DEPTH e)) }
 {
@@ -99,7 +98,7 @@ fn checked_value(cursor: &Cursor<'_>, tree: Expr) -> Result<Expr, ParseFault>
 }
 
 /// The same for a block.
-fn checked_block(cursor: &Cursor<'_>, tree: Expr) -> Result<Expr, ParseFault>
+fn checked_block(cursor: &Cursor<'_>, tree: Expr) -> Result<Expr, Fault>
     ensures same { IfOk result (λ e. e ≡ tree) }
     ensures right { IfOk result (λ e. IsTrue (block_right TREE_DEPTH e)) }
 {
@@ -110,7 +109,7 @@ fn checked_block(cursor: &Cursor<'_>, tree: Expr) -> Result<Expr, ParseFault>
 }
 
 /// The same for a bound.
-fn checked_bound(cursor: &Cursor<'_>, bound: Bound) -> Result<Bound, ParseFault>
+fn checked_bound(cursor: &Cursor<'_>, bound: Bound) -> Result<Bound, Fault>
     ensures same { IfOk result (λ b. b ≡ bound) }
     ensures right { IfOk result (λ b. IsTrue (bound_right TREE_DEPTH b)) }
 {
@@ -121,10 +120,7 @@ fn checked_bound(cursor: &Cursor<'_>, bound: Bound) -> Result<Bound, ParseFault>
 }
 
 /// The same for lists of variables.
-fn checked_decls(
-    cursor: &Cursor<'_>,
-    decls: Items<Decl<Expr>>,
-) -> Result<Items<Decl<Expr>>, ParseFault>
+fn checked_decls(cursor: &Cursor<'_>, decls: Items<Decl<Expr>>) -> Result<Items<Decl<Expr>>, Fault>
     ensures same { IfOk result (λ ds. ds ≡ decls) }
     ensures right { IfOk result (λ ds. IsTrue (decls_within TREE_DEPTH ds)) }
 {
@@ -135,7 +131,7 @@ fn checked_decls(
 }
 
 /// The expression that comes next: one that keeps the rules on levels, of depth 250 at most.
-pub fn expr_at(alloc: Global, cursor: &mut Cursor<'_>) -> Result<Expr, ParseFault>
+pub fn expr_at(alloc: Global, cursor: &mut Cursor<'_>) -> Result<Expr, Fault>
     ensures reads { Reads spelling cursor.old result cursor.new }
     ensures right { IfOk result (λ e. IsTrue (value_right TREE_DEPTH e)) }
 {
@@ -144,7 +140,7 @@ pub fn expr_at(alloc: Global, cursor: &mut Cursor<'_>) -> Result<Expr, ParseFaul
 }
 
 /// The block that comes next: one that keeps the rules on levels, of depth 250 at most.
-pub fn block_at(alloc: Global, cursor: &mut Cursor<'_>) -> Result<Expr, ParseFault>
+pub fn block_at(alloc: Global, cursor: &mut Cursor<'_>) -> Result<Expr, Fault>
     ensures reads { Reads spelling cursor.old result cursor.new }
     ensures right { IfOk result (λ e. IsTrue (block_right TREE_DEPTH e)) }
 {
@@ -153,7 +149,7 @@ pub fn block_at(alloc: Global, cursor: &mut Cursor<'_>) -> Result<Expr, ParseFau
 }
 
 /// The bound that comes next: one that keeps the rules on levels, of depth 250 at most.
-pub fn bound_at(alloc: Global, cursor: &mut Cursor<'_>) -> Result<Bound, ParseFault>
+pub fn bound_at(alloc: Global, cursor: &mut Cursor<'_>) -> Result<Bound, Fault>
     ensures reads { Reads bound_words cursor.old result cursor.new }
     ensures right { IfOk result (λ b. IsTrue (bound_right TREE_DEPTH b)) }
 {
@@ -165,7 +161,7 @@ pub fn bound_at(alloc: Global, cursor: &mut Cursor<'_>) -> Result<Bound, ParseFa
 }
 
 /// One or more lists of variables with their bounds, which come next and keep the rules.
-pub fn decls_at(alloc: Global, cursor: &mut Cursor<'_>) -> Result<Items<Decl<Expr>>, ParseFault>
+pub fn decls_at(alloc: Global, cursor: &mut Cursor<'_>) -> Result<Items<Decl<Expr>>, Fault>
     ensures reads { Reads decls_spelling cursor.old result cursor.new }
     ensures right { IfOk result (λ ds. IsTrue (decls_within TREE_DEPTH ds)) }
 {
@@ -189,7 +185,7 @@ fn cursor_at(tokens: &[Token], from: usize) -> Cursor<'_>
 }
 
 /// The expression that begins at this place in the list.
-pub fn parse_expr(alloc: Global, tokens: &[Token], from: usize) -> Result<Parsed, ParseFault>
+pub fn parse_expr(alloc: Global, tokens: &[Token], from: usize) -> Result<Parsed, Fault>
     requires ends { EndsWell tokens.now }
     requires in_range { from < length tokens.now }
     ensures spells { IfOk result (λ p. Spells tokens.now from p.next (spelling p.tree)) }
@@ -202,7 +198,7 @@ pub fn parse_expr(alloc: Global, tokens: &[Token], from: usize) -> Result<Parsed
 }
 
 /// The bound that begins at this place in the list.
-pub fn parse_bound(alloc: Global, tokens: &[Token], from: usize) -> Result<ParsedBound, ParseFault>
+pub fn parse_bound(alloc: Global, tokens: &[Token], from: usize) -> Result<ParsedBound, Fault>
     requires ends { EndsWell tokens.now }
     requires in_range { from < length tokens.now }
     ensures spells { IfOk result (λ p. Spells tokens.now from p.next
@@ -221,7 +217,7 @@ pub fn parse_bound(alloc: Global, tokens: &[Token], from: usize) -> Result<Parse
 }
 
 /// The block that begins at this place in the list.
-pub fn parse_block(alloc: Global, tokens: &[Token], from: usize) -> Result<Parsed, ParseFault>
+pub fn parse_block(alloc: Global, tokens: &[Token], from: usize) -> Result<Parsed, Fault>
     requires ends { EndsWell tokens.now }
     requires in_range { from < length tokens.now }
     ensures spells { IfOk result (λ p. Spells tokens.now from p.next (spelling p.tree)) }

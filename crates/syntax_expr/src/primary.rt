@@ -8,13 +8,12 @@ ghost use Rattle.syntax_expr.specs.Reads.{Reads, first_kind};
 ghost use Rattle.syntax_expr.specs.Nests.{Nests, tree_words};
 
 use crate::cursor::Cursor;
-use crate::fault::ParseFault;
 use crate::grammar::{Grammar, Part};
 use crate::names::{begins_own, qual_name};
 use crate::setting::Setting;
 use crate::tokens::{PRIMARY, begins_decls, constant, prefix, prefix_level};
 use base_lists::{Boxed, Items};
-use base_types::{Name, Rule};
+use base_types::{Fault, Name, Rule};
 use std::alloc::Global;
 use syntax_tree::{Expr, Prefix, Symbol, TokenKind, Word};
 
@@ -45,7 +44,7 @@ fn bracketed(tree: Expr, depth: u32) -> Part
 }
 
 /// `-` and a number.
-fn negative(cursor: &mut Cursor<'_>) -> Result<Part, ParseFault>
+fn negative(cursor: &mut Cursor<'_>) -> Result<Part, Fault>
     ensures { Reads tree_words cursor.old result cursor.new }
 {
     let place = cursor.place();
@@ -61,7 +60,7 @@ fn negative(cursor: &mut Cursor<'_>) -> Result<Part, ParseFault>
 }
 
 /// `@` and a name.
-fn at_name(alloc: Global, cursor: &mut Cursor<'_>) -> Result<Part, ParseFault>
+fn at_name(alloc: Global, cursor: &mut Cursor<'_>) -> Result<Part, Fault>
     ensures { Reads tree_words cursor.old result cursor.new }
 {
     let place = cursor.place();
@@ -71,7 +70,7 @@ fn at_name(alloc: Global, cursor: &mut Cursor<'_>) -> Result<Part, ParseFault>
 }
 
 /// A word that stands for a set, or a name that begins with `this`.
-fn word_primary(alloc: Global, cursor: &mut Cursor<'_>, word: Word) -> Result<Part, ParseFault>
+fn word_primary(alloc: Global, cursor: &mut Cursor<'_>, word: Word) -> Result<Part, Fault>
     ensures { Reads tree_words cursor.old result cursor.new }
 {
     if begins_own(cursor.rest()) {
@@ -87,9 +86,9 @@ fn word_primary(alloc: Global, cursor: &mut Cursor<'_>, word: Word) -> Result<Pa
     Ok(leaf(Expr::Constant(place, constant)))
 }
 
-impl<F: Fn(Global, &mut Cursor<'_>, u32, u8, Setting) -> Result<Part, ParseFault>> Grammar<F> {
+impl<F: Fn(Global, &mut Cursor<'_>, u32, u8, Setting) -> Result<Part, Fault>> Grammar<F> {
     /// A block's items after its opening brace, up to the closing one, and the greatest depth among them.
-    fn items(&self, cursor: &mut Cursor<'_>) -> Result<(Items<Expr>, u32), ParseFault>
+    fn items(&self, cursor: &mut Cursor<'_>) -> Result<(Items<Expr>, u32), Fault>
         requires { Nests self.now.depth (F.pre self.now.expr) (F.post self.now.expr) }
         ensures { IfOk result (λ found. kinds cursor.old ≡ joined (map spelling found.0)
             ++ symbol s.CloseBrace ∷ kinds cursor.new) }
@@ -111,7 +110,7 @@ impl<F: Fn(Global, &mut Cursor<'_>, u32, u8, Setting) -> Result<Part, ParseFault
         Err(cursor.refuse(Rule::Syntax))
     }
 
-    pub fn block(&self, cursor: &mut Cursor<'_>) -> Result<Part, ParseFault>
+    pub fn block(&self, cursor: &mut Cursor<'_>) -> Result<Part, Fault>
         requires { Nests self.now.depth (F.pre self.now.expr) (F.post self.now.expr) }
         ensures { Reads tree_words cursor.old result cursor.new }
     {
@@ -124,7 +123,7 @@ impl<F: Fn(Global, &mut Cursor<'_>, u32, u8, Setting) -> Result<Part, ParseFault
         Ok(bracketed(Expr::Block(place, items), depth))
     }
 
-    fn comprehension(&self, cursor: &mut Cursor<'_>) -> Result<Part, ParseFault>
+    fn comprehension(&self, cursor: &mut Cursor<'_>) -> Result<Part, Fault>
         requires { Nests self.now.depth (F.pre self.now.expr) (F.post self.now.expr) }
         ensures { Reads tree_words cursor.old result cursor.new }
     {
@@ -142,7 +141,7 @@ impl<F: Fn(Global, &mut Cursor<'_>, u32, u8, Setting) -> Result<Part, ParseFault
         ))
     }
 
-    fn parenthesis(&self, cursor: &mut Cursor<'_>) -> Result<Part, ParseFault>
+    fn parenthesis(&self, cursor: &mut Cursor<'_>) -> Result<Part, Fault>
         requires { Nests self.now.depth (F.pre self.now.expr) (F.post self.now.expr) }
         ensures { Reads tree_words cursor.old result cursor.new }
     {
@@ -156,7 +155,7 @@ impl<F: Fn(Global, &mut Cursor<'_>, u32, u8, Setting) -> Result<Part, ParseFault
         Ok(bracketed(Expr::Parenthesis(place, boxed), depth))
     }
 
-    fn braces(&self, cursor: &mut Cursor<'_>) -> Result<Part, ParseFault>
+    fn braces(&self, cursor: &mut Cursor<'_>) -> Result<Part, Fault>
         requires { Nests self.now.depth (F.pre self.now.expr) (F.post self.now.expr) }
         ensures { Reads tree_words cursor.old result cursor.new }
     {
@@ -166,7 +165,7 @@ impl<F: Fn(Global, &mut Cursor<'_>, u32, u8, Setting) -> Result<Part, ParseFault
         }
     }
 
-    fn symbol_primary(&self, cursor: &mut Cursor<'_>, symbol: Symbol) -> Result<Part, ParseFault>
+    fn symbol_primary(&self, cursor: &mut Cursor<'_>, symbol: Symbol) -> Result<Part, Fault>
         requires { Nests self.now.depth (F.pre self.now.expr) (F.post self.now.expr) }
         ensures { Reads tree_words cursor.old result cursor.new }
     {
@@ -179,7 +178,7 @@ impl<F: Fn(Global, &mut Cursor<'_>, u32, u8, Setting) -> Result<Part, ParseFault
         }
     }
 
-    fn primary(&self, cursor: &mut Cursor<'_>) -> Result<Part, ParseFault>
+    fn primary(&self, cursor: &mut Cursor<'_>) -> Result<Part, Fault>
         requires { Nests self.now.depth (F.pre self.now.expr) (F.post self.now.expr) }
         ensures { Reads tree_words cursor.old result cursor.new }
     {
@@ -202,12 +201,7 @@ impl<F: Fn(Global, &mut Cursor<'_>, u32, u8, Setting) -> Result<Part, ParseFault
         }
     }
 
-    fn prefixed(
-        &self,
-        cursor: &mut Cursor<'_>,
-        operator: Prefix,
-        least: u8,
-    ) -> Result<Part, ParseFault>
+    fn prefixed(&self, cursor: &mut Cursor<'_>, operator: Prefix, least: u8) -> Result<Part, Fault>
         requires nests { Nests self.now.depth (F.pre self.now.expr) (F.post self.now.expr) }
         requires next { prefix_token operator ≡ first_kind cursor.old }
         ensures { Reads tree_words cursor.old result cursor.new }
@@ -231,7 +225,7 @@ impl<F: Fn(Global, &mut Cursor<'_>, u32, u8, Setting) -> Result<Part, ParseFault
     }
 
     /// A primary, or an operator with its operand.
-    pub fn first(&self, cursor: &mut Cursor<'_>, least: u8) -> Result<Part, ParseFault>
+    pub fn first(&self, cursor: &mut Cursor<'_>, least: u8) -> Result<Part, Fault>
         requires { Nests self.now.depth (F.pre self.now.expr) (F.post self.now.expr) }
         ensures { Reads tree_words cursor.old result cursor.new }
     {

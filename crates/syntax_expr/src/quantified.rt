@@ -8,13 +8,12 @@ ghost use Rattle.syntax_expr.specs.Reads.{Reads};
 ghost use Rattle.syntax_expr.specs.Nests.{Nests, tree_words};
 
 use crate::cursor::Cursor;
-use crate::fault::ParseFault;
 use crate::grammar::{Grammar, Part};
 use crate::names::declared_names;
 use crate::setting::Setting;
 use crate::tokens::{multiplicity, quantifier};
 use base_lists::{Boxed, Items};
-use base_types::Rule;
+use base_types::{Fault, Rule};
 use std::alloc::Global;
 use syntax_tree::{Binding, Decl, Expr, Multiplicity, Quantifier, Symbol, Word};
 
@@ -39,7 +38,7 @@ pub fn multiplicity_word(cursor: &mut Cursor<'_>) -> Option<Multiplicity>
 }
 
 /// The word that begins a form with variables.
-fn quantifier_at(cursor: &mut Cursor<'_>) -> Result<Quantifier, ParseFault>
+fn quantifier_at(cursor: &mut Cursor<'_>) -> Result<Quantifier, Fault>
     ensures { IfOk result (λ q. kinds cursor.old ≡ word (quantifier_word q) ∷ kinds cursor.new) }
 {
     let Some(word) = cursor.word() else {
@@ -56,8 +55,8 @@ fn is_sum(quantifier: Quantifier) -> bool {
     matches!(quantifier, Quantifier::Sum)
 }
 
-impl<F: Fn(Global, &mut Cursor<'_>, u32, u8, Setting) -> Result<Part, ParseFault>> Grammar<F> {
-    fn decl(&self, cursor: &mut Cursor<'_>) -> Result<(Decl<Expr>, u32), ParseFault>
+impl<F: Fn(Global, &mut Cursor<'_>, u32, u8, Setting) -> Result<Part, Fault>> Grammar<F> {
+    fn decl(&self, cursor: &mut Cursor<'_>) -> Result<(Decl<Expr>, u32), Fault>
         requires { Nests self.now.depth (F.pre self.now.expr) (F.post self.now.expr) }
         ensures { Reads (λ found. decl_words (spelled_decl found.0)) cursor.old result cursor.new }
     {
@@ -81,7 +80,7 @@ impl<F: Fn(Global, &mut Cursor<'_>, u32, u8, Setting) -> Result<Part, ParseFault
     }
 
     /// One or more lists of variables, and the greatest depth of their bounds.
-    pub fn decls(&self, cursor: &mut Cursor<'_>) -> Result<(Items<Decl<Expr>>, u32), ParseFault>
+    pub fn decls(&self, cursor: &mut Cursor<'_>) -> Result<(Items<Decl<Expr>>, u32), Fault>
         requires { Nests self.now.depth (F.pre self.now.expr) (F.post self.now.expr) }
         ensures { Reads (λ found. decls_spelling found.0) cursor.old result cursor.new }
     {
@@ -100,7 +99,7 @@ impl<F: Fn(Global, &mut Cursor<'_>, u32, u8, Setting) -> Result<Part, ParseFault
     }
 
     /// `|` and an expression that stands so, or a block.
-    pub fn body(&self, cursor: &mut Cursor<'_>, setting: Setting) -> Result<Body, ParseFault>
+    pub fn body(&self, cursor: &mut Cursor<'_>, setting: Setting) -> Result<Body, Fault>
         requires { Nests self.now.depth (F.pre self.now.expr) (F.post self.now.expr) }
         ensures { Reads (λ b. body_words b.has_bar (spelling b.tree)) cursor.old result cursor.new }
     {
@@ -117,7 +116,7 @@ impl<F: Fn(Global, &mut Cursor<'_>, u32, u8, Setting) -> Result<Part, ParseFault
     }
 
     /// `|` and an expression that stands so.
-    fn bar_body(&self, cursor: &mut Cursor<'_>, setting: Setting) -> Result<Body, ParseFault>
+    fn bar_body(&self, cursor: &mut Cursor<'_>, setting: Setting) -> Result<Body, Fault>
         requires { Nests self.now.depth (F.pre self.now.expr) (F.post self.now.expr) }
         ensures { Reads (λ b. body_words b.has_bar (spelling b.tree)) cursor.old result cursor.new }
     {
@@ -131,7 +130,7 @@ impl<F: Fn(Global, &mut Cursor<'_>, u32, u8, Setting) -> Result<Part, ParseFault
         })
     }
 
-    fn binding(&self, cursor: &mut Cursor<'_>) -> Result<(Binding<Expr>, u32), ParseFault>
+    fn binding(&self, cursor: &mut Cursor<'_>) -> Result<(Binding<Expr>, u32), Fault>
         requires { Nests self.now.depth (F.pre self.now.expr) (F.post self.now.expr) }
         ensures { Reads (λ found. binding_words (spelled_binding found.0)) cursor.old result
             cursor.new }
@@ -152,7 +151,7 @@ impl<F: Fn(Global, &mut Cursor<'_>, u32, u8, Setting) -> Result<Part, ParseFault
         Ok((binding, depth))
     }
 
-    fn bindings(&self, cursor: &mut Cursor<'_>) -> Result<(Items<Binding<Expr>>, u32), ParseFault>
+    fn bindings(&self, cursor: &mut Cursor<'_>) -> Result<(Items<Binding<Expr>>, u32), Fault>
         requires { Nests self.now.depth (F.pre self.now.expr) (F.post self.now.expr) }
         ensures { Reads (λ found. bindings_spelling found.0) cursor.old result cursor.new }
     {
@@ -170,7 +169,7 @@ impl<F: Fn(Global, &mut Cursor<'_>, u32, u8, Setting) -> Result<Part, ParseFault
         Ok((found, depth))
     }
 
-    fn let_form(&self, cursor: &mut Cursor<'_>) -> Result<Part, ParseFault>
+    fn let_form(&self, cursor: &mut Cursor<'_>) -> Result<Part, Fault>
         requires { Nests self.now.depth (F.pre self.now.expr) (F.post self.now.expr) }
         ensures { Reads tree_words cursor.old result cursor.new }
     {
@@ -196,7 +195,7 @@ impl<F: Fn(Global, &mut Cursor<'_>, u32, u8, Setting) -> Result<Part, ParseFault
         &self,
         cursor: &mut Cursor<'_>,
         quantifier: Quantifier,
-    ) -> Result<Body, ParseFault>
+    ) -> Result<Body, Fault>
         requires { Nests self.now.depth (F.pre self.now.expr) (F.post self.now.expr) }
         ensures { Reads (λ b. body_words b.has_bar (spelling b.tree)) cursor.old result cursor.new }
     {
@@ -206,7 +205,7 @@ impl<F: Fn(Global, &mut Cursor<'_>, u32, u8, Setting) -> Result<Part, ParseFault
         self.body(cursor, self.setting)
     }
 
-    fn quantifier_form(&self, cursor: &mut Cursor<'_>) -> Result<Part, ParseFault>
+    fn quantifier_form(&self, cursor: &mut Cursor<'_>) -> Result<Part, Fault>
         requires { Nests self.now.depth (F.pre self.now.expr) (F.post self.now.expr) }
         ensures { Reads tree_words cursor.old result cursor.new }
     {
@@ -226,7 +225,7 @@ impl<F: Fn(Global, &mut Cursor<'_>, u32, u8, Setting) -> Result<Part, ParseFault
     }
 
     /// A form with variables, or a `let`.
-    pub fn quantified(&self, cursor: &mut Cursor<'_>) -> Result<Part, ParseFault>
+    pub fn quantified(&self, cursor: &mut Cursor<'_>) -> Result<Part, Fault>
         requires { Nests self.now.depth (F.pre self.now.expr) (F.post self.now.expr) }
         ensures { Reads tree_words cursor.old result cursor.new }
     {

@@ -5,8 +5,8 @@ use Rattle.base_types.specs.declared.place.Position.{Position}
 use Rattle.base_types.specs.declared.place.Refusal.{Refusal}
 use Rattle.syntax_tree.specs.declared.token.Token.{Token}
 use Rattle.syntax_tree.specs.declared.token.TokenKind.TheVariants as kind
-use Rattle.syntax_lexer.specs.declared.scan.LexFault.{LexFault}
-use Rattle.syntax_lexer.specs.declared.scan.LexFault.TheVariants as fault
+use Rattle.base_types.specs.declared.fault.Fault.{Fault}
+use Rattle.base_types.specs.declared.fault.Fault.TheVariants as fault
 use Rattle.syntax_lexer.specs.declared.piece.Piece.{Piece}
 use Rattle.syntax_lexer.specs.declared.piece.Piece.TheVariants as p
 use Rattle.syntax_lexer.specs.Piece.{Text, piece}
@@ -44,13 +44,13 @@ unfoldable pub tokens_of : ℕ → Text → Tokens
 tokens_of text z = tokens_after 0 (record { «module» = text; line = 1; column = 1 }) z
 
 -- what `lex` answers is what the text has, unless memory runs out
-abbrev pub Lexes : Tokens → Result (Vec Token Global) LexFault → Type 0
+abbrev pub Lexes : Tokens → Result (Vec Token Global) Fault → Type 0
 Lexes tokens (Ok found) = tokens ≡ Ok found.items
 Lexes tokens (Err (fault.Refused refusal)) = tokens ≡ Err refusal
 Lexes tokens (Err fault.Memory) = Unit {0}
 
 -- what one step says, from the tokens before it to those after it
-abbrev pub Steps : List Token → Position → Text → Result ℕ LexFault → List Token → Type 0
+abbrev pub Steps : List Token → Position → Text → Result ℕ Fault → List Token → Type 0
 Steps old at z (Ok n) new = with_front old (tokens_after 0 at z) ≡ with_front new (tokens_after 0 (moved at (take n z)) (drop n z))
 Steps old at z (Err (fault.Refused refusal)) new = with_front old (tokens_after 0 at z) ≡ Err refusal
 Steps old at z (Err fault.Memory) new = Unit {0}

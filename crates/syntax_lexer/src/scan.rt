@@ -5,40 +5,9 @@ ghost use Rattle.syntax_tree.specs.Spelling.{EndsWell};
 ghost use Rattle.syntax_lexer.specs.Tokens as spec;
 
 use crate::piece::{Piece, cut};
-use base_types::{Position, Refusal};
+use base_types::{Fault, Position, Refusal};
 use std::alloc::{AllocError, AllocFailed, Global};
 use syntax_tree::{Token, TokenKind};
-
-/// Why there are no tokens.
-#[derive(Debug, Drop)]
-pub enum LexFault {
-    /// The first byte that begins no piece of a text: `BadByte`, `OpenComment` or `LongNumber`.
-    Refused(Refusal),
-    /// Want of memory.
-    Memory,
-}
-
-impl From<AllocError> for LexFault {
-    ghost use Rattle.std.specs.Prelude.{◌≡◌};
-    ghost use Rattle.syntax_lexer.specs.declared.scan.LexFault.TheVariants.{Memory};
-
-    ghost from_gives = { λ _ e. e ≡ Memory };
-
-    fn from(_: AllocError) -> LexFault {
-        LexFault::Memory
-    }
-}
-
-impl<T: Drop> From<AllocFailed<T>> for LexFault {
-    ghost use Rattle.std.specs.Prelude.{◌≡◌};
-    ghost use Rattle.syntax_lexer.specs.declared.scan.LexFault.TheVariants.{Memory};
-
-    ghost from_gives = { λ _ e. e ≡ Memory };
-
-    fn from(_: AllocFailed<T>) -> LexFault {
-        LexFault::Memory
-    }
-}
 
 /// The place after these bytes.
 fn moved(at: Position, bytes: &[u8]) -> Position
@@ -62,12 +31,7 @@ fn moved(at: Position, bytes: &[u8]) -> Position
 }
 
 /// Adds the token that comes next, if it is no gap, and gives the length of the piece.
-fn step(
-    alloc: Global,
-    found: &mut Vec<Token>,
-    place: Position,
-    rest: &[u8],
-) -> Result<usize, LexFault>
+fn step(alloc: Global, found: &mut Vec<Token>, place: Position, rest: &[u8]) -> Result<usize, Fault>
     requires some { 0 < length rest.now }
     requires short { length rest.now < 2 ^ 31 }
     ensures within { IfOk result (λ n. (1 ≤ n) × (n ≤ length rest.now)) }
@@ -79,7 +43,7 @@ fn step(
             found.push(Token { kind, place })?;
             Ok(len)
         }
-        Piece::Wrong(rule) => Err(LexFault::Refused(Refusal { rule, place })),
+        Piece::Wrong(rule) => Err(Fault::Refused(Refusal { rule, place })),
     }
 }
 
@@ -90,7 +54,7 @@ fn step(
 /// text can't be cut so, the answer is the first break and the place of its first byte: a byte that
 /// begins nothing (a `"` that begins no literal among them), a comment that isn't closed, or a
 /// number of more than nine digits.
-pub fn lex(alloc: Global, text: u32, bytes: &[u8]) -> Result<Vec<Token>, LexFault>
+pub fn lex(alloc: Global, text: u32, bytes: &[u8]) -> Result<Vec<Token>, Fault>
     requires { length bytes.now < 2 ^ 31 }
     ensures tokens { spec.Lexes (spec.tokens_of text bytes.now) result }
     ensures ends { IfOk result (λ found. EndsWell found.items) }

@@ -12,14 +12,15 @@ ghost use Rattle.syntax_expr.specs.Reads.{Reads};
 use crate::sig_name::sig_name;
 use crate::word::{expect_word, sees_name};
 use base_lists::Items;
+use base_types::Fault;
 use base_types::limits::TREE_DEPTH;
 use std::alloc::Global;
-use syntax_expr::{Cursor, ParseFault, block_at, bound_at, decls_at, expr_at};
+use syntax_expr::{Cursor, block_at, bound_at, decls_at, expr_at};
 use syntax_tree::{
     Bracket, Claim, Fun, Named, Parameters, Pred, SigName, Symbol, Token, TokenKind, Word,
 };
 
-fn title(alloc: Global, cursor: &mut Cursor<'_>) -> Result<Option<Named>, ParseFault>
+fn title(alloc: Global, cursor: &mut Cursor<'_>) -> Result<Option<Named>, Fault>
     ensures { Reads title_words cursor.old result cursor.new }
 {
     if !sees_name(cursor) {
@@ -29,7 +30,7 @@ fn title(alloc: Global, cursor: &mut Cursor<'_>) -> Result<Option<Named>, ParseF
 }
 
 /// A block after this word, with a name or without one.
-pub fn claim(alloc: Global, cursor: &mut Cursor<'_>, keyword: Word) -> Result<Claim, ParseFault>
+pub fn claim(alloc: Global, cursor: &mut Cursor<'_>, keyword: Word) -> Result<Claim, Fault>
     ensures right { IfOk result (λ found. IsTrue (claim_right TREE_DEPTH found)) }
     ensures reads { Reads (claim_words keyword) cursor.old result cursor.new }
 {
@@ -40,7 +41,7 @@ pub fn claim(alloc: Global, cursor: &mut Cursor<'_>, keyword: Word) -> Result<Cl
     Ok(Claim { place, name, block })
 }
 
-fn round_parameters(alloc: Global, cursor: &mut Cursor<'_>) -> Result<Parameters, ParseFault>
+fn round_parameters(alloc: Global, cursor: &mut Cursor<'_>) -> Result<Parameters, Fault>
     ensures right { IfOk result (λ found. IsTrue (parameters_right TREE_DEPTH found)) }
     ensures reads { Reads (λ p. parameters_words (Some p)) cursor.old result cursor.new }
 {
@@ -57,7 +58,7 @@ fn round_parameters(alloc: Global, cursor: &mut Cursor<'_>) -> Result<Parameters
     Ok(Parameters { bracket, decls })
 }
 
-fn square_parameters(alloc: Global, cursor: &mut Cursor<'_>) -> Result<Parameters, ParseFault>
+fn square_parameters(alloc: Global, cursor: &mut Cursor<'_>) -> Result<Parameters, Fault>
     ensures right { IfOk result (λ found. IsTrue (parameters_right TREE_DEPTH found)) }
     ensures reads { Reads (λ p. parameters_words (Some p)) cursor.old result cursor.new }
 {
@@ -75,7 +76,7 @@ fn square_parameters(alloc: Global, cursor: &mut Cursor<'_>) -> Result<Parameter
 }
 
 /// The parameters, where a bracket comes next.
-fn parameters(alloc: Global, cursor: &mut Cursor<'_>) -> Result<Option<Parameters>, ParseFault>
+fn parameters(alloc: Global, cursor: &mut Cursor<'_>) -> Result<Option<Parameters>, Fault>
     ensures right { IfOk result (λ found. IsTrue (on (parameters_right TREE_DEPTH) found)) }
     ensures reads { Reads parameters_words cursor.old result cursor.new }
 {
@@ -100,7 +101,7 @@ fn begins_bare(rest: &[Token]) -> bool {
 }
 
 /// A sig's name and a dot, where they come next.
-fn receiver(alloc: Global, cursor: &mut Cursor<'_>) -> Result<Option<SigName>, ParseFault>
+fn receiver(alloc: Global, cursor: &mut Cursor<'_>) -> Result<Option<SigName>, Fault>
     ensures right { IfOk result (λ found. IsTrue (on sig_name_right found)) }
     ensures reads { Reads receiver_words cursor.old result cursor.new }
 {
@@ -113,7 +114,7 @@ fn receiver(alloc: Global, cursor: &mut Cursor<'_>) -> Result<Option<SigName>, P
 }
 
 /// A predicate.
-pub fn pred(alloc: Global, cursor: &mut Cursor<'_>) -> Result<Pred, ParseFault>
+pub fn pred(alloc: Global, cursor: &mut Cursor<'_>) -> Result<Pred, Fault>
     ensures right { IfOk result (λ found. IsTrue (pred_right TREE_DEPTH found)) }
     ensures reads { Reads pred_words cursor.old result cursor.new }
 {
@@ -135,7 +136,7 @@ pub fn pred(alloc: Global, cursor: &mut Cursor<'_>) -> Result<Pred, ParseFault>
 }
 
 /// A function.
-pub fn fun(alloc: Global, cursor: &mut Cursor<'_>) -> Result<Fun, ParseFault>
+pub fn fun(alloc: Global, cursor: &mut Cursor<'_>) -> Result<Fun, Fault>
     ensures right { IfOk result (λ found. IsTrue (fun_right TREE_DEPTH found)) }
     ensures reads { Reads fun_words cursor.old result cursor.new }
 {

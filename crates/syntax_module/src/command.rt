@@ -13,14 +13,15 @@ use crate::sig::block;
 use crate::sig_name::sig_name;
 use crate::word::{expect_word, numeral, sees_label, sees_name};
 use base_lists::Items;
+use base_types::Fault;
 use base_types::limits::TREE_DEPTH;
 use std::alloc::Global;
-use syntax_expr::{Cursor, ParseFault, block_at, qual_name};
+use syntax_expr::{Cursor, block_at, qual_name};
 use syntax_tree::{
     Command, Named, Scope, ScopeEntry, ScopeTarget, Subject, Symbol, Token, TokenKind, Word,
 };
 
-fn target(alloc: Global, cursor: &mut Cursor<'_>) -> Result<ScopeTarget, ParseFault>
+fn target(alloc: Global, cursor: &mut Cursor<'_>) -> Result<ScopeTarget, Fault>
     ensures right { IfOk result (λ found. IsTrue (target_right found)) }
     ensures reads { Reads target_words cursor.old result cursor.new }
 {
@@ -31,7 +32,7 @@ fn target(alloc: Global, cursor: &mut Cursor<'_>) -> Result<ScopeTarget, ParseFa
     Ok(ScopeTarget::Sig(sig_name(alloc, cursor)?))
 }
 
-fn entry(alloc: Global, cursor: &mut Cursor<'_>) -> Result<ScopeEntry, ParseFault>
+fn entry(alloc: Global, cursor: &mut Cursor<'_>) -> Result<ScopeEntry, Fault>
     ensures right { IfOk result (λ found. IsTrue (target_right found.target)) }
     ensures reads { Reads entry_words cursor.old result cursor.new }
 {
@@ -46,7 +47,7 @@ fn entry(alloc: Global, cursor: &mut Cursor<'_>) -> Result<ScopeEntry, ParseFaul
 }
 
 /// One or more numbers with what they are for.
-fn entries(alloc: Global, cursor: &mut Cursor<'_>) -> Result<Items<ScopeEntry>, ParseFault>
+fn entries(alloc: Global, cursor: &mut Cursor<'_>) -> Result<Items<ScopeEntry>, Fault>
     ensures right { IfOk result (λ found. IsTrue (entries_right found)) }
     ensures reads { Reads entries_words cursor.old result cursor.new }
 {
@@ -81,7 +82,7 @@ fn begins_overall(rest: &[Token]) -> bool {
     }
 }
 
-fn scope(alloc: Global, cursor: &mut Cursor<'_>) -> Result<Scope, ParseFault>
+fn scope(alloc: Global, cursor: &mut Cursor<'_>) -> Result<Scope, Fault>
     ensures right { IfOk result (λ found. IsTrue (scope_right found)) }
     ensures reads { Reads scope_words cursor.old result cursor.new }
 {
@@ -96,7 +97,7 @@ fn scope(alloc: Global, cursor: &mut Cursor<'_>) -> Result<Scope, ParseFault>
 }
 
 /// The scope after `for`, where it comes next.
-fn for_scope(alloc: Global, cursor: &mut Cursor<'_>) -> Result<Option<Scope>, ParseFault>
+fn for_scope(alloc: Global, cursor: &mut Cursor<'_>) -> Result<Option<Scope>, Fault>
     ensures right { IfOk result (λ found. IsTrue (on scope_right found)) }
     ensures reads { Reads for_words cursor.old result cursor.new }
 {
@@ -107,7 +108,7 @@ fn for_scope(alloc: Global, cursor: &mut Cursor<'_>) -> Result<Option<Scope>, Pa
 }
 
 /// The number after `expect`, where it comes next.
-fn expected(cursor: &mut Cursor<'_>) -> Result<Option<u32>, ParseFault>
+fn expected(cursor: &mut Cursor<'_>) -> Result<Option<u32>, Fault>
     ensures { Reads expect_words cursor.old result cursor.new }
 {
     if !cursor.eat_word(Word::Expect) {
@@ -117,7 +118,7 @@ fn expected(cursor: &mut Cursor<'_>) -> Result<Option<u32>, ParseFault>
     Ok(Some(number.value))
 }
 
-fn named_subject(alloc: Global, cursor: &mut Cursor<'_>) -> Result<Subject, ParseFault>
+fn named_subject(alloc: Global, cursor: &mut Cursor<'_>) -> Result<Subject, Fault>
     ensures right { IfOk result (λ found. IsTrue (subject_right TREE_DEPTH found)) }
     ensures reads { Reads subject_words cursor.old result cursor.new }
 {
@@ -128,7 +129,7 @@ fn named_subject(alloc: Global, cursor: &mut Cursor<'_>) -> Result<Subject, Pars
     Ok(Subject::Name(name))
 }
 
-fn subject(alloc: Global, cursor: &mut Cursor<'_>) -> Result<Subject, ParseFault>
+fn subject(alloc: Global, cursor: &mut Cursor<'_>) -> Result<Subject, Fault>
     ensures right { IfOk result (λ found. IsTrue (subject_right TREE_DEPTH found)) }
     ensures reads { Reads subject_words cursor.old result cursor.new }
 {
@@ -139,7 +140,7 @@ fn subject(alloc: Global, cursor: &mut Cursor<'_>) -> Result<Subject, ParseFault
 }
 
 /// A name and a colon, where they come next.
-fn label(alloc: Global, cursor: &mut Cursor<'_>) -> Result<Option<Named>, ParseFault>
+fn label(alloc: Global, cursor: &mut Cursor<'_>) -> Result<Option<Named>, Fault>
     ensures { Reads label_words cursor.old result cursor.new }
 {
     if !sees_name(cursor) {
@@ -151,7 +152,7 @@ fn label(alloc: Global, cursor: &mut Cursor<'_>) -> Result<Option<Named>, ParseF
 }
 
 /// `run` or `check`, and whether it is the second.
-fn keyword(cursor: &mut Cursor<'_>) -> Result<bool, ParseFault>
+fn keyword(cursor: &mut Cursor<'_>) -> Result<bool, Fault>
     ensures { IfOk result (λ is_check. kinds cursor.old
         ≡ word (keyword_of is_check) ∷ kinds cursor.new) }
 {
@@ -163,7 +164,7 @@ fn keyword(cursor: &mut Cursor<'_>) -> Result<bool, ParseFault>
 }
 
 /// A command.
-pub fn command(alloc: Global, cursor: &mut Cursor<'_>) -> Result<Command, ParseFault>
+pub fn command(alloc: Global, cursor: &mut Cursor<'_>) -> Result<Command, Fault>
     ensures right { IfOk result (λ found. IsTrue (command_right TREE_DEPTH found)) }
     ensures reads { Reads command_words cursor.old result cursor.new }
 {

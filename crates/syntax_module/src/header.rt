@@ -13,11 +13,12 @@ ghost use Rattle.syntax_expr.specs.Reads.{Reads};
 use crate::sig_name::sig_names;
 use crate::word::{expect_word, sees_private};
 use base_lists::Items;
+use base_types::Fault;
 use std::alloc::Global;
-use syntax_expr::{Cursor, ParseFault, qual_name};
+use syntax_expr::{Cursor, qual_name};
 use syntax_tree::{Header, Named, Open, Parameter, SigName, Symbol, Word};
 
-fn parameter(alloc: Global, cursor: &mut Cursor<'_>) -> Result<Parameter, ParseFault>
+fn parameter(alloc: Global, cursor: &mut Cursor<'_>) -> Result<Parameter, Fault>
     ensures { Reads parameter_words cursor.old result cursor.new }
 {
     let is_exact = cursor.eat_word(Word::Exactly);
@@ -25,7 +26,7 @@ fn parameter(alloc: Global, cursor: &mut Cursor<'_>) -> Result<Parameter, ParseF
     Ok(Parameter { is_exact, name })
 }
 
-fn parameter_list(alloc: Global, cursor: &mut Cursor<'_>) -> Result<Items<Parameter>, ParseFault>
+fn parameter_list(alloc: Global, cursor: &mut Cursor<'_>) -> Result<Items<Parameter>, Fault>
     ensures some { IfOk result (λ found. 0 < length found) }
     ensures reads { Reads (λ found. separated s.Comma (map parameter_words found)) cursor.old result
         cursor.new }
@@ -43,7 +44,7 @@ fn parameter_list(alloc: Global, cursor: &mut Cursor<'_>) -> Result<Items<Parame
     Ok(found)
 }
 
-fn parameters(alloc: Global, cursor: &mut Cursor<'_>) -> Result<Items<Parameter>, ParseFault>
+fn parameters(alloc: Global, cursor: &mut Cursor<'_>) -> Result<Items<Parameter>, Fault>
     ensures { Reads (λ found. in_brackets (map parameter_words found)) cursor.old result
         cursor.new }
 {
@@ -56,7 +57,7 @@ fn parameters(alloc: Global, cursor: &mut Cursor<'_>) -> Result<Items<Parameter>
 }
 
 /// The line that names a module, where it comes next.
-pub fn header(alloc: Global, cursor: &mut Cursor<'_>) -> Result<Option<Header>, ParseFault>
+pub fn header(alloc: Global, cursor: &mut Cursor<'_>) -> Result<Option<Header>, Fault>
     ensures right { IfOk result (λ found. IsTrue (on header_right found)) }
     ensures reads { Reads first_words cursor.old result cursor.new }
 {
@@ -73,7 +74,7 @@ pub fn header(alloc: Global, cursor: &mut Cursor<'_>) -> Result<Option<Header>, 
     }))
 }
 
-fn arguments(alloc: Global, cursor: &mut Cursor<'_>) -> Result<Items<SigName>, ParseFault>
+fn arguments(alloc: Global, cursor: &mut Cursor<'_>) -> Result<Items<SigName>, Fault>
     ensures right { IfOk result (λ found. IsTrue (every sig_name_right found)) }
     ensures reads { Reads (λ found. in_brackets (map sig_name_words found)) cursor.old result
         cursor.new }
@@ -86,7 +87,7 @@ fn arguments(alloc: Global, cursor: &mut Cursor<'_>) -> Result<Items<SigName>, P
     Ok(found)
 }
 
-fn alias(alloc: Global, cursor: &mut Cursor<'_>) -> Result<Option<Named>, ParseFault>
+fn alias(alloc: Global, cursor: &mut Cursor<'_>) -> Result<Option<Named>, Fault>
     ensures { Reads alias_words cursor.old result cursor.new }
 {
     if !cursor.eat_word(Word::As) {
@@ -95,7 +96,7 @@ fn alias(alloc: Global, cursor: &mut Cursor<'_>) -> Result<Option<Named>, ParseF
     Ok(Some(cursor.named(alloc)?))
 }
 
-fn open(alloc: Global, cursor: &mut Cursor<'_>) -> Result<Open, ParseFault>
+fn open(alloc: Global, cursor: &mut Cursor<'_>) -> Result<Open, Fault>
     ensures right { IfOk result (λ found. IsTrue (open_right found)) }
     ensures reads { Reads open_words cursor.old result cursor.new }
 {
@@ -115,7 +116,7 @@ fn open(alloc: Global, cursor: &mut Cursor<'_>) -> Result<Open, ParseFault>
 }
 
 /// The opens that come next.
-pub fn opens(alloc: Global, cursor: &mut Cursor<'_>) -> Result<Items<Open>, ParseFault>
+pub fn opens(alloc: Global, cursor: &mut Cursor<'_>) -> Result<Items<Open>, Fault>
     ensures right { IfOk result (λ found. IsTrue (every open_right found)) }
     ensures reads { Reads (λ found. joined (map open_words found)) cursor.old result cursor.new }
 {

@@ -9,14 +9,14 @@ ghost use Rattle.syntax_expr.specs.Reads.{Reads};
 
 use crate::header::{header, opens};
 use crate::paragraph::paragraphs;
-use base_types::Rule;
 use base_types::limits::TREE_DEPTH;
+use base_types::{Fault, Rule};
 use std::alloc::Global;
-use syntax_expr::{Cursor, ParseFault};
+use syntax_expr::Cursor;
 use syntax_tree::{Module, Token};
 
 /// The module that the tokens spell.
-pub fn parse_module(alloc: Global, tokens: &[Token]) -> Result<Module, ParseFault>
+pub fn parse_module(alloc: Global, tokens: &[Token]) -> Result<Module, Fault>
     requires { EndsWell tokens.now }
     ensures spells { IfOk result (λ m. kinds tokens.now ≡ module_words m) }
     ensures right { IfOk result (λ m. IsTrue (module_right TREE_DEPTH m)) }

@@ -13,9 +13,10 @@ use crate::command::command;
 use crate::sig::{enumeration, sig};
 use crate::word::sees_private;
 use base_lists::Items;
+use base_types::Fault;
 use base_types::limits::TREE_DEPTH;
 use std::alloc::Global;
-use syntax_expr::{Cursor, ParseFault};
+use syntax_expr::Cursor;
 use syntax_tree::{Paragraph, Word};
 
 /// The word that says what the paragraph is, where the next token is no name.
@@ -29,7 +30,7 @@ fn leading(cursor: &Cursor<'_>) -> Option<Word> {
     cursor.word()
 }
 
-fn paragraph(alloc: Global, cursor: &mut Cursor<'_>) -> Result<Paragraph, ParseFault>
+fn paragraph(alloc: Global, cursor: &mut Cursor<'_>) -> Result<Paragraph, Fault>
     ensures right { IfOk result (λ found. IsTrue (paragraph_right TREE_DEPTH found)) }
     ensures reads { Reads paragraph_words cursor.old result cursor.new }
 {
@@ -45,7 +46,7 @@ fn paragraph(alloc: Global, cursor: &mut Cursor<'_>) -> Result<Paragraph, ParseF
 }
 
 /// The paragraphs up to the end of the text.
-pub fn paragraphs(alloc: Global, cursor: &mut Cursor<'_>) -> Result<Items<Paragraph>, ParseFault>
+pub fn paragraphs(alloc: Global, cursor: &mut Cursor<'_>) -> Result<Items<Paragraph>, Fault>
     ensures right { IfOk result (λ found. IsTrue (every (paragraph_right TREE_DEPTH) found)) }
     ensures reads { Reads (λ found. joined (map paragraph_words found)) cursor.old result
         cursor.new }

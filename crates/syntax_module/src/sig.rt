@@ -14,10 +14,10 @@ ghost use Rattle.syntax_module.specs.Parts.{words_of};
 use crate::sig_name::{sig_name, sig_names};
 use crate::word::{expect_word, sees_name};
 use base_lists::Items;
-use base_types::Rule;
 use base_types::limits::TREE_DEPTH;
+use base_types::{Fault, Rule};
 use std::alloc::Global;
-use syntax_expr::{Cursor, ParseFault, block_at, bound_at, declared_names};
+use syntax_expr::{Cursor, block_at, bound_at, declared_names};
 use syntax_tree::{
     Enumeration, Expr, Field, FieldWord, Named, Parents, Qualifier, Sig, Symbol, Word,
 };
@@ -81,7 +81,7 @@ fn qualifier_at(cursor: &mut Cursor<'_>) -> Option<Qualifier>
 }
 
 /// The words before `sig`.
-fn qualifiers(alloc: Global, cursor: &mut Cursor<'_>) -> Result<Items<Qualifier>, ParseFault>
+fn qualifiers(alloc: Global, cursor: &mut Cursor<'_>) -> Result<Items<Qualifier>, Fault>
     ensures right { IfOk result (λ found. IsTrue (qualifiers_right found)) }
     ensures reads { Reads (λ found. joined (map qualifier_words found)) cursor.old result
         cursor.new }
@@ -121,7 +121,7 @@ fn field_word_at(cursor: &mut Cursor<'_>) -> Option<FieldWord>
 }
 
 /// The words before the names of fields.
-fn field_words_at(alloc: Global, cursor: &mut Cursor<'_>) -> Result<Items<FieldWord>, ParseFault>
+fn field_words_at(alloc: Global, cursor: &mut Cursor<'_>) -> Result<Items<FieldWord>, Fault>
     ensures { Reads (λ found. joined (map field_word_words found)) cursor.old result cursor.new }
 {
     let mut found = Items::new(alloc);
@@ -134,7 +134,7 @@ fn field_words_at(alloc: Global, cursor: &mut Cursor<'_>) -> Result<Items<FieldW
     Ok(found)
 }
 
-fn field(alloc: Global, cursor: &mut Cursor<'_>) -> Result<Field, ParseFault>
+fn field(alloc: Global, cursor: &mut Cursor<'_>) -> Result<Field, Fault>
     ensures right { IfOk result (λ found. IsTrue (field_right TREE_DEPTH found)) }
     ensures reads { Reads field_words cursor.old result cursor.new }
 {
@@ -154,7 +154,7 @@ fn field(alloc: Global, cursor: &mut Cursor<'_>) -> Result<Field, ParseFault>
 }
 
 /// One or more fields, and whether a comma stands after the last one.
-fn field_list(alloc: Global, cursor: &mut Cursor<'_>) -> Result<(Items<Field>, bool), ParseFault>
+fn field_list(alloc: Global, cursor: &mut Cursor<'_>) -> Result<(Items<Field>, bool), Fault>
     ensures some { IfOk result (λ found. 0 < length found.0) }
     ensures right { IfOk result (λ found. IsTrue (every (field_right TREE_DEPTH) found.0)) }
     ensures reads { Reads (λ found. separated s.Comma (map field_words found.0)
@@ -177,7 +177,7 @@ fn field_list(alloc: Global, cursor: &mut Cursor<'_>) -> Result<(Items<Field>, b
 }
 
 /// Fields in braces.
-fn fields(alloc: Global, cursor: &mut Cursor<'_>) -> Result<(Items<Field>, bool), ParseFault>
+fn fields(alloc: Global, cursor: &mut Cursor<'_>) -> Result<(Items<Field>, bool), Fault>
     ensures comma { IfOk result (λ found. IsTrue (comma_right found.0 found.1)) }
     ensures right { IfOk result (λ found. IsTrue (every (field_right TREE_DEPTH) found.0)) }
     ensures reads { Reads (λ found. in_braces (map field_words found.0) found.1) cursor.old result
@@ -192,7 +192,7 @@ fn fields(alloc: Global, cursor: &mut Cursor<'_>) -> Result<(Items<Field>, bool)
     Ok(found)
 }
 
-fn parents(alloc: Global, cursor: &mut Cursor<'_>) -> Result<Parents, ParseFault>
+fn parents(alloc: Global, cursor: &mut Cursor<'_>) -> Result<Parents, Fault>
     ensures right { IfOk result (λ found. IsTrue (parents_right found)) }
     ensures reads { Reads parents_words cursor.old result cursor.new }
 {
@@ -206,7 +206,7 @@ fn parents(alloc: Global, cursor: &mut Cursor<'_>) -> Result<Parents, ParseFault
 }
 
 /// A block, where one comes next.
-pub fn block(alloc: Global, cursor: &mut Cursor<'_>) -> Result<Option<Expr>, ParseFault>
+pub fn block(alloc: Global, cursor: &mut Cursor<'_>) -> Result<Option<Expr>, Fault>
     ensures right { IfOk result (λ found. IsTrue (on (block_right TREE_DEPTH) found)) }
     ensures reads { Reads block_words cursor.old result cursor.new }
 {
@@ -217,7 +217,7 @@ pub fn block(alloc: Global, cursor: &mut Cursor<'_>) -> Result<Option<Expr>, Par
 }
 
 /// Sigs that are declared together.
-pub fn sig(alloc: Global, cursor: &mut Cursor<'_>) -> Result<Sig, ParseFault>
+pub fn sig(alloc: Global, cursor: &mut Cursor<'_>) -> Result<Sig, Fault>
     ensures right { IfOk result (λ found. IsTrue (sig_right TREE_DEPTH found)) }
     ensures reads { Reads sig_words cursor.old result cursor.new }
 {
@@ -240,7 +240,7 @@ pub fn sig(alloc: Global, cursor: &mut Cursor<'_>) -> Result<Sig, ParseFault>
 }
 
 /// One or more members, and whether a comma stands after the last one.
-fn member_list(alloc: Global, cursor: &mut Cursor<'_>) -> Result<(Items<Named>, bool), ParseFault>
+fn member_list(alloc: Global, cursor: &mut Cursor<'_>) -> Result<(Items<Named>, bool), Fault>
     ensures some { IfOk result (λ found. 0 < length found.0) }
     ensures reads { Reads (λ found. separated s.Comma (map declared_name found.0)
         ++ optional found.1 (symbol s.Comma)) cursor.old result cursor.new }
@@ -262,7 +262,7 @@ fn member_list(alloc: Global, cursor: &mut Cursor<'_>) -> Result<(Items<Named>, 
 }
 
 /// A sig with its members.
-pub fn enumeration(alloc: Global, cursor: &mut Cursor<'_>) -> Result<Enumeration, ParseFault>
+pub fn enumeration(alloc: Global, cursor: &mut Cursor<'_>) -> Result<Enumeration, Fault>
     ensures right { IfOk result (λ found. IsTrue (enum_right found)) }
     ensures reads { Reads enum_words cursor.old result cursor.new }
 {

@@ -9,12 +9,13 @@ ghost use Rattle.syntax_tree.specs.ModuleRules.{sig_name_right};
 ghost use Rattle.syntax_expr.specs.Reads.{Reads};
 
 use base_lists::Items;
+use base_types::Fault;
 use std::alloc::Global;
-use syntax_expr::{Cursor, ParseFault, qual_name};
+use syntax_expr::{Cursor, qual_name};
 use syntax_tree::{SigName, Symbol, Word};
 
 /// The name of a sig, or `Int`.
-pub fn sig_name(alloc: Global, cursor: &mut Cursor<'_>) -> Result<SigName, ParseFault>
+pub fn sig_name(alloc: Global, cursor: &mut Cursor<'_>) -> Result<SigName, Fault>
     ensures right { IfOk result (λ name. IsTrue (sig_name_right name)) }
     ensures reads { Reads sig_name_words cursor.old result cursor.new }
 {
@@ -30,7 +31,7 @@ pub fn sig_names(
     alloc: Global,
     cursor: &mut Cursor<'_>,
     mark: Symbol,
-) -> Result<Items<SigName>, ParseFault>
+) -> Result<Items<SigName>, Fault>
     ensures some { IfOk result (λ found. 0 < length found) }
     ensures right { IfOk result (λ found. IsTrue (every sig_name_right found)) }
     ensures reads { Reads (λ names. separated mark (map sig_name_words names)) cursor.old result

@@ -6,12 +6,12 @@ ghost use Rattle.syntax_tree.specs.Spelling.{kinds};
 ghost use Rattle.syntax_tree.specs.ModuleWords.{numeral_words};
 ghost use Rattle.syntax_expr.specs.Reads.{Reads};
 
-use base_types::Rule;
-use syntax_expr::{Cursor, ParseFault};
+use base_types::{Fault, Rule};
+use syntax_expr::Cursor;
 use syntax_tree::{Numeral, Symbol, Token, TokenKind, Word, same_word};
 
 /// Goes past this word, which has to come next.
-pub fn expect_word(cursor: &mut Cursor<'_>, word: Word) -> Result<(), ParseFault>
+pub fn expect_word(cursor: &mut Cursor<'_>, word: Word) -> Result<(), Fault>
     ensures { IfOk result (λ _. kinds cursor.old ≡ kind.Word word ∷ kinds cursor.new) }
 {
     if cursor.eat_word(word) {
@@ -22,7 +22,7 @@ pub fn expect_word(cursor: &mut Cursor<'_>, word: Word) -> Result<(), ParseFault
 }
 
 /// The number that has to come next.
-pub fn numeral(cursor: &mut Cursor<'_>) -> Result<Numeral, ParseFault>
+pub fn numeral(cursor: &mut Cursor<'_>) -> Result<Numeral, Fault>
     ensures { Reads numeral_words cursor.old result cursor.new }
 {
     let place = cursor.place();

@@ -6,8 +6,8 @@ use Rattle.base_types.specs.declared.place.Rule.{Rule}
 use Rattle.base_types.specs.declared.place.Rule.TheVariants as rule
 use Rattle.syntax_tree.specs.declared.token.Token.{Token}
 use Rattle.syntax_places.specs.Pieces.{same_place}
-use Rattle.syntax_expr.specs.declared.fault.ParseFault.{ParseFault}
-use Rattle.syntax_expr.specs.declared.fault.ParseFault.TheVariants as fault
+use Rattle.base_types.specs.declared.fault.Fault.{Fault}
+use Rattle.base_types.specs.declared.fault.Fault.TheVariants as fault
 
 -- some token has this place
 abbrev pub has_token_at : Position → List Token → Bool
@@ -20,6 +20,6 @@ is_of_grammar rule.TooDeep = true
 is_of_grammar _ = false
 
 -- A refusal is under a rule of the grammar, at a token of the list.
-abbrev pub IsOfTokens : List Token → ParseFault → Type 0
+abbrev pub IsOfTokens : List Token → Fault → Type 0
 IsOfTokens tokens fault.Memory = ⊤
 IsOfTokens tokens (fault.Refused r) = IsTrue (is_of_grammar r.rule) × IsTrue (has_token_at r.place tokens)

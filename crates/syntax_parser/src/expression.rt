@@ -11,15 +11,16 @@ ghost use Rattle.syntax_expr.specs.Reads.{Spells};
 ghost use Rattle.syntax_parser.specs.Refuses.{IsOfTokens};
 
 use crate::refused::fault_from;
+use base_types::Fault;
 use base_types::limits::TREE_DEPTH;
 use std::alloc::Global;
-use syntax_expr::{ParseFault, Parsed, ParsedBound};
+use syntax_expr::{Parsed, ParsedBound};
 use syntax_places::{has_bound_places, has_places};
 use syntax_tree::Token;
 
 /// The tree, where each of its places is that of its token. The rules of the parser keep no other
 /// place; it is tested once more on the tree itself.
-fn placed(tokens: &[Token], from: usize, parsed: Parsed) -> Result<Parsed, ParseFault>
+fn placed(tokens: &[Token], from: usize, parsed: Parsed) -> Result<Parsed, Fault>
     requires order { from ≤ parsed.next }
     requires within { parsed.next < length tokens.now }
     ensures same { IfOk result (λ p. p ≡ parsed) }
@@ -28,17 +29,13 @@ fn placed(tokens: &[Token], from: usize, parsed: Parsed) -> Result<Parsed, Parse
     ensures refused { IfErr result (λ e. IsOfTokens (drop from tokens.now) e) }
 {
     if !has_places(&parsed.tree, &tokens[from..parsed.next]) {
-        return Err(ParseFault::Memory);
+        return Err(Fault::Memory);
     }
     Ok(parsed)
 }
 
 /// The same for a bound.
-fn placed_bound(
-    tokens: &[Token],
-    from: usize,
-    parsed: ParsedBound,
-) -> Result<ParsedBound, ParseFault>
+fn placed_bound(tokens: &[Token], from: usize, parsed: ParsedBound) -> Result<ParsedBound, Fault>
     requires order { from ≤ parsed.next }
     requires within { parsed.next < length tokens.now }
     ensures same { IfOk result (λ p. p ≡ parsed) }
@@ -47,7 +44,7 @@ fn placed_bound(
     ensures refused { IfErr result (λ e. IsOfTokens (drop from tokens.now) e) }
 {
     if !has_bound_places(parsed.word, &parsed.tree, &tokens[from..parsed.next]) {
-        return Err(ParseFault::Memory);
+        return Err(Fault::Memory);
     }
     Ok(parsed)
 }
@@ -57,7 +54,7 @@ fn placed_bound(
 ///
 /// # Errors
 /// `Refused` under `Syntax` or `TooDeep` at a token of the list, or `Memory`.
-pub fn parse_expr(alloc: Global, tokens: &[Token], from: usize) -> Result<Parsed, ParseFault>
+pub fn parse_expr(alloc: Global, tokens: &[Token], from: usize) -> Result<Parsed, Fault>
     requires ends { EndsWell tokens.now }
     requires in_range { from < length tokens.now }
     ensures spells { IfOk result (λ p. Spells tokens.now from p.next (spelling p.tree)) }
@@ -77,7 +74,7 @@ pub fn parse_expr(alloc: Global, tokens: &[Token], from: usize) -> Result<Parsed
 ///
 /// # Errors
 /// `Refused` under `Syntax` or `TooDeep` at a token of the list, or `Memory`.
-pub fn parse_bound(alloc: Global, tokens: &[Token], from: usize) -> Result<ParsedBound, ParseFault>
+pub fn parse_bound(alloc: Global, tokens: &[Token], from: usize) -> Result<ParsedBound, Fault>
     requires ends { EndsWell tokens.now }
     requires in_range { from < length tokens.now }
     ensures spells { IfOk result (λ p. Spells tokens.now from p.next
@@ -99,7 +96,7 @@ pub fn parse_bound(alloc: Global, tokens: &[Token], from: usize) -> Result<Parse
 ///
 /// # Errors
 /// `Refused` under `Syntax` or `TooDeep` at a token of the list, or `Memory`.
-pub fn parse_block(alloc: Global, tokens: &[Token], from: usize) -> Result<Parsed, ParseFault>
+pub fn parse_block(alloc: Global, tokens: &[Token], from: usize) -> Result<Parsed, Fault>
     requires ends { EndsWell tokens.now }
     requires in_range { from < length tokens.now }
     ensures spells { IfOk result (λ p. Spells tokens.now from p.next (spelling p.tree)) }

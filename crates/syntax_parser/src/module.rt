@@ -9,21 +9,21 @@ ghost use Rattle.syntax_places.specs.ModulePieces.{module_pieces};
 ghost use Rattle.syntax_parser.specs.Refuses.{IsOfTokens};
 
 use crate::refused::of_tokens;
+use base_types::Fault;
 use base_types::limits::TREE_DEPTH;
 use std::alloc::Global;
-use syntax_expr::ParseFault;
 use syntax_places::has_module_places;
 use syntax_tree::{Module, Token};
 
 /// The module, where each of its places is that of its token. The rules of the parser keep no other
 /// place; it is tested once more on the module itself.
-fn placed(tokens: &[Token], tree: Module) -> Result<Module, ParseFault>
+fn placed(tokens: &[Token], tree: Module) -> Result<Module, Fault>
     ensures same { IfOk result (λ m. m ≡ tree) }
     ensures placed { IfOk result (λ m. IsTrue (at_places (module_pieces m) tokens.now)) }
     ensures refused { IfErr result (λ e. IsOfTokens tokens.now e) }
 {
     if !has_module_places(&tree, tokens) {
-        return Err(ParseFault::Memory);
+        return Err(Fault::Memory);
     }
     Ok(tree)
 }
@@ -33,7 +33,7 @@ fn placed(tokens: &[Token], tree: Module) -> Result<Module, ParseFault>
 ///
 /// # Errors
 /// `Refused` under `Syntax` or `TooDeep` at a token of the list, or `Memory`.
-pub fn parse_module(alloc: Global, tokens: &[Token]) -> Result<Module, ParseFault>
+pub fn parse_module(alloc: Global, tokens: &[Token]) -> Result<Module, Fault>
     requires { EndsWell tokens.now }
     ensures spells { IfOk result (λ m. kinds tokens.now ≡ module_words m) }
     ensures placed { IfOk result (λ m. IsTrue (at_places (module_pieces m) tokens.now)) }

@@ -4,8 +4,7 @@ ghost use Rattle.std.specs.Prelude.{◌≡◌, ◌<◌, length, drop};
 ghost use Rattle.syntax_places.specs.Pieces.{same_place};
 ghost use Rattle.syntax_parser.specs.Refuses.{has_token_at, is_of_grammar, IsOfTokens};
 
-use base_types::{Position, Rule};
-use syntax_expr::ParseFault;
+use base_types::{Fault, Position, Rule};
 use syntax_tree::Token;
 
 fn same_place(a: Position, b: Position) -> bool
@@ -31,24 +30,24 @@ fn is_of_grammar(rule: Rule) -> bool
 /// A fault in reading these tokens. The rules of the parser refuse nothing but tokens of the list,
 /// under a rule of the grammar; that is tested once more on the list itself, and where it did not
 /// hold the fault would be `Memory`.
-pub fn of_tokens(fault: ParseFault, tokens: &[Token]) -> ParseFault
+pub fn of_tokens(fault: Fault, tokens: &[Token]) -> Fault
     ensures { IsOfTokens tokens.now result }
 {
     match fault {
-        ParseFault::Memory => ParseFault::Memory,
-        ParseFault::Refused(refusal) => {
+        Fault::Memory => Fault::Memory,
+        Fault::Refused(refusal) => {
             let of_grammar = is_of_grammar(refusal.rule);
             let at_token = has_token_at(refusal.place, tokens);
             if of_grammar && at_token {
-                return ParseFault::Refused(refusal);
+                return Fault::Refused(refusal);
             }
-            ParseFault::Memory
+            Fault::Memory
         }
     }
 }
 
 /// A fault in reading from this place in the list on.
-pub fn fault_from(tokens: &[Token], from: usize, fault: ParseFault) -> ParseFault
+pub fn fault_from(tokens: &[Token], from: usize, fault: Fault) -> Fault
     requires { from < length tokens.now }
     ensures { IsOfTokens (drop from tokens.now) result }
 {
