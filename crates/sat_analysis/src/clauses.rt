@@ -10,7 +10,7 @@ ghost use Rattle.sat_trail.specs.Reasons.{reason_of};
 ghost use Rattle.sat_analysis.specs.Resolved.{level, IsTaken, IsOneNoted};
 
 use crate::noted::Noted;
-use sat_trail::Trail;
+use sat_trail::{Trail, wide};
 use std::alloc::AllocError;
 
 /// The level of a literal's variable.
@@ -53,14 +53,15 @@ pub(crate) fn note_clause(trail: &Trail, noted: &mut Noted, number: u64) -> Resu
 }
 
 /// Notes a literal, unless its variable was noted before.
-fn note(noted: &mut Noted, literal: &i64) -> Result<(), AllocError>
+fn note(noted: &mut Noted, literal: &i32) -> Result<(), AllocError>
     requires { IsLiteral noted.old.variables literal.now }
     ensures variables { noted.new.variables ≡ noted.old.variables }
     ensures noted { OnOk result (IsOneNoted literal.now noted.old.literals noted.new.literals) }
 {
-    if noted.has(*literal) {
+    let its_value = wide(literal);
+    if noted.has(its_value) {
         return Ok(());
     }
-    noted.add(*literal)?;
+    noted.add(its_value)?;
     Ok(())
 }

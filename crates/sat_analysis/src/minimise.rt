@@ -32,7 +32,7 @@ ghost use Rattle.sat_analysis.specs.Resolved.{Stands, reason_at, AllFail, IsTake
 
 use crate::clauses::{level_of, note_clause, reason_of};
 use crate::noted::Noted;
-use sat_trail::Trail;
+use sat_trail::{Trail, literal_at};
 use std::alloc::AllocError;
 
 /// The bit of a level.
@@ -67,7 +67,7 @@ fn may_all_go(trail: &Trail, noted: &Noted, levels: u64, number: u64) -> bool
 {
     let literals = trail.clause(number);
     for place in 0..literals.len() {
-        let literal = literals[place];
+        let literal = literal_at(literals, place);
         if !noted.has(literal) && !may_go(trail, levels, literal) {
             return false;
         }
@@ -89,7 +89,8 @@ fn expand_one(
     ensures taken { IfOk result (λ done. IsTrue done → (j : ℕ) →
         j < length trail.now.assignment.trail → spec.index (value_at trail.now.assignment.trail j)
         ≡ spec.index literal →
-        (Contains trail.now.limits j → ⊥) × IsTaken (reason_at trail.now j) noted.old.literals noted.new.literals) }
+        (Contains trail.now.limits j → ⊥) × IsTaken (reason_at trail.now j) noted.old.literals
+        noted.new.literals) }
 {
     match reason_of(trail, literal) {
         Some(reason) if may_all_go(trail, noted, levels, reason) => {
@@ -173,7 +174,8 @@ fn part_one(
     ensures longer { OnOk result ((ts : List ℤ) × (noted.new.literals ≡ noted.old.literals ++ ts)) }
     ensures parted { (first : ℕ) → place < first → first ≤ length noted.old.literals →
         IsParted trail.now first place noted.old.literals learnt.old.items dropped.old.items →
-        OnOk result (IsParted trail.now first (place + 1) noted.new.literals learnt.new.items dropped.new.items) }
+        OnOk result (IsParted trail.now first (place
+        + 1) noted.new.literals learnt.new.items dropped.new.items) }
 {
     let literal = noted.literal(place);
     if level_of(trail, literal) >= trail.top() {

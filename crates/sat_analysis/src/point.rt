@@ -105,10 +105,12 @@ fn take_place(
     ensures same { IfOk result (λ found. IsTrue found → (noted.new.literals ≡ noted.old.literals)
         × (places.new.items ≡ places.old.items)) }
     ensures point { IfOk result (λ found. IsTrue found →
-        (0 < length trail.now.limits) × IsMet trail.now noted.old.literals place × ((j : ℕ) → base trail.now ≤ j → j < place → IsMet trail.now noted.old.literals j → ⊥)) }
+        (0 < length trail.now.limits) × IsMet trail.now noted.old.literals place
+        × ((j : ℕ) → base trail.now ≤ j → j < place → IsMet trail.now noted.old.literals j → ⊥)) }
     ensures back { (clause : List ℤ) → IsBack trail.now clause noted.old.literals places.old.items
         (place + 1) →
-        IfOk result (λ found. IsFalse found → IsBack trail.now clause noted.new.literals places.new.items place) }
+        IfOk result (λ found. IsFalse found → IsBack trail.now clause noted.new.literals
+        places.new.items place) }
 {
     if !is_met(literals, noted, place) {
         return Ok(false);

@@ -9,8 +9,8 @@ ghost use Rattle.sat_dropped.specs.Entries.{list_at, HasEntry, entry_count, IsFi
 
 use crate::find::{Spot, find};
 use crate::list::{NumberList, no_lists, numbers_at, push_at, take_at};
-use crate::part::{keep_places, signature, slot};
-use sat_trail::Trail;
+use crate::part::{keep_places, kept_signature, signature, slot};
+use sat_trail::{Trail, literal_at};
 use std::alloc::{AllocError, Global};
 use std::marker::Model;
 
@@ -23,14 +23,14 @@ fn len_at(numbers: &[NumberList], literal: i64) -> usize
 }
 
 /// The place of that of some literals whose list is shortest.
-fn shortest(numbers: &[NumberList], literals: &[i64]) -> usize
+fn shortest(numbers: &[NumberList], literals: &[i32]) -> usize
     requires some { 0 < length literals.now }
     requires slots { All (HasSlot (length numbers.now)) literals.now }
     ensures { result < length literals.now }
 {
     let mut best = 0;
     for place in 1..literals.len() {
-        if len_at(numbers, literals[place]) < len_at(numbers, literals[best]) {
+        if len_at(numbers, literal_at(literals, place)) < len_at(numbers, literal_at(literals, best)) {
             best = place;
         }
     }
@@ -126,8 +126,8 @@ impl Dropped {
         if literals.is_empty() {
             return Ok(false);
         }
-        let list = slot(literals[shortest(&self.numbers, literals)]);
-        self.file(list, signature(literals), number)?;
+        let list = slot(literal_at(literals, shortest(&self.numbers, literals)));
+        self.file(list, kept_signature(literals), number)?;
         Ok(true)
     }
 

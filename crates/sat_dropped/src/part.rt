@@ -5,6 +5,8 @@ ghost use Rattle.std.specs.List.{All, Contains};
 ghost use Rattle.sat_trail.specs.Assignment.{value_at};
 ghost use Rattle.sat_dropped.specs.Part.{IsPart, slot_of, HasSlot, bit_of, signature_of, ArePlaced};
 
+use sat_trail::wide;
+
 /// The place of a literal in a list that begins with one for 0 and goes on with two for each variable.
 #[inline]
 pub(crate) fn slot(literal: i64) -> usize
@@ -32,6 +34,17 @@ pub(crate) fn signature(literals: &[i64]) -> u64
     let mut bits = 0;
     for literal in literals {
         bits |= bit(*literal);
+    }
+    bits
+}
+
+/// The bits of all literals of a clause of the trail together.
+pub(crate) fn kept_signature(literals: &[i32]) -> u64
+    ensures { result ≡ signature_of literals.now }
+{
+    let mut bits = 0;
+    for literal in literals {
+        bits |= bit(wide(literal));
     }
     bits
 }
@@ -70,14 +83,14 @@ fn is_among(places: &[usize], literals: &[i64], literal: i64) -> bool
 }
 
 /// Whether each literal of a clause is among some, by the places that are kept for these.
-pub(crate) fn are_among(places: &[usize], literals: &[i64], clause: &[i64]) -> bool
+pub(crate) fn are_among(places: &[usize], literals: &[i64], clause: &[i32]) -> bool
     requires slots { All (HasSlot (length places.now)) clause.now }
     requires placed { ArePlaced places.now literals.now }
     ensures part { IsTrue result → IsPart clause.now literals.now }
     ensures other { IsFalse result → IsPart clause.now literals.now → ⊥ }
 {
     for literal in clause {
-        if !is_among(places, literals, *literal) {
+        if !is_among(places, literals, wide(literal)) {
             return false;
         }
     }

@@ -1,6 +1,6 @@
 -- The copies of the watched literals stay right as watches move and clauses are added.
-use Rattle.std.proofs.Common.{ℕ, ◌+◌, ◌*◌, ◌/◌, ◌<◌, ◌≤◌, ◌≡◌, ◌≢◌, ℤ, pos, List, [], ◌∷◌, ◌++◌, length, get_or, set, sym, ap, subst, ◌∙◌, ⊎_elim, arith, length-set, length-append}
-use Rattle.std.proofs.lemmas.List.{get_or-set_same, get_or-set_other, get_or_default, get_or_append_left, get_or_at, append_assoc}
+use Rattle.std.proofs.Common.{ℕ, ◌+◌, ◌*◌, ◌/◌, ◌<◌, ◌≤◌, ◌≡◌, ◌≢◌, ℤ, pos, List, [], ◌∷◌, ◌++◌, length, set, sym, ap, subst, ◌∙◌, ⊎_elim, arith, length-set, length-append}
+use Rattle.std.proofs.lemmas.List.{get_or-set_same, get_or-set_other, get_or_append_left, get_or_at, append_assoc}
 use Rattle.std.proofs.lemmas.Bool.{cases_eq, cases_lt}
 use Rattle.sat_trail.specs.Literal.{IsLiteral}
 use Rattle.sat_trail.specs.Assignment.{value_at}
@@ -16,15 +16,15 @@ sibling_beside k n l = ⊎_elim
     (sibling-cases k)
 
 -- the copy of the literal that a node of a pair watches
-pub copy_read : (literals : List ℤ) (ends at : List ℕ) (copies : List ℤ) (k : ℕ) (l : ℤ) → IsCopied literals ends at copies → k < length at → IsPair literals ends at (k / 2) → l ≡ get_or copies k l → l ≡ watched literals at k
-copy_read literals ends at copies k l h i p e = e ∙ (get_or_default copies k l (pos 0) (omega (arith, h.same_length)) ∙ h.same k i p)
+pub copy_read : (literals : List ℤ) (ends at : List ℕ) (copies : List ℤ) (k : ℕ) (l : ℤ) → IsCopied literals ends at copies → k < length at → IsPair literals ends at (k / 2) → l ≡ value_at copies k → l ≡ watched literals at k
+copy_read literals ends at copies k l h i p e = e ∙ h.same k i p
 
 -- the copy of the literal that the sibling watches
-pub copy_of_sibling : (literals : List ℤ) (ends at : List ℕ) (copies : List ℤ) (variables k o : ℕ) (l : ℤ) → IsArena literals ends variables → IsCopied literals ends at copies → length at ≡ 2 * length ends → k < length at → IsPair literals ends at (k / 2) → o ≡ sibling k → l ≡ get_or copies o l → (l ≡ watched literals at (sibling k)) × IsLiteral variables l
+pub copy_of_sibling : (literals : List ℤ) (ends at : List ℕ) (copies : List ℤ) (variables k o : ℕ) (l : ℤ) → IsArena literals ends variables → IsCopied literals ends at copies → length at ≡ 2 * length ends → k < length at → IsPair literals ends at (k / 2) → o ≡ sibling k → l ≡ value_at copies o → (l ≡ watched literals at (sibling k)) × IsLiteral variables l
 copy_of_sibling literals ends at copies variables k o l a h s i p is e =
     let beside = sibling_beside k (length ends) (omega (arith, s)) in
     let pair : IsPair literals ends at (sibling k / 2) = subst (IsPair literals ends at) (sym beside.1) p in
-    let same : l ≡ watched literals at (sibling k) = copy_read literals ends at copies (sibling k) l h (omega (arith, beside.0, s)) pair (e ∙ ap (λ (n : ℕ). get_or copies n l) is) in
+    let same : l ≡ watched literals at (sibling k) = copy_read literals ends at copies (sibling k) l h (omega (arith, beside.0, s)) pair (e ∙ ap (value_at copies) is) in
     (same, subst (IsLiteral variables) (sym same) (sibling_literal literals ends at variables k a (omega (arith, s)) p).1)
 
 -- a watch that moves, with its copy

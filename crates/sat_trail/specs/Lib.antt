@@ -5,5 +5,6 @@ pub mod Found
 pub mod Sound
 pub mod State
 pub mod Reasons
+pub mod Watching
 pub mod Search
 pub mod Detached

@@ -13,7 +13,7 @@ fn is_marked(marks: &[bool], clause: usize) -> bool
 }
 
 /// Whether a clause stays attached: it was so, and it isn't marked, or its two nodes are at one place.
-fn stays_attached(was_attached: bool, at: &[usize], marks: &[bool], clause: usize) -> bool
+fn stays_attached(was_attached: bool, at: &[u32], marks: &[bool], clause: usize) -> bool
     requires { 2 * clause + 1 < length at.now }
     ensures kept { was_attached ≡ true → (result ≡ true)
         ⊎ ((slice_index_or marks.now clause false ≡ true)
@@ -27,7 +27,7 @@ fn stays_attached(was_attached: bool, at: &[usize], marks: &[bool], clause: usiz
 }
 
 /// Clears the marks of the attached clauses at those that are to be detached and whose two nodes are at two places.
-pub fn clear(attached: &mut Vec<bool>, at: &[usize], marks: &[bool])
+pub fn clear(attached: &mut Vec<bool>, at: &[u32], marks: &[bool])
     requires { length at.now ≡ 2 * length attached.old.items }
     ensures { AreCleared marks.now at.now attached.old.items attached.new.items }
 {
@@ -38,7 +38,7 @@ pub fn clear(attached: &mut Vec<bool>, at: &[usize], marks: &[bool])
 }
 
 /// Sets the second node of a marked clause to the place of its first one.
-fn unwatch_one(at: &mut Vec<usize>, marks: &[bool], clause: usize)
+fn unwatch_one(at: &mut Vec<u32>, marks: &[bool], clause: usize)
     requires { 2 * clause + 1 < length at.old.items }
     ensures marked { slice_index_or marks.now clause false ≡ true → at.new.items
         ≡ slice_set at.old.items (2 * clause + 1) (slice_index at.old.items (2 * clause)) }
@@ -52,7 +52,7 @@ fn unwatch_one(at: &mut Vec<usize>, marks: &[bool], clause: usize)
 }
 
 /// Sets the second node of each marked clause to the place of its first one.
-pub fn unwatch(at: &mut Vec<usize>, count: usize, marks: &[bool])
+pub fn unwatch(at: &mut Vec<u32>, count: usize, marks: &[bool])
     requires { length at.old.items ≡ 2 * count }
     ensures { IsUnwatched marks.now at.old.items at.new.items }
 {

@@ -7,7 +7,7 @@
 
 mod literal;
 
-pub use literal::{index, list_of};
+pub use literal::{index, list_of, literal_at, wide};
 
 mod add;
 mod arena;

@@ -27,16 +27,15 @@
 //! order in which they came, and again where what made them true was taken back. The empty clause
 //! is a conflict, and any other is true, false, or unit.
 
-ghost use Rattle.std.specs.Prelude.{◌≡◌, ℕ, ℤ, neg_ℤ, ◌+◌, ◌-◌, ◌*◌, ◌<◌, ◌≤◌, ◌++◌, List, length, slice_index, Ok, None, IfNone, IfSome, IfOk, IsTrue, IsFalse};
+ghost use Rattle.std.specs.Prelude.{◌≡◌, ℕ, ℤ, ◌+◌, ◌-◌, ◌<◌, ◌≤◌, ◌++◌, List, length, slice_index, Ok, None, IfNone, IfSome, IfOk, IsTrue, IsFalse};
 ghost use Rattle.std.specs.List.{Contains};
 ghost use Rattle.sat_lists.specs.Nodes.{AreAtRest};
-ghost use Rattle.sat_trail.specs.Assignment.{value_at};
-ghost use Rattle.sat_trail.specs.Watched.{IsPair, IsCopied, IsWoven, IsKept, IsWatched, IsTrueIn, IsFalseIn, IsAlike};
-ghost use Rattle.sat_trail.specs.Reasons.{ForcesMore};
+ghost use Rattle.sat_trail.specs.Watched.{IsWatched, IsTrueIn, IsFalseIn, IsAlike};
+ghost use Rattle.sat_trail.specs.Watching.{HasValues, AreWoven, AreCopied, AreWatched, StayWatched, Propagates, IsFalseClause};
 
 use crate::arena::Arena;
 use crate::assigned::Assigned;
-use crate::list_of;
+use crate::literal::list_of;
 use crate::watches::Watches;
 use std::alloc::AllocError;
 
@@ -61,32 +60,22 @@ fn turn(
     place: usize,
     level: u64,
 ) -> Result<Option<u64>, AllocError>
-    requires variables { length assigned.old.values ≡ arena.now.variables }
-    requires woven { IsWoven arena.now.literals.items arena.now.ends.items watches.old.at.items
-        watches.old.lists arena.now.variables }
-    requires copied { IsCopied arena.now.literals.items arena.now.ends.items watches.old.at.items
-        watches.old.copies.items }
+    requires variables { HasValues arena.now assigned.old }
+    requires woven { AreWoven arena.now watches.old }
+    requires copied { AreCopied arena.now watches.old }
     requires at_rest { AreAtRest watches.old.lists }
     requires in_range { place < length assigned.old.trail }
-    requires watched { IsWatched arena.now.literals.items arena.now.ends.items watches.old.at.items
-        assigned.old.trail (length assigned.old.trail) place }
+    requires watched { AreWatched arena.now watches.old assigned.old place }
     ensures variables { length assigned.new.values ≡ length assigned.old.values }
-    ensures woven { IsWoven arena.now.literals.items arena.now.ends.items watches.new.at.items
-        watches.new.lists arena.now.variables }
-    ensures copied { IsCopied arena.now.literals.items arena.now.ends.items watches.new.at.items
-        watches.new.copies.items }
+    ensures woven { AreWoven arena.now watches.new }
+    ensures copied { AreCopied arena.now watches.new }
     ensures at_rest { AreAtRest watches.new.lists }
-    ensures kept { IsKept arena.now.literals.items arena.now.ends.items watches.old.at.items
-        assigned.old.trail watches.new.at.items assigned.new.trail }
-    ensures forced { ForcesMore arena.now.literals.items arena.now.ends.items level assigned.old
-        assigned.new }
-    ensures watched { IfOk result (λ o. IfNone o (IsWatched arena.now.literals.items
-        arena.now.ends.items watches.new.at.items assigned.new.trail (length assigned.new.trail)
+    ensures kept { StayWatched arena.now watches.old assigned.old watches.new assigned.new }
+    ensures forced { Propagates arena.now level assigned.old assigned.new }
+    ensures watched { IfOk result (λ o. IfNone o (AreWatched arena.now watches.new assigned.new
         (place + 1))) }
-    ensures false_clause { IfOk result (λ o. IfSome o (λ n. (0 < n)
-        × (n ≤ length arena.now.ends.items)
-        × IsPair arena.now.literals.items arena.now.ends.items watches.new.at.items (n - 1)
-        × IsFalseIn arena.now.literals.items arena.now.ends.items assigned.new.trail (n - 1))) }
+    ensures false_clause { IfOk result (λ o. IfSome o (IsFalseClause arena.now watches.new
+        assigned.new)) }
 {
     let list = list_of(assigned.falsified(place));
     watches.lists.begin(list);
@@ -104,33 +93,23 @@ pub fn advance(
     start: usize,
     level: u64,
 ) -> (usize, Result<Option<u64>, AllocError>)
-    requires variables { length assigned.old.values ≡ arena.now.variables }
-    requires woven { IsWoven arena.now.literals.items arena.now.ends.items watches.old.at.items
-        watches.old.lists arena.now.variables }
-    requires copied { IsCopied arena.now.literals.items arena.now.ends.items watches.old.at.items
-        watches.old.copies.items }
+    requires variables { HasValues arena.now assigned.old }
+    requires woven { AreWoven arena.now watches.old }
+    requires copied { AreCopied arena.now watches.old }
     requires at_rest { AreAtRest watches.old.lists }
     requires in_range { start ≤ length assigned.old.trail }
-    requires watched { IsWatched arena.now.literals.items arena.now.ends.items watches.old.at.items
-        assigned.old.trail (length assigned.old.trail) start }
+    requires watched { AreWatched arena.now watches.old assigned.old start }
     ensures variables { length assigned.new.values ≡ length assigned.old.values }
-    ensures woven { IsWoven arena.now.literals.items arena.now.ends.items watches.new.at.items
-        watches.new.lists arena.now.variables }
-    ensures copied { IsCopied arena.now.literals.items arena.now.ends.items watches.new.at.items
-        watches.new.copies.items }
+    ensures woven { AreWoven arena.now watches.new }
+    ensures copied { AreCopied arena.now watches.new }
     ensures at_rest { AreAtRest watches.new.lists }
-    ensures kept { IsKept arena.now.literals.items arena.now.ends.items watches.old.at.items
-        assigned.old.trail watches.new.at.items assigned.new.trail }
-    ensures forced { ForcesMore arena.now.literals.items arena.now.ends.items level assigned.old
-        assigned.new }
+    ensures kept { StayWatched arena.now watches.old assigned.old watches.new assigned.new }
+    ensures forced { Propagates arena.now level assigned.old assigned.new }
     ensures reached { result.0 ≤ length assigned.new.trail }
-    ensures watched { IsWatched arena.now.literals.items arena.now.ends.items watches.new.at.items
-        assigned.new.trail (length assigned.new.trail) result.0 }
+    ensures watched { AreWatched arena.now watches.new assigned.new result.0 }
     ensures all { IfOk result.1 (λ o. IfNone o (result.0 ≡ length assigned.new.trail)) }
-    ensures false_clause { IfOk result.1 (λ o. IfSome o (λ n. (0 < n)
-        × (n ≤ length arena.now.ends.items)
-        × IsPair arena.now.literals.items arena.now.ends.items watches.new.at.items (n - 1)
-        × IsFalseIn arena.now.literals.items arena.now.ends.items assigned.new.trail (n - 1))) }
+    ensures false_clause { IfOk result.1 (λ o. IfSome o (IsFalseClause arena.now watches.new
+        assigned.new)) }
 {
     let mut done = start;
     'trail: while done < assigned.len() {
@@ -152,15 +131,14 @@ pub fn advance_short(
     start: usize,
     level: u64,
 ) -> (usize, Option<u64>)
-    requires variables { length assigned.old.values ≡ arena.now.variables }
+    requires variables { HasValues arena.now assigned.old }
     requires alike { (j : ℕ) → j < length short.now →
         (slice_index short.now j < length arena.now.ends.items)
         × IsAlike arena.now.literals.items arena.now.ends.items (slice_index short.now j) }
     requires in_range { start ≤ length short.now }
     ensures variables { length assigned.new.values ≡ length assigned.old.values }
     ensures longer { (ts : List ℤ) × (assigned.new.trail ≡ assigned.old.trail ++ ts) }
-    ensures forced { ForcesMore arena.now.literals.items arena.now.ends.items level assigned.old
-        assigned.new }
+    ensures forced { Propagates arena.now level assigned.old assigned.new }
     ensures reached { (start ≤ result.0) × (result.0 ≤ length short.now) }
     ensures holds { (j : ℕ) → start ≤ j → j < result.0 →
         IsTrueIn arena.now.literals.items arena.now.ends.items assigned.new.trail
@@ -183,23 +161,22 @@ pub fn advance_short(
 
 /// Makes a clause without two different literals true, unless it is false.
 fn satisfy(arena: &Arena, assigned: &mut Assigned, clause: usize, level: u64) -> bool
-    requires variables { length assigned.old.values ≡ arena.now.variables }
+    requires variables { HasValues arena.now assigned.old }
     requires in_range { clause < length arena.now.ends.items }
     requires alike { IsAlike arena.now.literals.items arena.now.ends.items clause }
     ensures variables { length assigned.new.values ≡ length assigned.old.values }
     ensures longer { (ts : List ℤ) × (assigned.new.trail ≡ assigned.old.trail ++ ts) }
-    ensures forced { ForcesMore arena.now.literals.items arena.now.ends.items level assigned.old
-        assigned.new }
+    ensures forced { Propagates arena.now level assigned.old assigned.new }
     ensures holds { IsTrue result → IsTrueIn arena.now.literals.items arena.now.ends.items
         assigned.new.trail clause }
     ensures false_clause { IsFalse result → IsFalseIn arena.now.literals.items arena.now.ends.items
         assigned.new.trail clause }
 {
     let first = arena.start(clause);
-    if first == arena.ends[clause] {
+    if first == arena.ends[clause] as usize {
         return false;
     }
-    let literal = arena.literals[first];
+    let literal = arena.literal_at(first);
     if assigned.is_true(literal) {
         return true;
     }

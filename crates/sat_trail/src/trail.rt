@@ -23,7 +23,7 @@ use crate::add::{bound, latest, lower, two_latest};
 use crate::arena::Arena;
 use crate::assigned::Assigned;
 use crate::detach::{clear, unwatch};
-use crate::list_of;
+use crate::literal::{list_of, push_literal, write_literal};
 use crate::propagate::{advance, advance_short};
 use crate::watches::Watches;
 use sat_dimacs::{Clause, Cnf};
@@ -100,7 +100,7 @@ impl Trail {
         ensures clauses { IfOk result (λ t. (t.ends ≡ []) × (t.attached ≡ [])) }
         ensures nothing_assigned { IfOk result (λ t. (t.assignment.trail ≡ []) × (t.limits ≡ [])) }
     {
-        if variables > usize::MAX / 4 {
+        if variables >= 1 << 31 {
             return Err(AllocError);
         }
         Ok(Trail {
@@ -176,10 +176,10 @@ impl Trail {
             .lists
             .add_pair(list_of(literals[one]), list_of(literals[two]), node)?;
         let first = self.arena.literals.len();
-        push_in_room(&mut self.watches.at, first + one);
-        push_in_room(&mut self.watches.at, first + two);
-        push_in_room(&mut self.watches.copies, literals[one]);
-        push_in_room(&mut self.watches.copies, literals[two]);
+        push_in_room(&mut self.watches.at, (first + one) as u32);
+        push_in_room(&mut self.watches.at, (first + two) as u32);
+        push_literal(&mut self.watches.copies, &literals[one]);
+        push_literal(&mut self.watches.copies, &literals[two]);
         push_in_room(&mut self.attached, true);
         self.arena.push(literals);
         let limit = bound(&self.assigned, literals[one]).min(bound(&self.assigned, literals[two]));
@@ -329,17 +329,17 @@ impl Trail {
         let from = self.arena.start(clause);
         let place = from + one;
         let other = from + two;
-        let first = self.arena.literals[place];
-        let second = self.arena.literals[other];
+        let first = self.arena.literal_at(place);
+        let second = self.arena.literal_at(other);
         let node = 2 * clause;
         let next = node + 1;
         self.watches
             .lists
             .add_pair(list_of(first), list_of(second), node)?;
-        self.watches.at[node] = place;
-        self.watches.at[next] = other;
-        self.watches.copies[node] = first;
-        self.watches.copies[next] = second;
+        self.watches.at[node] = place as u32;
+        self.watches.at[next] = other as u32;
+        write_literal(&mut self.watches.copies, node, first);
+        write_literal(&mut self.watches.copies, next, second);
         self.attached[clause] = true;
         let limit = bound(&self.assigned, first).min(bound(&self.assigned, second));
         self.done = self.done.min(limit);
@@ -477,13 +477,13 @@ impl Trail {
         self.arena.ends.len() as u64
     }
 
-    /// The literals of a clause.
-    pub fn clause(&self, number: u64) -> &[i64]
+    /// The literals of a clause, each in 32 bits.
+    pub fn clause(&self, number: u64) -> &[i32]
         requires number { (0 < number) × (number ≤ length self.now.ends) }
         ensures clause { result.now ≡ clause_at self.now (number - 1) }
         ensures literals { All (IsLiteral self.now.variables) result.now }
     {
         let clause = number as usize - 1;
-        &self.arena.literals[self.arena.start(clause)..self.arena.ends[clause]]
+        &self.arena.literals[self.arena.start(clause)..self.arena.ends[clause] as usize]
     }
 }

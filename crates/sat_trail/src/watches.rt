@@ -27,17 +27,17 @@
 //! propagation ends with that error: every watch is right then, and the place of the trail counts
 //! as not propagated.
 
-ghost use Rattle.std.specs.Prelude.{◌≡◌, ◌≢◌, ℕ, ℤ, neg_ℤ, ◌+◌, ◌-◌, ◌*◌, ◌/◌, ◌%◌, ◌<◌, ◌≤◌, ◌⊎◌, ◌++◌, ◌∷◌, [], List, length, slice_index, slice_set, IsTrue, IsFalse, IfNone, IfSome, IfOk, OnErr, MatchOption, drop, ◌^◌};
+ghost use Rattle.std.specs.Prelude.{◌≡◌, ◌≢◌, ℕ, ℤ, neg_ℤ, ◌+◌, ◌-◌, ◌*◌, ◌/◌, ◌%◌, ◌<◌, ◌≤◌, ◌⊎◌, ◌∷◌, [], length, IsTrue, IsFalse, IfNone, IfSome, IfOk, OnErr, drop, ◌^◌};
 ghost use Rattle.std.specs.List.{Contains};
 ghost use Rattle.sat_lists.specs.Nodes.{AreAtRest};
 ghost use Rattle.sat_trail.specs.Assignment.{value_at};
-ghost use Rattle.sat_trail.specs.Watched.{IsPair, IsCopied, IsWoven, IsKept, IsVisited, IsTaken, IsTrueIn, IsFalseIn, InClause, watched, sibling, start_of};
+ghost use Rattle.sat_trail.specs.Watched.{IsKept, IsTaken, IsFalseIn, watched, sibling};
 ghost use Rattle.sat_trail.specs.Found.{IsFound};
-ghost use Rattle.sat_trail.specs.Reasons.{ForcesMore};
+ghost use Rattle.sat_trail.specs.Watching.{HasValues, AreWoven, AreCopied, StayWatched, AreVisited, Propagates, IsWatching, IsFalseClause};
 
 use crate::arena::Arena;
 use crate::assigned::Assigned;
-use crate::list_of;
+use crate::literal::{list_of, wide, write_literal};
 use sat_lists::NodeLists;
 use std::alloc::AllocError;
 
@@ -45,9 +45,9 @@ use std::alloc::AllocError;
 #[derive(Drop)]
 pub struct Watches {
     /// At which place of the arena the literal stands that each node watches.
-    pub at: Vec<usize>,
+    pub at: Vec<u32>,
     /// The literal that each node watches, so that a visit mostly reads no clause.
-    pub copies: Vec<i64>,
+    pub copies: Vec<i32>,
     /// The nodes that watch each literal.
     pub lists: NodeLists,
 }
@@ -64,7 +64,7 @@ fn other_node(node: usize) -> usize
 /// The first place of a literal that isn't false and isn't `other`, or `last`.
 #[inline]
 fn find_first(arena: &Arena, assigned: &Assigned, first: usize, last: usize, other: i64) -> usize
-    requires variables { length assigned.now.values ≡ arena.now.variables }
+    requires variables { HasValues arena.now assigned.now }
     requires ordered { first ≤ last }
     requires in_range { last ≤ length arena.now.literals.items }
     ensures within { (first ≤ result) × (result ≤ last) }
@@ -76,7 +76,7 @@ fn find_first(arena: &Arena, assigned: &Assigned, first: usize, last: usize, oth
         ⊎ Contains assigned.now.trail (neg_ℤ (value_at arena.now.literals.items p)) }
 {
     for place in first..last {
-        let literal = arena.literals[place];
+        let literal = arena.literal_at(place);
         if literal != other && !assigned.is_false(literal) {
             return place;
         }
@@ -95,7 +95,7 @@ fn find_open(
     other: i64,
     from: usize,
 ) -> usize
-    requires variables { length assigned.now.values ≡ arena.now.variables }
+    requires variables { HasValues arena.now assigned.now }
     requires ordered { first ≤ last }
     requires in_range { last ≤ length arena.now.literals.items }
     ensures within { (first ≤ result) × (result ≤ last) }
@@ -111,6 +111,11 @@ fn find_open(
         if place < last {
             return place;
         }
+        let place = find_first(arena, assigned, first, from, other);
+        if place < from {
+            return place;
+        }
+        return last;
     }
     find_first(arena, assigned, first, last, other)
 }
@@ -118,35 +123,42 @@ fn find_open(
 /// What the clause of a node is.
 enum Found {
     True,
-    Open(usize),
+    Open(u32),
     Forced(i64),
     False,
 }
 
 impl Watches {
+    /// The literal that a node watches, of which this is the copy.
+    #[inline]
+    fn literal_at(&self, node: usize) -> i64
+        requires { node < length self.now.copies.items }
+        ensures { result ≡ value_at self.now.copies.items node }
+    {
+        wide(&self.copies[node])
+    }
+
     /// Looks at the clause of a node whose literal is false.
     #[inline]
     fn inspect(&self, arena: &Arena, assigned: &Assigned, node: usize) -> Found
-        requires variables { length assigned.now.values ≡ arena.now.variables }
+        requires variables { HasValues arena.now assigned.now }
         requires two_each { length self.now.at.items ≡ 2 * length arena.now.ends.items }
-        requires copied { IsCopied arena.now.literals.items arena.now.ends.items self.now.at.items
-            self.now.copies.items }
+        requires copied { AreCopied arena.now self.now }
         requires in_range { node < length self.now.at.items }
-        requires pair { IsPair arena.now.literals.items arena.now.ends.items self.now.at.items
-            (node / 2) }
+        requires pair { IsWatching arena.now self.now node }
         ensures { IsFound arena.now.literals.items arena.now.ends.items self.now.at.items
             assigned.now.trail node result }
     {
-        let other = self.copies[other_node(node)];
+        let other = self.literal_at(other_node(node));
         if assigned.is_true(other) {
             return Found::True;
         }
         let clause = node / 2;
-        let last = arena.ends[clause];
-        let from = self.at[node];
+        let last = arena.ends[clause] as usize;
+        let from = self.at[node] as usize;
         let place = find_open(arena, assigned, arena.start(clause), last, other, from);
         if place < last {
-            return Found::Open(place);
+            return Found::Open(place as u32);
         }
         if assigned.is_false(other) {
             return Found::False;
@@ -164,27 +176,23 @@ impl Watches {
         node: usize,
         level: u64,
     ) -> Result<bool, AllocError>
-        requires variables { length assigned.old.values ≡ arena.now.variables }
-        requires woven { IsWoven arena.now.literals.items arena.now.ends.items self.old.at.items
-            self.old.lists arena.now.variables }
-        requires copied { IsCopied arena.now.literals.items arena.now.ends.items self.old.at.items
-            self.old.copies.items }
+        requires variables { HasValues arena.now assigned.old }
+        requires woven { AreWoven arena.now self.old }
+        requires copied { AreCopied arena.now self.old }
         requires first { self.old.lists.loose ≡ node ∷ drop 1 self.old.lists.loose }
         ensures variables { length assigned.new.values ≡ length assigned.old.values }
-        ensures copied { IsCopied arena.now.literals.items arena.now.ends.items self.new.at.items
-            self.new.copies.items }
+        ensures copied { AreCopied arena.now self.new }
         ensures taken { IfOk result (λ b. IsTrue b → IsTaken arena.now.literals.items
             arena.now.ends.items arena.now.variables self.old.at.items assigned.old.trail
             self.old.lists.loose self.new.at.items assigned.new.trail self.new.lists) }
         ensures false_clause { IfOk result (λ b. IsFalse b → (node < length self.old.at.items)
-            × IsPair arena.now.literals.items arena.now.ends.items self.old.at.items (node / 2)
+            × IsWatching arena.now self.old node
             × IsFalseIn arena.now.literals.items arena.now.ends.items assigned.old.trail
             (node / 2)) }
         ensures unchanged { IfOk result (λ b. IsFalse b → (self.new ≡ self.old)
             × (assigned.new ≡ assigned.old)) }
         ensures err { OnErr result ((self.new ≡ self.old) × (assigned.new ≡ assigned.old)) }
-        ensures forced { ForcesMore arena.now.literals.items arena.now.ends.items level assigned.old
-            assigned.new }
+        ensures forced { Propagates arena.now level assigned.old assigned.new }
     {
         match self.inspect(arena, assigned, node) {
             Found::True => {
@@ -192,10 +200,10 @@ impl Watches {
                 Ok(true)
             }
             Found::Open(place) => {
-                let literal = arena.literals[place];
+                let literal = arena.literal_at(place as usize);
                 self.lists.settle(list_of(literal))?;
                 self.at[node] = place;
-                self.copies[node] = literal;
+                write_literal(&mut self.copies, node, literal);
                 Ok(true)
             }
             Found::Forced(literal) => {
@@ -215,31 +223,21 @@ impl Watches {
         assigned: &mut Assigned,
         level: u64,
     ) -> Result<Option<u64>, AllocError>
-        requires variables { length assigned.old.values ≡ arena.now.variables }
-        requires woven { IsWoven arena.now.literals.items arena.now.ends.items self.old.at.items
-            self.old.lists arena.now.variables }
-        requires copied { IsCopied arena.now.literals.items arena.now.ends.items self.old.at.items
-            self.old.copies.items }
+        requires variables { HasValues arena.now assigned.old }
+        requires woven { AreWoven arena.now self.old }
+        requires copied { AreCopied arena.now self.old }
         ensures variables { length assigned.new.values ≡ length assigned.old.values }
-        ensures woven { IsWoven arena.now.literals.items arena.now.ends.items self.new.at.items
-            self.new.lists arena.now.variables }
-        ensures copied { IsCopied arena.now.literals.items arena.now.ends.items self.new.at.items
-            self.new.copies.items }
-        ensures kept { IsKept arena.now.literals.items arena.now.ends.items self.old.at.items
-            assigned.old.trail self.new.at.items assigned.new.trail }
-        ensures forced { ForcesMore arena.now.literals.items arena.now.ends.items level assigned.old
-            assigned.new }
+        ensures woven { AreWoven arena.now self.new }
+        ensures copied { AreCopied arena.now self.new }
+        ensures kept { StayWatched arena.now self.old assigned.old self.new assigned.new }
+        ensures forced { Propagates arena.now level assigned.old assigned.new }
         ensures none_loose { IfOk result (λ o. IfNone o (self.new.lists.loose ≡ [])) }
         ensures visited { IfOk result (λ o. IfNone o ((w : ℤ) →
             Contains assigned.old.trail (neg_ℤ w) →
-            IsVisited arena.now.literals.items arena.now.ends.items self.old.at.items
-            self.old.lists.loose assigned.old.trail w →
-            IsVisited arena.now.literals.items arena.now.ends.items self.new.at.items
-            self.new.lists.loose assigned.new.trail w)) }
-        ensures false_clause { IfOk result (λ o. IfSome o (λ n. (0 < n)
-            × (n ≤ length arena.now.ends.items)
-            × IsPair arena.now.literals.items arena.now.ends.items self.new.at.items (n - 1)
-            × IsFalseIn arena.now.literals.items arena.now.ends.items assigned.new.trail (n - 1))) }
+            AreVisited arena.now self.old assigned.old w →
+            AreVisited arena.now self.new assigned.new w)) }
+        ensures false_clause { IfOk result (λ o. IfSome o (IsFalseClause arena.now self.new
+            assigned.new)) }
     {
         'nodes: while let Some(node) = self.lists.first() {
             let is_settled = self.take(arena, assigned, node, level)?;
@@ -252,10 +250,8 @@ impl Watches {
 
     /// Puts what is left of the loose nodes back, which ends the walk.
     pub fn restore(&mut self, arena: &Arena)
-        requires woven { IsWoven arena.now.literals.items arena.now.ends.items self.old.at.items
-            self.old.lists arena.now.variables }
-        ensures woven { IsWoven arena.now.literals.items arena.now.ends.items self.new.at.items
-            self.new.lists arena.now.variables }
+        requires woven { AreWoven arena.now self.old }
+        ensures woven { AreWoven arena.now self.new }
         ensures at { self.new.at.items ≡ self.old.at.items }
         ensures copies { self.new.copies.items ≡ self.old.copies.items }
         ensures at_rest { AreAtRest self.new.lists }

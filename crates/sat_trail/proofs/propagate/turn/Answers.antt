@@ -1,10 +1,11 @@
-use Rattle.std.proofs.Common.{ℕ, ◌≡◌, ◌<◌, ◌*◌, ◌∙◌, ap, subst, neg_ℤ, pos, arith, rules, w64, SFits}
+use Rattle.std.proofs.Common.{ℕ, List, ◌≡◌, ◌<◌, ◌≤◌, ◌-◌, ◌*◌, ◌∙◌, IfOk, IfSome, length, ap, sym, subst, neg_ℤ, pos, arith, rules, w64, SFits}
 use Rattle.std.proofs.lemmas.Int.{to_z-of_z}
 use Rattle.std.specs.List.{Contains}
 use Rattle.std.proofs.lemmas.List.Elements.{Contains-get_or}
 use Rattle.sat_trail.specs.Literal.{list_of, IsLiteral}
 use Rattle.sat_lists.specs.Nodes.{Lists, list_at}
 use Rattle.sat_trail.specs.Assignment.{value_at}
+use Rattle.sat_trail.specs.Watched.{IsPair, IsFalseIn}
 use Rattle.sat_trail.proofs.Assigning.{neg-neg}
 use Rattle.sat_trail.proofs.Weaving.{IsWoven-begin, IsVisited-begin, IsWatched-next, list_of-lt}
 use Rattle.sat_trail.proofs.Sounding.{IfOk-both}
@@ -35,7 +36,12 @@ returns-clause-watched c =
     e.none_loose e.visited)
 
 pub returns-clause-false_clause : goal.returns-clause-false_clause
-returns-clause-false_clause c = rw c.restore.ensures.at c.visit-found.ensures.false_clause
+returns-clause-false_clause c =
+    let literals = c.args.arena.now.literals.items in
+    let ends = c.args.arena.now.ends.items in
+    let trail = c.visit-found.new.assigned.trail in
+    subst (λ (at : List ℕ). IfOk c.visit-found.result (λ o. IfSome o (λ n. (0 < n) × (n ≤ length ends) × IsPair literals ends at (n - 1) × IsFalseIn literals ends trail (n - 1))))
+    (sym c.restore.ensures.at) c.visit-found.ensures.false_clause
 
 pub returns-clause-copied : goal.returns-clause-copied
 returns-clause-copied c = rw (c.restore.ensures.at, c.restore.ensures.copies) c.visit-found.ensures.copied

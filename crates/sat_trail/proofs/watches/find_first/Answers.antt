@@ -1,14 +1,13 @@
-use Rattle.std.proofs.Common.{◌≡◌, ◌<◌, ◌∙◌, pos, length, rules, arith, w64, SFits}
+use Rattle.std.proofs.Common.{◌≡◌, ◌<◌, length, rules, arith, w64, SFits}
 use Rattle.std.proofs.lemmas.Int.{to_z-of_z}
-use Rattle.std.proofs.lemmas.List.{get_or_default}
 use Rattle.std.proofs.lemmas.Bool.{false≢true}
 use Rattle.sat_trail.specs.Assignment.{value_at}
 use Rattle.sat_trail.proofs.watches.find_first.Goals as goal
 
 pub returns-then-not-is_false-clause-not_false : goal.returns-then-not-is_false-clause-not_false
 returns-then-not-is_false-clause-not_false c =
-    let literal_fits : SFits w64 c.index-literal.result.now = search rules in
+    let literal_fits : SFits w64 c.literal_at-literal.result = search rules in
     λ l h.
     let inside : c.loop-place.place < length c.args.arena.now.literals.items = omega (arith, c.requires.in_range) in
-    let is : c.index-literal.result.now ≡ value_at c.args.arena.now.literals.items c.loop-place.place = c.index-literal.ensures ∙ get_or_default c.args.arena.now.literals.items c.loop-place.place c.index-literal.result.now (pos 0) inside in
+    let is : c.literal_at-literal.result ≡ value_at c.args.arena.now.literals.items c.loop-place.place = c.literal_at-literal.ensures in
     false≢true (c.if-not-is_false.ensures.1 (simp to_z-of_z (rw is h)))

@@ -37,7 +37,7 @@ invariant_of-self-2 c =
           (c.push_in_room-2.ensures.items ∙ ap (λ (xs : List ℕ). xs ++ (c.len-first.result + c.args.two) ∷ []) (c.push_in_room.ensures.items ∙ ap (λ (xs : List ℕ). xs ++ (c.len-first.result + c.args.one) ∷ []) c.reserve-2.ensures.items))
           node_is c.in_ok-add_pair.ensures.ok
           (c.push.ensures.variables ∙ c.reserve.ensures.variables)
-          (c.push_in_room-5.ensures.items ∙ ap (λ (xs : List Bool). xs ++ true ∷ []) c.reserve-4.ensures.items)
+          (c.push_in_room-3.ensures.items ∙ ap (λ (xs : List Bool). xs ++ true ∷ []) c.reserve-4.ensures.items)
           (omega (arith, c.min-self-inside.ensures)) (omega (arith, c.min-self-inside.ensures))
           c.lower.ensures.len c.lower.ensures.lowered
           (λ j k l. none₁ j k (omega (arith, c.min-limit.ensures))) (λ j k l. none₂ j k (omega (arith, c.min-limit.ensures)));
@@ -53,9 +53,9 @@ invariant_of-self-2 c =
           ∙ (append_assoc m.at ((c.len-first.result + c.args.one) ∷ []) ((c.len-first.result + c.args.two) ∷ []) ∙ ap (λ (n : ℕ). m.at ++ (n + c.args.one) ∷ (n + c.args.two) ∷ []) first) in
           let literals : c.push.new.self.literals.items ≡ m.literals ++ ls = c.push.ensures.literals ∙ ap (λ (xs : List ℤ). xs ++ ls) c.reserve.ensures.literals in
           let ends : c.push.new.self.ends.items ≡ m.ends ++ length (m.literals ++ ls) ∷ [] = c.push.ensures.ends ∙ (ap (λ (xs : List ℕ). xs ++ length c.push.new.self.literals.items ∷ []) c.reserve.ensures.ends ∙ ap (λ (xs : List ℤ). m.ends ++ length xs ∷ []) literals) in
-          let third = simp to_z-of_z at c.push_in_room-3.ensures.items in
-          let fourth = simp to_z-of_z at c.push_in_room-4.ensures.items in
-          let all_copies : c.push_in_room-4.new.items.items ≡ copies ++ l₁ ∷ l₂ ∷ [] =
+          let third = c.push_literal.ensures.items in
+          let fourth = c.push_literal-2.ensures.items in
+          let all_copies : c.push_literal-2.new.literals.items ≡ copies ++ l₁ ∷ l₂ ∷ [] =
           fourth ∙ (ap (λ (xs : List ℤ). xs ++ l₂ ∷ []) (third ∙ ap (λ (xs : List ℤ). xs ++ l₁ ∷ []) c.reserve-3.ensures.items) ∙ append_assoc copies (l₁ ∷ []) (l₂ ∷ [])) in
           rw (literals, ends, places, all_copies) (IsCopied-more m.literals ls m.ends m.at copies m.variables (length (m.literals ++ ls)) (f + c.args.one) (f + c.args.two) l₁ l₂ a i.sound.woven.two_each i.copied
           (λ _. (sym (watched_one m.literals ls m.at c.args.one (f + c.args.two)), sym (watched_two m.literals ls m.at (f + c.args.one) c.args.two))));
@@ -65,9 +65,9 @@ pub returns-clause-added : goal.returns-clause-added
 returns-clause-added c =
     let ls = c.args.literals.now in
     let old = search_of c.self.inside in
-    let new : Search = record old { literals = c.push.new.self.literals.items; ends = c.push.new.self.ends.items; attached = c.push_in_room-5.new.items.items; variables = c.push.new.self.variables } in
+    let new : Search = record old { literals = c.push.new.self.literals.items; ends = c.push.new.self.ends.items; attached = c.push_in_room-3.new.items.items; variables = c.push.new.self.variables } in
     let added = clause_added old new ls c.self.inside.arena.in_order
     (c.push.ensures.literals ∙ ap (λ (xs : List ℤ). xs ++ ls) c.reserve.ensures.literals)
     (c.push.ensures.ends ∙ ap (λ (xs : List ℕ). xs ++ length c.push.new.self.literals.items ∷ []) c.reserve.ensures.ends)
-    (c.push_in_room-5.ensures.items ∙ ap (λ (xs : List Bool). xs ++ true ∷ []) c.reserve-4.ensures.items) in
+    (c.push_in_room-3.ensures.items ∙ ap (λ (xs : List Bool). xs ++ true ∷ []) c.reserve-4.ensures.items) in
     (subst (λ (s : Search). Adds s new ls) c.self.view_is added.0, omega (arith, c.len.ensures, c.push.new.self.ends.ok.0))

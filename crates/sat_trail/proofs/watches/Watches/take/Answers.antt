@@ -1,6 +1,5 @@
-use Rattle.std.proofs.Common.{◌≡◌, ◌+◌, ◌-◌, ap, sym, refl, ◌<◌, ◌/◌, ◌∙◌, pos, length, rules, arith, w64, SFits}
+use Rattle.std.proofs.Common.{◌≡◌, ◌+◌, ◌-◌, set, ap, sym, refl, ◌<◌, ◌/◌, ◌∙◌, length, rules, arith, w64, SFits}
 use Rattle.std.proofs.lemmas.Int.{to_z-of_z}
-use Rattle.std.proofs.lemmas.List.{get_or_default}
 use Rattle.sat_lists.specs.Nodes.{Lists}
 use Rattle.sat_trail.specs.Literal.{IsLiteral, list_of}
 use Rattle.sat_trail.specs.Assignment.{value_at}
@@ -36,8 +35,8 @@ put-requires-clause-not_true c =
 pub inspect-requires-clause-pair : goal.inspect-requires-clause-pair
 inspect-requires-clause-pair c = (c.requires.woven.loose c.args.node (loose_has c.args.self.now.lists c.args.node c.requires.first)).1
 
-pub index-literal-requires : goal.index-literal-requires
-index-literal-requires c =
+pub literal_at-literal-requires : goal.literal_at-literal-requires
+literal_at-literal-requires c =
     let its = c.requires.woven.loose c.args.node (loose_has c.args.self.now.lists c.args.node c.requires.first) in
     let in_ends : c.args.node / 2 < length c.args.arena.now.ends.items = omega (arith, its.0, c.requires.woven.two_each) in
     omega (arith, c.in-Open.ensures.0.1, (c.args.arena.now.in_order.ordered (c.args.node / 2) in_ends).1, c.args.arena.now.literals.ok.0)
@@ -72,25 +71,25 @@ keep-requires-in-Forced c = omega (arith, ap length c.requires.first)
 
 pub list_of-requires : goal.list_of-requires
 list_of-requires c =
-    let literal_fits : SFits w64 c.index-literal.result.now = search rules in
+    let literal_fits : SFits w64 c.literal_at-literal.result = search rules in
     let arena = c.args.arena.now in
     let its = c.requires.woven.loose c.args.node (loose_has c.args.self.now.lists c.args.node c.requires.first) in
     let in_ends : c.args.node / 2 < length arena.ends.items = omega (arith, its.0, c.requires.woven.two_each) in
     let inside : c.in-Open.place < length arena.literals.items = omega (arith, c.in-Open.ensures.0.1, (arena.in_order.ordered (c.args.node / 2) in_ends).1) in
-    let is : c.index-literal.result.now ≡ value_at arena.literals.items c.in-Open.place = c.index-literal.ensures ∙ get_or_default arena.literals.items c.in-Open.place c.index-literal.result.now (pos 0) inside in
+    let is : c.literal_at-literal.result ≡ value_at arena.literals.items c.in-Open.place = c.literal_at-literal.ensures in
     simp to_z-of_z (rw is (arena.in_order.literal c.in-Open.place inside).0)
 
 pub settle-requires-clause-in_range : goal.settle-requires-clause-in_range
 settle-requires-clause-in_range c =
-    let literal_fits : SFits w64 c.index-literal.result.now = search rules in
+    let literal_fits : SFits w64 c.literal_at-literal.result = search rules in
     let arena = c.args.arena.now in
     let its = c.requires.woven.loose c.args.node (loose_has c.args.self.now.lists c.args.node c.requires.first) in
     let in_ends : c.args.node / 2 < length arena.ends.items = omega (arith, its.0, c.requires.woven.two_each) in
     let inside : c.in-Open.place < length arena.literals.items = omega (arith, c.in-Open.ensures.0.1, (arena.in_order.ordered (c.args.node / 2) in_ends).1) in
-    let is : c.index-literal.result.now ≡ value_at arena.literals.items c.in-Open.place = c.index-literal.ensures ∙ get_or_default arena.literals.items c.in-Open.place c.index-literal.result.now (pos 0) inside in
-    let literal : IsLiteral arena.variables c.index-literal.result.now = rw is (arena.in_order.literal c.in-Open.place inside) in
+    let is : c.literal_at-literal.result ≡ value_at arena.literals.items c.in-Open.place = c.literal_at-literal.ensures in
+    let literal : IsLiteral arena.variables c.literal_at-literal.result = rw is (arena.in_order.literal c.in-Open.place inside) in
     let list = simp to_z-of_z at c.list_of.ensures in
-    omega (arith, list, list_of-lt arena.variables c.index-literal.result.now literal, c.requires.woven.count)
+    omega (arith, list, list_of-lt arena.variables c.literal_at-literal.result literal, c.requires.woven.count)
 
 pub settle-requires-clause-some_loose : goal.settle-requires-clause-some_loose
 settle-requires-clause-some_loose c = omega (arith, ap length c.requires.first)
@@ -103,7 +102,7 @@ returns-in-True-clause-taken c =
 
 pub returns-in_ok-settle-in-Open-clause-taken : goal.returns-in_ok-settle-in-Open-clause-taken
 returns-in_ok-settle-in-Open-clause-taken c =
-    let literal_fits : SFits w64 c.index-literal.result.now = search rules in
+    let literal_fits : SFits w64 c.literal_at-literal.result = search rules in
     let arena = c.args.arena.now in
     let old = c.args.self.now.lists in
     let has = loose_has old c.args.node c.requires.first in
@@ -111,7 +110,7 @@ returns-in_ok-settle-in-Open-clause-taken c =
     let found = c.in-Open.ensures in
     let in_ends : c.args.node / 2 < length arena.ends.items = omega (arith, its.0, c.requires.woven.two_each) in
     let inside : c.in-Open.place < length arena.literals.items = omega (arith, found.0.1, (arena.in_order.ordered (c.args.node / 2) in_ends).1) in
-    let is : c.index-literal.result.now ≡ value_at arena.literals.items c.in-Open.place = c.index-literal.ensures ∙ get_or_default arena.literals.items c.in-Open.place c.index-literal.result.now (pos 0) inside in
+    let is : c.literal_at-literal.result ≡ value_at arena.literals.items c.in-Open.place = c.literal_at-literal.ensures in
     let list = (simp to_z-of_z at c.list_of.ensures) ∙ ap list_of is in
     let settled = c.in_ok-settle-in-Open.ensures.ok in
     λ _. IsTaken-moved _ _ _ _ _ old c.settle.new.self _ c.args.node c.in-Open.place c.requires.first (record { in_range = its.0; pair = its.1; in_clause = found.0; different = found.1 }) found.2 refl
@@ -132,12 +131,13 @@ returns-in-Forced-clause-taken c =
 
 pub returns-in_ok-settle-in-Open-clause-copied : goal.returns-in_ok-settle-in-Open-clause-copied
 returns-in_ok-settle-in-Open-clause-copied c =
-    let literal_fits : SFits w64 c.index-literal.result.now = search rules in
+    let literal_fits : SFits w64 c.literal_at-literal.result = search rules in
     let its = c.requires.woven.loose c.args.node (loose_has c.args.self.now.lists c.args.node c.requires.first) in
     let found = c.in-Open.ensures in
     let in_ends : c.args.node / 2 < length c.args.arena.now.ends.items = omega (arith, its.0, c.requires.woven.two_each) in
     let inside : c.in-Open.place < length c.args.arena.now.literals.items = omega (arith, found.0.1, (c.args.arena.now.in_order.ordered (c.args.node / 2) in_ends).1) in
-    simp to_z-of_z (IsCopied-move _ _ _ _ _ c.in-Open.place c.index-literal.result.now c.requires.copied (record { in_range = its.0; pair = its.1; in_clause = found.0; different = found.1 }) (c.index-literal.ensures ∙ get_or_default c.args.arena.now.literals.items c.in-Open.place c.index-literal.result.now (pos 0) inside))
+    let written : c.write_literal.new.literals.items ≡ set c.args.self.now.copies.items c.args.node c.literal_at-literal.result = simp to_z-of_z at c.write_literal.ensures in
+    rw written (IsCopied-move _ _ _ _ _ c.in-Open.place c.literal_at-literal.result c.requires.copied (record { in_range = its.0; pair = its.1; in_clause = found.0; different = found.1 }) (c.literal_at-literal.ensures))
 
 pub returns-in_ok-settle-in-Open-clause-forced : goal.returns-in_ok-settle-in-Open-clause-forced
 returns-in_ok-settle-in-Open-clause-forced c = forces_none _ _ _ _
