@@ -55,7 +55,7 @@ pub(crate) fn lasso_part(
     ensures { IfOk result (λ text. text ≡ trace_part part (trace_text labels.now lasso.now)) }
 {
     let trace = print_trace(alloc, labels, lasso)?;
-    let text = trace_part(alloc, part, &trace)?;
+    let text = trace_part(alloc, part, trace);
     let shown = Bytes::from_vec(text);
     Ok(shown)
 }

@@ -124,7 +124,7 @@ fn above_shown(
     let mut bounds = prepared.bounds;
     bounds.states = proof.states;
     let rows = table(alloc, &prepared.labels, &bounds)?;
-    let text = above_part(alloc, part, &trace, &rows, &proof.cnf, &proof.lines)?;
+    let text = above_part(alloc, part, trace, &rows, &proof.cnf, &proof.lines)?;
     let shown = Bytes::from_vec(text);
     Ok(shown)
 }

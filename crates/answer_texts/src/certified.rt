@@ -12,36 +12,28 @@ use sat_dimacs::{Cnf, Table, print_cnf};
 use sat_lrat::{LineList, print_lines};
 use std::alloc::{AllocError, Global};
 
-/// A copy of these bytes.
-fn copied(alloc: Global, bytes: &[u8]) -> Result<Vec<u8>, AllocError>
-    ensures { IfOk result (λ copy. copy.items ≡ bytes.now) }
-{
-    bytes.to_vec(alloc)
-}
-
 /// The part that is asked for of a trace with no clauses: the trace, or nothing.
-pub fn trace_part(alloc: Global, part: Part, trace: &[u8]) -> Result<Vec<u8>, AllocError>
-    ensures { IfOk result (λ text. text.items ≡ trace_part part trace.now) }
+pub fn trace_part(alloc: Global, part: Part, trace: Vec<u8>) -> Vec<u8>
+    ensures { result.items ≡ trace_part part trace.items }
 {
     match part {
-        Part::Answer | Part::All => copied(alloc, trace),
-        Part::Cnf | Part::Proof => Ok(Vec::new(alloc)),
+        Part::Answer | Part::All => trace,
+        Part::Cnf | Part::Proof => Vec::new(alloc),
     }
 }
 
 /// Text, then the clauses and the lines that refute them under headings.
 fn refuted_after(
-    alloc: Global,
-    text: &[u8],
+    mut text: Vec<u8>,
     table: &Table,
     cnf: &Cnf,
     lines: &LineList,
 ) -> Result<Vec<u8>, AllocError>
-    ensures { IfOk result (λ whole. whole.items ≡ text.now ++ block_text (codes "refutation\n") table.now cnf.now lines.now) }
+    ensures { IfOk result (λ whole. whole.items ≡ text.items
+        ++ block_text (codes "refutation\n") table.now cnf.now lines.now) }
 {
-    let mut out = copied(alloc, text)?;
-    push_block(alloc, &mut out, b"refutation\n", table, cnf, lines)?;
-    Ok(out)
+    push_block(&mut text, b"refutation\n", table, cnf, lines)?;
+    Ok(text)
 }
 
 /// The part that is asked for of a trace, where clauses say what a trace of one state less is, with the rows of the table
@@ -49,19 +41,19 @@ fn refuted_after(
 pub fn above_part(
     alloc: Global,
     part: Part,
-    trace: &[u8],
+    trace: Vec<u8>,
     table: &Table,
     cnf: &Cnf,
     lines: &LineList,
 ) -> Result<Vec<u8>, AllocError>
-    ensures { IfOk result (λ text. text.items ≡ above_part part trace.now table.now cnf.now
+    ensures { IfOk result (λ text. text.items ≡ above_part part trace.items table.now cnf.now
         lines.now) }
 {
     match part {
-        Part::Answer => copied(alloc, trace),
+        Part::Answer => Ok(trace),
         Part::Cnf => print_cnf(alloc, table, cnf),
         Part::Proof => print_lines(alloc, lines),
-        Part::All => refuted_after(alloc, trace, table, cnf, lines),
+        Part::All => refuted_after(trace, table, cnf, lines),
     }
 }
 
@@ -74,7 +66,7 @@ fn push_line(out: &mut Vec<u8>, fact: &FactName) -> Result<(), AllocError>
 }
 
 /// Writes lines that name facts.
-fn push_lines(out: &mut Vec<u8>, facts: &[FactName]) -> Result<(), AllocError>
+fn push_fact_lines(out: &mut Vec<u8>, facts: &[FactName]) -> Result<(), AllocError>
     ensures { OnOk result (out.new.items ≡ out.old.items ++ facts_lines facts.now) }
 {
     for fact in facts {
@@ -93,7 +85,7 @@ fn core_lines(alloc: Global, states: u32, facts: &[FactName]) -> Result<Vec<u8>,
     out.extend_from_slice(b" facts ")?;
     push_decimal(&mut out, facts.len() as u64)?;
     out.extend_from_slice(b"\n")?;
-    push_lines(&mut out, facts)?;
+    push_fact_lines(&mut out, facts)?;
     Ok(out)
 }
 
@@ -117,7 +109,7 @@ pub fn core_part(
         Part::Proof => print_lines(alloc, lines),
         Part::All => {
             let head = core_lines(alloc, states, facts)?;
-            refuted_after(alloc, &head, table, cnf, lines)
+            refuted_after(head, table, cnf, lines)
         }
     }
 }

@@ -5,8 +5,8 @@ ghost use Rattle.answer_texts.specs.Answers.{none_line, unknown_line, block_text
 
 use crate::write::push_decimal;
 use cli_words::Part;
-use sat_dimacs::{Cnf, Table, print_cnf};
-use sat_lrat::{LineList, print_lines};
+use sat_dimacs::{Cnf, Table, print_cnf, push_cnf};
+use sat_lrat::{LineList, print_lines, push_lines};
 use std::alloc::{AllocError, Global};
 
 /// Writes the line that there is no trace of so many states.
@@ -29,7 +29,6 @@ fn push_unknown(out: &mut Vec<u8>, conflicts: u64) -> Result<(), AllocError>
 
 /// Writes the clauses, the lines under this heading, and the last line.
 pub fn push_block(
-    alloc: Global,
     out: &mut Vec<u8>,
     heading: &[u8],
     table: &Table,
@@ -40,11 +39,9 @@ pub fn push_block(
         ++ block_text heading.now table.now cnf.now lines.now) }
 {
     out.extend_from_slice(b"clauses\n")?;
-    let clauses = print_cnf(alloc, table, cnf)?;
-    out.extend_from_slice(&clauses)?;
+    push_cnf(out, table, cnf)?;
     out.extend_from_slice(heading)?;
-    let proof = print_lines(alloc, lines)?;
-    out.extend_from_slice(&proof)?;
+    push_lines(out, lines)?;
     out.extend_from_slice(b"end\n")
 }
 
@@ -56,11 +53,12 @@ fn absent_whole(
     cnf: &Cnf,
     lines: &LineList,
 ) -> Result<Vec<u8>, AllocError>
-    ensures { IfOk result (λ text. text.items ≡ none_line states ++ block_text (codes "refutation\n") table.now cnf.now lines.now) }
+    ensures { IfOk result (λ text. text.items ≡ none_line states
+        ++ block_text (codes "refutation\n") table.now cnf.now lines.now) }
 {
     let mut out = Vec::new(alloc);
     push_none(&mut out, states)?;
-    push_block(alloc, &mut out, b"refutation\n", table, cnf, lines)?;
+    push_block(&mut out, b"refutation\n", table, cnf, lines)?;
     Ok(out)
 }
 
@@ -107,6 +105,6 @@ pub fn unknown_text(
 {
     let mut out = Vec::new(alloc);
     push_unknown(&mut out, conflicts)?;
-    push_block(alloc, &mut out, b"derivation\n", table, cnf, lines)?;
+    push_block(&mut out, b"derivation\n", table, cnf, lines)?;
     Ok(out)
 }

@@ -14,7 +14,7 @@ mod truth;
 
 pub use clause::{Clause, ClauseList};
 pub use cnf::Cnf;
-pub use print::print_cnf;
+pub use print::{print_cnf, push_cnf};
 pub use read::{CnfFault, read_cnf};
 pub use table::{Row, Table, has_feed};
 pub use truth::satisfies;

@@ -54,15 +54,23 @@ fn push_clauses(out: &mut Vec<u8>, clauses: &ClauseList) -> Result<(), AllocErro
     Ok(())
 }
 
-/// Writes clauses in the DIMACS CNF format: the table's rows as comments, the header, and each clause on a line of its
-/// own.
+/// Writes clauses in the DIMACS CNF format behind a text: the table's rows as comments, the header, and each clause on a
+/// line of its own.
+pub fn push_cnf(out: &mut Vec<u8>, table: &Table, cnf: &Cnf) -> Result<(), AllocError>
+    ensures { OnOk result (out.new.items ≡ out.old.items
+        ++ cnf_text table.now cnf.now.variables cnf.now.clauses) }
+{
+    push_rows(out, table)?;
+    push_header(out, cnf.variables, cnf.clauses.len())?;
+    push_clauses(out, &cnf.clauses)
+}
+
+/// The text of clauses in the DIMACS CNF format, as `push_cnf` writes it.
 pub fn print_cnf(alloc: Global, table: &Table, cnf: &Cnf) -> Result<Vec<u8>, AllocError>
     ensures { IfOk result (λ text. text.items ≡ cnf_text table.now cnf.now.variables
         cnf.now.clauses) }
 {
     let mut out = Vec::new(alloc);
-    push_rows(&mut out, table)?;
-    push_header(&mut out, cnf.variables, cnf.clauses.len())?;
-    push_clauses(&mut out, &cnf.clauses)?;
+    push_cnf(&mut out, table, cnf)?;
     Ok(out)
 }

@@ -23,7 +23,8 @@ pub fn step_is_sound()
     ensures follows { (formula : List (List ℤ)) (state : State) (line : Line) (next : State) →
         step state line ≡ Ok next → Follows formula state → Follows formula next }
     ensures refutes { (formula : List (List ℤ)) (state : State) (line : Line) (next : State) →
-        step state line ≡ Ok next → IsTrue (is_empty_lemma line) → Follows formula state → IsUnsatisfiable formula }
+        step state line ≡ Ok next → IsTrue (is_empty_lemma line) → Follows formula state →
+        IsUnsatisfiable formula }
 {}
 
 /// A law: no assignment satisfies a formula that a list of lines refutes.
@@ -42,5 +43,6 @@ pub fn numbers_are_read_again()
 pub fn lemmas_are_read_again()
     ensures { (cut : Bool) (id : ℕ) (hints : List ℕ) → AllByRecursion IsNumber hints →
         (literals : List ℤ) → AllByRecursion IsVariable literals →
-        lemma_after cut id [] (map signed_decimal literals ++ (48 ∷ []) ∷ number_words hints) ≡ Ok (Line.Lemma id literals hints) }
+        lemma_after cut id [] (map signed_decimal literals ++ (48 ∷ []) ∷ number_words hints)
+        ≡ Ok (Line.Lemma id literals hints) }
 {}

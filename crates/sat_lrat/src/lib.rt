@@ -19,7 +19,7 @@ pub use laws::{
 };
 pub use line::{Hints, Line, LineList, Proof, Rest};
 pub use outcome::Outcome;
-pub use print::print_lines;
+pub use print::{print_lines, push_lines};
 pub use read::{LratFault, ReadLine, read_line};
 
 /// The largest number of a clause in a text of lines, 2^63 - 1.

@@ -67,15 +67,23 @@ fn push_line(out: &mut Vec<u8>, last: u64, line: &Line) -> Result<u64, AllocErro
     }
 }
 
-/// Writes lines in the LRAT format, with single blanks. A line that deletes has the number of the last lemma before it,
-/// or 1.
+/// Writes lines in the LRAT format behind a text, with single blanks. A line that deletes has the number of the last lemma
+/// before it, or 1.
+pub fn push_lines(out: &mut Vec<u8>, lines: &LineList) -> Result<(), AllocError>
+    ensures { OnOk result (out.new.items ≡ out.old.items ++ lines_text 1 lines.now) }
+{
+    let mut last = 1;
+    for line in lines.lines() {
+        last = push_line(out, last, line)?;
+    }
+    Ok(())
+}
+
+/// The text of lines in the LRAT format, as `push_lines` writes it.
 pub fn print_lines(alloc: Global, lines: &LineList) -> Result<Vec<u8>, AllocError>
     ensures { IfOk result (λ text. text.items ≡ lines_text 1 lines.now) }
 {
     let mut out = Vec::new(alloc);
-    let mut last = 1;
-    for line in lines.lines() {
-        last = push_line(&mut out, last, line)?;
-    }
+    push_lines(&mut out, lines)?;
     Ok(out)
 }

@@ -1,4 +1,4 @@
 use Rattle.answer_certificates.proofs.certificate.lasso_part.Goals as goal
 
 pub returns : goal.returns
-returns c = cc (c.from_vec-shown.ensures, c.deref.ensures.value, c.in_ok-text.ensures, c.in_ok-trace.ensures)
+returns c = cc (c.from_vec-shown.ensures, c.trace_part-text.ensures, c.in_ok-trace.ensures)

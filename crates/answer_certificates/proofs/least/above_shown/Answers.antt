@@ -15,5 +15,5 @@ returns c budget fresh = record {
   refutes = c.requires.refutes;
   fresh = fresh;
   lined = c.in_ok-rows.ensures;
-  text_is = cc (c.from_vec-shown.ensures, c.deref.ensures.value, c.in_ok-text.ensures, c.in_ok-trace.ensures);
+  text_is = cc (c.from_vec-shown.ensures, c.in_ok-text.ensures, c.in_ok-trace.ensures);
 }
