@@ -7,7 +7,7 @@ use Rattle.core_meaning.specs.declared.scopes.Scopes.{Scopes}
 use Rattle.core_meaning.specs.Sequence.{LassoValue}
 use Rattle.core_meaning.specs.Meaning.{no_names}
 use Rattle.core_meaning.specs.Kept.{Keeps, atom_count}
-use Rattle.core_meaning.specs.Satisfied.{HoldsAt, DeclaresAt}
+use Rattle.core_meaning.specs.Satisfied.{HoldsAt, DeclaresAt, SatisfiesWith}
 use Rattle.bound_uppers.specs.declared.table.Bounds.{Bounds}
 use Rattle.bound_uppers.specs.Candidates.{IsCandidate, Agrees}
 use Rattle.bound_naming.specs.declared.neighbours.TheConstants.{NAMED_PAIRS}
@@ -55,3 +55,17 @@ pub record EncodesWith (model : Model) (scopes : Scopes) (given : List Fact) (co
 -- The clauses encode the model and the command: with all facts of the model.
 abbrev pub Encodes : Model → Scopes → Claim → Bounds → ℕ → List (List ℤ) → Type 0
 Encodes model scopes command = EncodesWith model scopes model.facts command
+
+-- each assignment that satisfies such clauses tells of a canonical lasso within the bounds that satisfies the model and the command
+abbrev pub EncodingsAreSound : Type 0
+EncodingsAreSound =
+    (model : Model) (scopes : Scopes) (facts : List Fact) (command : Claim) (bounds : Bounds) (variables : ℕ) (clauses : List (List ℤ))
+    (encodes : EncodesWith model scopes facts command bounds variables clauses) (values : List Bool) → IsSolution variables clauses values
+    → (lasso : LassoValue) × IsCandidate bounds lasso × Agrees bounds values lasso × IsCanonical bounds encodes.all lasso × SatisfiesWith model scopes lasso facts command
+
+-- each canonical lasso within the bounds that satisfies both has an assignment that satisfies them and tells of it
+abbrev pub EncodingsAreComplete : Type 0
+EncodingsAreComplete =
+    (model : Model) (scopes : Scopes) (facts : List Fact) (command : Claim) (bounds : Bounds) (variables : ℕ) (clauses : List (List ℤ))
+    (encodes : EncodesWith model scopes facts command bounds variables clauses) (lasso : LassoValue) → IsCandidate bounds lasso → IsCanonical bounds encodes.all lasso
+    → SatisfiesWith model scopes lasso facts command → (values : List Bool) × IsSolution variables clauses values × Agrees bounds values lasso

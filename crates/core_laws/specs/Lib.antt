@@ -1,3 +1,4 @@
+pub mod Integers
 pub mod Listed
 pub mod Sequences
 pub mod Typed

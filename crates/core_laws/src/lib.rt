@@ -5,24 +5,13 @@
 //! upper bounds where the declarations of a model hold.
 #![tactic(auto)]
 
-ghost use Rattle.std.specs.Prelude.{◌≡◌, ℕ, ℤ, List};
-ghost use Rattle.core_tree.specs.Trees.{Term};
-ghost use Rattle.core_tree.specs.declared.model.Body.{Body};
-ghost use Rattle.core_meaning.specs.World.{World};
-ghost use Rattle.core_meaning.specs.Operators.{IsCount, IsNumber};
-ghost use Rattle.core_meaning.specs.Meaning.{InTerm};
-ghost use Rattle.core_meaning.specs.Called.{bodies_of};
-ghost use Rattle.core_window.specs.Windows.{Binding, atom_names};
+ghost use Rattle.core_laws.specs.Integers.{CountsAreUnique, NumbersAreUnique};
 
 /// An expression has one number of tuples at a position, and stands for one integer there, in every
 /// environment that gives atoms to names.
 pub fn integers_are_unique()
-    ensures counts { (w : World) (list : List Body) (e : Term) (atoms : List Binding) (i : ℕ)
-        (n m : ℤ) → IsCount w (InTerm w (bodies_of w list) e (atom_names atoms) i) n →
-        IsCount w (InTerm w (bodies_of w list) e (atom_names atoms) i) m → n ≡ m }
-    ensures numbers { (w : World) (list : List Body) (e : Term) (atoms : List Binding) (i : ℕ)
-        (n m : ℤ) → IsNumber w (InTerm w (bodies_of w list) e (atom_names atoms) i) n →
-        IsNumber w (InTerm w (bodies_of w list) e (atom_names atoms) i) m → n ≡ m }
+    ensures counts { CountsAreUnique }
+    ensures numbers { NumbersAreUnique }
 {}
 
 ghost use Rattle.core_laws.specs.Sequences.{SameSatisfied};
