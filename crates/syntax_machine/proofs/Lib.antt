@@ -1,0 +1,9 @@
+mod Lives
+mod Fits
+mod Forms
+mod Rows
+mod Lists
+mod Operators
+mod Variables
+mod Law
+mod Modules

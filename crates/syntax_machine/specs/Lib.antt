@@ -1,0 +1,4 @@
+pub mod Machine
+pub mod Modules
+pub mod Threads
+pub mod Law
