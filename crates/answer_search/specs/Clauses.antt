@@ -45,10 +45,9 @@ MeetsCovered target lasso = KeepsNumbers target.scopes lasso × All (λ f. IsCov
 abbrev pub MeetsWithin : Target → Bounds → LassoValue → Type 0
 MeetsWithin target bounds lasso = IsCandidate bounds lasso × MeetsCovered target lasso
 
--- Of the lassos that differ only in what atoms are called the clauses keep a canonical one. These are its pairs: for each two
--- atoms that the bounds don't tell apart, of the variables that their exchange pairs the first so many.
---
--- What clauses over a table of variables say of a target within bounds.
+-- What clauses over a table of variables say of a target within bounds. Of the lassos that differ only in what atoms are called
+-- they keep a canonical one: `all` has, for each two atoms that the bounds don't tell apart, the first so many of the variables
+-- that their exchange pairs.
 pub record SayTarget (target : Target) (bounds : Bounds) (clauses : List (List ℤ)) : Type 0 where
   pub table : Layout
   pub all : List (List Pair)

@@ -11,7 +11,8 @@ use std::alloc::{AllocError, Global};
 
 /// Writes an arrow and an atom.
 fn push_next(out: &mut Vec<u8>, atoms: &TextList, number: u32) -> Result<(), AllocError>
-    ensures { OnOk result (out.new.items ≡ out.old.items ++ codes "->" ++ atom_text atoms.now number) }
+    ensures { OnOk result (out.new.items ≡ out.old.items ++ codes "->"
+        ++ atom_text atoms.now number) }
 {
     out.extend_from_slice(b"->")?;
     push_atom(out, atoms, number)
@@ -44,7 +45,8 @@ pub fn push_tuple(out: &mut Vec<u8>, atoms: &TextList, tuple: &[u32]) -> Result<
 
 /// Writes a comma, a blank and a tuple.
 fn push_next_tuple(out: &mut Vec<u8>, atoms: &TextList, tuple: &[u32]) -> Result<(), AllocError>
-    ensures { OnOk result (out.new.items ≡ out.old.items ++ codes ", " ++ tuple_text atoms.now tuple.now) }
+    ensures { OnOk result (out.new.items ≡ out.old.items ++ codes ", "
+        ++ tuple_text atoms.now tuple.now) }
 {
     out.extend_from_slice(b", ")?;
     push_tuple(out, atoms, tuple)
@@ -52,7 +54,8 @@ fn push_next_tuple(out: &mut Vec<u8>, atoms: &TextList, tuple: &[u32]) -> Result
 
 /// Writes a blank and a tuple.
 fn push_first_tuple(out: &mut Vec<u8>, atoms: &TextList, tuple: &[u32]) -> Result<(), AllocError>
-    ensures { OnOk result (out.new.items ≡ out.old.items ++ codes " " ++ tuple_text atoms.now tuple.now) }
+    ensures { OnOk result (out.new.items ≡ out.old.items ++ codes " "
+        ++ tuple_text atoms.now tuple.now) }
 {
     out.extend_from_slice(b" ")?;
     push_tuple(out, atoms, tuple)
@@ -64,7 +67,8 @@ fn push_further_tuples(
     atoms: &TextList,
     tuples: &[Keyed],
 ) -> Result<(), AllocError>
-    ensures { OnOk result (out.new.items ≡ out.old.items ++ flat_map (λ u. codes ", " ++ tuple_text atoms.now u) tuples.now) }
+    ensures { OnOk result (out.new.items ≡ out.old.items ++ flat_map (λ u.
+        codes ", " ++ tuple_text atoms.now u) tuples.now) }
 {
     for tuple in tuples {
         push_next_tuple(out, atoms, tuple.numbers())?;

@@ -192,7 +192,8 @@ fn add_roots<G: Gates>(
         slice_get roots.new k ≡ Some n) }
     ensures says { OnOk result (AreChoices (G.node_value gates.old) bounds.now.states
         table.now.loops choices.now
-        → (k : ℕ) (f : FormulaTree) (n : CircuitNode) → slice_get target.now.formulas k ≡ Some f → slice_get roots.new (length roots.old + k) ≡ Some n
+        → (k : ℕ) (f : FormulaTree) (n : CircuitNode) → slice_get target.now.formulas k ≡ Some f →
+        slice_get roots.new (length roots.old + k) ≡ Some n
         → SaysRoot (G.node_value gates.new) bounds.now table.now target.now.scopes f n) }
 {
     let formulas = target.formulas.as_slice();

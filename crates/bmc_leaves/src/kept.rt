@@ -50,7 +50,8 @@ fn marked_sets<G: Gates>(
     ensures kept { IfOk result (λ v. (depth : ℕ) (leaf : Leaf) →
         IsReading (reading_of setting.now depth) →
         IsLeafAt setting.now.bounds.now.relations leaf number
-        → (v.items ≡ []) ⊎ AreOf (reading_of setting.now depth) (G.node_value gates.new) store.new.matrices.items leaf v.items) }
+        → (v.items ≡ []) ⊎ AreOf (reading_of setting.now depth) (G.node_value gates.new)
+        store.new.matrices.items leaf v.items) }
 {
     if !is_marked {
         return Ok(Vec::new(alloc));

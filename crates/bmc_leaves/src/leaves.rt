@@ -37,7 +37,8 @@ pub fn no_set<G: Gates>(
     ensures grows { OnOk result (Grows store.old store.new) }
     ensures right { IfOk result (λ numbers. (depth : ℕ) (atoms : Atoms) →
         IsReading (reading_of setting.now depth)
-        → AreRight (under (reading_of setting.now depth) atoms) (G.node_value gates.now) store.new.matrices.items nothing numbers.items) }
+        → AreRight (under (reading_of setting.now depth) atoms) (G.node_value gates.now)
+        store.new.matrices.items nothing numbers.items) }
 {
     let matrix = Matrix::empty(alloc, 1);
     let count = setting.frame.shown.len();
@@ -200,7 +201,8 @@ pub fn name_sets<G: Gates>(
     ensures grows { OnOk result (Grows store.old store.new) }
     ensures right { IfOk result (λ numbers. (depth : ℕ) (atoms : Atoms) (x : ℕ) →
         IsReading (reading_of setting.now depth) → atom ≡ atom_in atoms x
-        → AreRight (under (reading_of setting.now depth) atoms) (G.node_value gates.now) store.new.matrices.items (named x) numbers.items) }
+        → AreRight (under (reading_of setting.now depth) atoms) (G.node_value gates.now)
+        store.new.matrices.items (named x) numbers.items) }
 {
     let matrix = atom_matrix(alloc, gates, atom)?;
     let count = setting.frame.shown.len();
@@ -305,8 +307,12 @@ fn with_sig<G: Gates>(
     ensures stored { OnOk result (AreStored (G.belongs gates.new) store.new) }
     ensures grows { OnOk result (Grows store.old store.new) }
     ensures more { IfOk result (λ row. (depth : ℕ) → IsReading (reading_of setting.now depth)
-        → HaveTuples (reading_of setting.now depth) (G.node_value gates.old) store.old.matrices.items (λ lasso k. univ_below (world_of setting.now.scopes.now lasso) number k) all.now
-        → HaveTuples (reading_of setting.now depth) (G.node_value gates.new) store.new.matrices.items (λ lasso k. univ_below (world_of setting.now.scopes.now lasso) (number + 1) k) row.items) }
+        → HaveTuples (reading_of setting.now depth) (G.node_value gates.old)
+        store.old.matrices.items (λ lasso k. univ_below (world_of setting.now.scopes.now lasso)
+        number k) all.now
+        → HaveTuples (reading_of setting.now depth) (G.node_value gates.new)
+        store.new.matrices.items (λ lasso k. univ_below (world_of setting.now.scopes.now lasso)
+        (number + 1) k) row.items) }
 {
     let more = sig_sets(alloc, gates, store, setting, number)?;
     let union = Operator::OfSets(SetOperator::Combine(RelationOp::Union));
@@ -329,8 +335,12 @@ fn with_top<G: Gates>(
     ensures stored { OnOk result (AreStored (G.belongs gates.new) store.new) }
     ensures grows { OnOk result (Grows store.old store.new) }
     ensures more { IfOk result (λ row. (depth : ℕ) → IsReading (reading_of setting.now depth)
-        → HaveTuples (reading_of setting.now depth) (G.node_value gates.old) store.old.matrices.items (λ lasso k. univ_below (world_of setting.now.scopes.now lasso) number k) all.items
-        → HaveTuples (reading_of setting.now depth) (G.node_value gates.new) store.new.matrices.items (λ lasso k. univ_below (world_of setting.now.scopes.now lasso) (number + 1) k) row.items) }
+        → HaveTuples (reading_of setting.now depth) (G.node_value gates.old)
+        store.old.matrices.items (λ lasso k. univ_below (world_of setting.now.scopes.now lasso)
+        number k) all.items
+        → HaveTuples (reading_of setting.now depth) (G.node_value gates.new)
+        store.new.matrices.items (λ lasso k. univ_below (world_of setting.now.scopes.now lasso)
+        (number + 1) k) row.items) }
 {
     let numbers = setting.scopes.numbers.as_slice();
     if !is_top(numbers, number) {

@@ -217,7 +217,8 @@ fn number_kept<G: Gates>(
     ensures belongs { IfOk result (λ n. G.belongs gates.new n) }
     ensures kept { IfOk result (λ n. (x : ℕ → Bool) (w : World) (scope : ScopeOfSig) →
         Decodes bounds.now layout.now x w.lasso
-        → scope.number ≡ Some number → scope.exact ≡ exact → (G.node_value gates.new x n ≡ true) ↔ KeepsNumber w sig scope) }
+        → scope.number ≡ Some number → scope.exact ≡ exact → (G.node_value gates.new x n ≡ true)
+        ↔ KeepsNumber w sig scope) }
 {
     let relations = bounds.relations.as_slice();
     let cells = layout.relations.as_slice();

@@ -28,7 +28,8 @@ fn push_some<G: Gates>(
     ensures beside { OnOk result (AreBeside store.old store.new) }
     ensures right { OnOk result ((r : Reading) (a : Term) →
         AreRight r (G.node_value gates.old) store.old.matrices.items a set.now
-        → HasTop store.old.rows.items store.new.rows.items (IsRight r (G.node_value gates.new) (asks_for Quantity.Some a))) }
+        → HasTop store.old.rows.items store.new.rows.items
+        (IsRight r (G.node_value gates.new) (asks_for Quantity.Some a))) }
 {
     let question = TestOperator::OfSets(Question::Some);
     asked(alloc, gates, store, question, set, set)?;
@@ -48,7 +49,8 @@ fn push_lone<G: Gates>(
     ensures beside { OnOk result (AreBeside store.old store.new) }
     ensures right { OnOk result ((r : Reading) (a : Term) →
         AreRight r (G.node_value gates.old) store.old.matrices.items a set.now
-        → HasTop store.old.rows.items store.new.rows.items (IsRight r (G.node_value gates.new) (asks_for Quantity.Lone a))) }
+        → HasTop store.old.rows.items store.new.rows.items
+        (IsRight r (G.node_value gates.new) (asks_for Quantity.Lone a))) }
 {
     let question = TestOperator::OfSets(Question::Lone);
     asked(alloc, gates, store, question, set, set)?;
@@ -68,7 +70,8 @@ fn push_one<G: Gates>(
     ensures beside { OnOk result (AreBeside store.old store.new) }
     ensures right { OnOk result ((r : Reading) (a : Term) →
         AreRight r (G.node_value gates.old) store.old.matrices.items a set.now
-        → HasTop store.old.rows.items store.new.rows.items (IsRight r (G.node_value gates.new) (asks_for Quantity.One a))) }
+        → HasTop store.old.rows.items store.new.rows.items
+        (IsRight r (G.node_value gates.new) (asks_for Quantity.One a))) }
 {
     push_some(alloc, gates, store, set)?;
     push_lone(alloc, gates, store, set)?;
@@ -89,7 +92,8 @@ fn push_no<G: Gates>(
     ensures beside { OnOk result (AreBeside store.old store.new) }
     ensures right { OnOk result ((r : Reading) (a : Term) →
         AreRight r (G.node_value gates.old) store.old.matrices.items a set.now
-        → HasTop store.old.rows.items store.new.rows.items (IsRight r (G.node_value gates.new) (asks_for Quantity.No a))) }
+        → HasTop store.old.rows.items store.new.rows.items
+        (IsRight r (G.node_value gates.new) (asks_for Quantity.No a))) }
 {
     push_some(alloc, gates, store, set)?;
     negate_top(alloc, gates, store)?;
@@ -110,7 +114,8 @@ pub fn push_tested<G: Gates>(
     ensures beside { OnOk result (AreBeside store.old store.new) }
     ensures right { OnOk result ((r : Reading) (a : Term) →
         AreRight r (G.node_value gates.old) store.old.matrices.items a set.now
-        → HasTop store.old.rows.items store.new.rows.items (IsRight r (G.node_value gates.new) (asks_for quantity a))) }
+        → HasTop store.old.rows.items store.new.rows.items
+        (IsRight r (G.node_value gates.new) (asks_for quantity a))) }
 {
     match quantity {
         Quantity::Some => {
@@ -168,7 +173,8 @@ pub fn push_inside<G: Gates>(
     ensures right { OnOk result ((r : Reading) (e f : Term) →
         AreRight r (G.node_value gates.old) store.old.matrices.items e a.now →
         AreRight r (G.node_value gates.old) store.old.matrices.items f b.now
-        → HasTop store.old.rows.items store.new.rows.items (IsRight r (G.node_value gates.new) (lies_in e f))) }
+        → HasTop store.old.rows.items store.new.rows.items
+        (IsRight r (G.node_value gates.new) (lies_in e f))) }
 {
     let question = TestOperator::OfSets(Question::Inside);
     asked(alloc, gates, store, question, a, b)?;
@@ -190,7 +196,8 @@ pub fn push_equal<G: Gates>(
     ensures right { OnOk result ((r : Reading) (e f : Term) →
         AreRight r (G.node_value gates.old) store.old.matrices.items e a.now →
         AreRight r (G.node_value gates.old) store.old.matrices.items f b.now
-        → HasTop store.old.rows.items store.new.rows.items (IsRight r (G.node_value gates.new) (equals e f))) }
+        → HasTop store.old.rows.items store.new.rows.items
+        (IsRight r (G.node_value gates.new) (equals e f))) }
 {
     push_inside(alloc, gates, store, a, b)?;
     push_inside(alloc, gates, store, b, a)?;
@@ -214,7 +221,8 @@ fn push_lying<G: Gates>(
     ensures right { OnOk result ((r : Reading) (e f : Term) →
         AreRight r (G.node_value gates.old) store.old.matrices.items e a.now →
         AreRight r (G.node_value gates.old) store.old.matrices.items f b.now
-        → HasTop store.old.rows.items store.new.rows.items (SaysBoth r (G.node_value gates.new) (lies_in e f) (asks_for quantity e))) }
+        → HasTop store.old.rows.items store.new.rows.items
+        (SaysBoth r (G.node_value gates.new) (lies_in e f) (asks_for quantity e))) }
 {
     push_inside(alloc, gates, store, a, b)?;
     push_tested(alloc, gates, store, quantity, a)?;
@@ -239,7 +247,8 @@ pub fn push_within<G: Gates>(
     ensures right { OnOk result ((r : Reading) (e f : Term) → AsksNothing f →
         AreRight r (G.node_value gates.old) store.old.matrices.items e a.now →
         AreRight r (G.node_value gates.old) store.old.matrices.items f b.now
-        → HasTop store.old.rows.items store.new.rows.items (IsRight r (G.node_value gates.new) (within e word f))) }
+        → HasTop store.old.rows.items store.new.rows.items
+        (IsRight r (G.node_value gates.new) (within e word f))) }
 {
     match word {
         Multiplicity::Set => {

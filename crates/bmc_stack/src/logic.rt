@@ -28,7 +28,8 @@ pub fn push_implied<G: Gates>(
     ensures beside { OnOk result (AreBeside store.old store.new) }
     ensures rows { OnOk result ((f g : List CircuitNode) →
         slice_get store.old.rows.items row ≡ Some f → slice_get store.old.rows.items other ≡ Some g
-        → HasTop store.old.rows.items store.new.rows.items (IsImplied (G.node_value gates.old) (G.node_value gates.new) f g count)) }
+        → HasTop store.old.rows.items store.new.rows.items
+        (IsImplied (G.node_value gates.old) (G.node_value gates.new) f g count)) }
 {
     push_copy(alloc, gates, store, row, count)?;
     push_copy(alloc, gates, store, other, count)?;
@@ -51,7 +52,8 @@ pub fn same_top<G: Gates>(
     ensures beside { OnOk result (AreBeside store.old store.new) }
     ensures rows { OnOk result ((rest : List (List CircuitNode)) (f g : List CircuitNode) →
         store.old.rows.items ≡ rest ++ f ∷ g ∷ []
-        → HasTop rest store.new.rows.items (AreSame (G.node_value gates.old) (G.node_value gates.new) f g count)) }
+        → HasTop rest store.new.rows.items (AreSame (G.node_value gates.old)
+        (G.node_value gates.new) f g count)) }
 {
     let second = store.top();
     let first = second.saturating_sub(1);
@@ -76,7 +78,8 @@ pub fn choose_top<G: Gates>(
     ensures beside { OnOk result (AreBeside store.old store.new) }
     ensures rows { OnOk result ((rest : List (List CircuitNode)) (f g h : List CircuitNode) →
         store.old.rows.items ≡ rest ++ f ∷ g ∷ h ∷ []
-        → HasTop rest store.new.rows.items (IsChoice (G.node_value gates.old) (G.node_value gates.new) f g h count)) }
+        → HasTop rest store.new.rows.items (IsChoice (G.node_value gates.old)
+        (G.node_value gates.new) f g h count)) }
 {
     let third = store.top();
     let second = third.saturating_sub(1);
@@ -110,7 +113,8 @@ pub fn held_where_top<G: Gates>(
     ensures beside { OnOk result (AreBeside store.old store.new) }
     ensures rows { OnOk result ((rest : List (List CircuitNode)) (f g h : List CircuitNode) →
         store.old.rows.items ≡ rest ++ f ∷ g ∷ [] → slice_get rest row ≡ Some h
-        → HasTop rest store.new.rows.items (IsHeldWhere (G.node_value gates.old) (G.node_value gates.new) f g h (number * count))) }
+        → HasTop rest store.new.rows.items (IsHeldWhere (G.node_value gates.old)
+        (G.node_value gates.new) f g h (number * count))) }
 {
     negate_top(alloc, gates, store)?;
     push_part(alloc, gates, store, row, number, count)?;
@@ -136,7 +140,8 @@ pub fn push_both<G: Gates>(
     ensures beside { OnOk result (AreBeside store.old store.new) }
     ensures rows { OnOk result ((f g : List CircuitNode) →
         slice_get store.old.rows.items there ≡ Some f → slice_get store.old.rows.items row ≡ Some g
-        → HasTop store.old.rows.items store.new.rows.items (IsBothPart (G.node_value gates.old) (G.node_value gates.new) f g (number * count) count)) }
+        → HasTop store.old.rows.items store.new.rows.items
+        (IsBothPart (G.node_value gates.old) (G.node_value gates.new) f g (number * count) count)) }
 {
     push_copy(alloc, gates, store, there, count)?;
     push_part(alloc, gates, store, row, number, count)?;

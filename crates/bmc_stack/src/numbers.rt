@@ -59,7 +59,9 @@ fn set_of_sets<G: Gates>(
     ensures means { IfOk result (λ m. (p q : MatrixEntries) →
         slice_get store.now.matrices.items a ≡ Some p →
         slice_get store.now.matrices.items b ≡ Some q
-        → (x : ℕ → Bool) → MeansSet (G.node_value gates.new x) m (tuples_made op (set_of (G.node_value gates.old x) p) (set_of (G.node_value gates.old x) q))) }
+        → (x : ℕ → Bool) → MeansSet (G.node_value gates.new x) m
+        (tuples_made op (set_of (G.node_value gates.old x) p)
+        (set_of (G.node_value gates.old x) q))) }
 {
     if a >= store.matrices.len() || b >= store.matrices.len() {
         return Ok(Matrix::empty(alloc, 1));
@@ -156,7 +158,9 @@ fn add_set<G: Gates>(
         slice_get store.old.matrices.items pair.0 ≡ Some p →
         slice_get store.old.matrices.items pair.1 ≡ Some q
         → (m : MatrixEntries) × (slice_get store.new.matrices.items k ≡ Some m)
-        × ((x : ℕ → Bool) → MeansSet (G.node_value gates.new x) m (tuples_made op (set_of (G.node_value gates.old x) p) (set_of (G.node_value gates.old x) q)))) }
+        × ((x : ℕ → Bool) → MeansSet (G.node_value gates.new x) m
+        (tuples_made op (set_of (G.node_value gates.old x) p)
+        (set_of (G.node_value gates.old x) q)))) }
 {
     let new = set_of_sets(alloc, gates, store, op, pair.0, pair.1)?;
     let number = add_matrix(gates, store, new)?;
@@ -218,7 +222,9 @@ fn ask_sets<G: Gates>(
     ensures means { IfOk result (λ n. (p q : MatrixEntries) →
         slice_get store.now.matrices.items a ≡ Some p →
         slice_get store.now.matrices.items b ≡ Some q
-        → (x : ℕ → Bool) → (G.node_value gates.new x n ≡ true) ↔ IsAnswered question (set_of (G.node_value gates.old x) p) (set_of (G.node_value gates.old x) q)) }
+        → (x : ℕ → Bool) → (G.node_value gates.new x n ≡ true)
+        ↔ IsAnswered question (set_of (G.node_value gates.old x) p)
+        (set_of (G.node_value gates.old x) q)) }
 {
     if a >= store.matrices.len() || b >= store.matrices.len() {
         return Ok(gates.constant(false));
@@ -287,7 +293,8 @@ pub fn ask_at<G: Gates>(
     ensures beside { OnOk result (AreBeside store.old store.new) }
     ensures rows { OnOk result ((rest : List (List CircuitNode)) (f : List CircuitNode) →
         store.old.rows.items ≡ rest ++ f ∷ []
-        → HasTop rest store.new.rows.items (AddsAnswer question (G.node_value gates.old) (G.node_value gates.new) store.old.matrices.items pair f)) }
+        → HasTop rest store.new.rows.items (AddsAnswer question (G.node_value gates.old)
+        (G.node_value gates.new) store.old.matrices.items pair f)) }
 {
     let node = ask_pair(alloc, gates, store, question, pair)?;
     extend_top(alloc, gates, store, node)?;

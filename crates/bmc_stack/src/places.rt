@@ -102,7 +102,8 @@ pub fn combined<G: Gates>(
     ensures stored { OnOk result (AreStored (G.belongs gates.new) store.new) }
     ensures grows { OnOk result (Grows store.old store.new) }
     ensures sets { IfOk result (λ row. (of : OperatorOfSets) → op ≡ OfSets of
-        → AreMade of (G.node_value gates.old) (G.node_value gates.new) store.old.matrices.items store.new.matrices.items a.now b.now row.items) }
+        → AreMade of (G.node_value gates.old) (G.node_value gates.new) store.old.matrices.items
+        store.new.matrices.items a.now b.now row.items) }
 {
     let pairs = pairs_of(alloc, a, b)?;
     let numbers = made_of(alloc, gates, store, universe, op, &pairs.pairs)?;
@@ -124,7 +125,8 @@ fn answers_of<G: Gates>(
     ensures beside { OnOk result (AreBeside store.old store.new) }
     ensures rows { OnOk result ((rest : List (List CircuitNode)) →
         store.old.rows.items ≡ rest ++ [] ∷ []
-        → HasTop rest store.new.rows.items (AllAnswered question (G.node_value gates.old) (G.node_value gates.new) store.old.matrices.items pairs.now)) }
+        → HasTop rest store.new.rows.items (AllAnswered question (G.node_value gates.old)
+        (G.node_value gates.new) store.old.matrices.items pairs.now)) }
 {
     for place in 0..pairs.len() {
         let pair = pair_at(pairs, place);
@@ -147,7 +149,9 @@ pub fn asked<G: Gates>(
     ensures stored { OnOk result (AreStored (G.belongs gates.new) store.new) }
     ensures beside { OnOk result (AreBeside store.old store.new) }
     ensures sets { OnOk result ((of : QuestionOfSets) → question ≡ AskSets of
-        → HasTop store.old.rows.items store.new.rows.items (AreAnswered of (G.node_value gates.old) (G.node_value gates.new) store.old.matrices.items a.now b.now)) }
+        → HasTop store.old.rows.items store.new.rows.items
+        (AreAnswered of (G.node_value gates.old) (G.node_value gates.new) store.old.matrices.items
+        a.now b.now)) }
 {
     let pairs = pairs_of(alloc, a, b)?;
     push_constant(alloc, gates, store, 0, false)?;

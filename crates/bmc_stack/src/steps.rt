@@ -55,7 +55,8 @@ pub fn both_top<G: Gates>(alloc: Global, gates: &mut G, store: &mut Store) -> Re
     ensures beside { OnOk result (AreBeside store.old store.new) }
     ensures rows { OnOk result ((rest : List (List CircuitNode)) (f g : List CircuitNode) →
         store.old.rows.items ≡ rest ++ f ∷ g ∷ []
-        → HasTop rest store.new.rows.items (AreBoth (G.node_value gates.old) (G.node_value gates.new) f g)) }
+        → HasTop rest store.new.rows.items (AreBoth (G.node_value gates.old)
+        (G.node_value gates.new) f g)) }
 {
     let second = pop_row(alloc, gates, store);
     let first = pop_row(alloc, gates, store);
@@ -76,7 +77,8 @@ pub fn after_top<G: Gates>(
     ensures beside { OnOk result (AreBeside store.old store.new) }
     ensures rows { OnOk result ((rest : List (List CircuitNode)) (f : List CircuitNode) →
         store.old.rows.items ≡ rest ++ f ∷ []
-        → HasTop rest store.new.rows.items (IsSpread (G.node_value gates.now) f frame.now.next.items)) }
+        → HasTop rest store.new.rows.items (IsSpread (G.node_value gates.now) f
+        frame.now.next.items)) }
 {
     let row = pop_row(alloc, gates, store);
     let new = spread(alloc, gates, &row, &frame.next)?;
@@ -97,8 +99,10 @@ pub fn moving_top<G: Gates>(
     ensures stored { OnOk result (AreStored (G.belongs gates.new) store.new) }
     ensures beside { OnOk result (AreBeside store.old store.new) }
     ensures rows { OnOk result ((states rounds : ℕ) → IsFrame states rounds frame.now
-        → (rest : List (List CircuitNode)) (f g : List CircuitNode) → store.old.rows.items ≡ rest ++ f ∷ g ∷ []
-        → HasTop rest store.new.rows.items (IsAlong op (G.node_value gates.old) (G.node_value gates.new) frame.now f g)) }
+        → (rest : List (List CircuitNode)) (f g : List CircuitNode) →
+        store.old.rows.items ≡ rest ++ f ∷ g ∷ []
+        → HasTop rest store.new.rows.items (IsAlong op (G.node_value gates.old)
+        (G.node_value gates.new) frame.now f g)) }
 {
     let second = pop_row(alloc, gates, store);
     let first = pop_row(alloc, gates, store);
@@ -141,7 +145,8 @@ pub fn push_part<G: Gates>(
     requires { AreStored (G.belongs gates.now) store.old }
     ensures stored { OnOk result (AreStored (G.belongs gates.now) store.new) }
     ensures pushed { OnOk result ((new : List CircuitNode) × IsPushed store.old store.new new
-        × ((f : List CircuitNode) → slice_get store.old.rows.items row ≡ Some f → IsPart (G.node_value gates.now) f (number * count) count new)) }
+        × ((f : List CircuitNode) → slice_get store.old.rows.items row ≡ Some f →
+        IsPart (G.node_value gates.now) f (number * count) count new)) }
 {
     let from = place_times(number, count)?;
     if usize::MAX - from < count {
@@ -173,7 +178,8 @@ pub fn push_copy<G: Gates>(
     requires { AreStored (G.belongs gates.now) store.old }
     ensures stored { OnOk result (AreStored (G.belongs gates.now) store.new) }
     ensures pushed { OnOk result ((new : List CircuitNode) × IsPushed store.old store.new new
-        × ((f : List CircuitNode) → slice_get store.old.rows.items row ≡ Some f → IsPart (G.node_value gates.now) f 0 count new)) }
+        × ((f : List CircuitNode) → slice_get store.old.rows.items row ≡ Some f →
+        IsPart (G.node_value gates.now) f 0 count new)) }
 {
     let new = part_at(alloc, gates, store, row, 0, count)?;
     push_row(gates, store, new)?;

@@ -558,7 +558,8 @@ pub fn push_formula<G: Gates>(
     ensures stored { OnOk result (AreStored (G.belongs gates.new) store.new) }
     ensures right { OnOk result ((depth : ℕ) → IsReading (reading_of setting.now depth) →
         IsRead depth (claim_of formula.now) → store.old.rows.items ≡ []
-        → HasTop [] store.new.rows.items (IsRight (reading_of setting.now depth) (G.node_value gates.new) (claim_of formula.now))) }
+        → HasTop [] store.new.rows.items (IsRight (reading_of setting.now depth)
+        (G.node_value gates.new) (claim_of formula.now))) }
 {
     let kept = kept_of(alloc, gates, store, setting, formula)?;
     let mut plan = new_plan(alloc, kept);

@@ -69,7 +69,8 @@ fn add_row(
     requires long { All (λ t. skip ≤ length t) row.now }
     requires fits { All (λ t. FitsIndex (head.now ++ drop skip t)) row.now }
     ensures columns { OnOk result ((k : ℕ) → All (λ t. length t ≡ k) all.old.items
-        → All (λ t. length head.now + (length t - skip) ≡ k) row.now → All (λ t. length t ≡ k) all.new.items) }
+        → All (λ t. length head.now + (length t - skip) ≡ k) row.now →
+        All (λ t. length t ≡ k) all.new.items) }
     ensures numbers { OnOk result (All (λ t. All IsNumber t) all.old.items →
         All (λ t. All IsNumber t) all.new.items) }
     ensures tests { OnOk result ((p : List ℕ → Bool) → list_any p all.new.items

@@ -65,12 +65,15 @@ pub fn window_law()
     ensures formulas { (w : World) (list : List Body) (f : Claim) (atoms : List Binding) (h i : ℕ) →
         HasLoop w.lasso → past_of (body_depths list) f (atom_depths atoms) ≤ h → h < uncounted →
         IsFar w.lasso h i →
-        Holds w (bodies_of w list) f (atom_names atoms) i ↔ Holds w (bodies_of w list) f (atom_names atoms) (i + period w.lasso) }
+        Holds w (bodies_of w list) f (atom_names atoms) i
+        ↔ Holds w (bodies_of w list) f (atom_names atoms) (i + period w.lasso) }
     ensures terms { (w : World) (list : List Body) (e : Term) (atoms : List Binding) (h i : ℕ)
         (t : List ℕ) → HasLoop w.lasso → past_in (body_depths list) e (atom_depths atoms) ≤ h →
         h < uncounted → IsFar w.lasso h i →
-        InTerm w (bodies_of w list) e (atom_names atoms) i t ↔ InTerm w (bodies_of w list) e (atom_names atoms) (i + period w.lasso) t }
+        InTerm w (bodies_of w list) e (atom_names atoms) i t
+        ↔ InTerm w (bodies_of w list) e (atom_names atoms) (i + period w.lasso) t }
     ensures folded { (w : World) (list : List Body) (f : Claim) (atoms : List Binding) (h i : ℕ) →
         HasLoop w.lasso → past_of (body_depths list) f (atom_depths atoms) ≤ h → h < uncounted →
-        Holds w (bodies_of w list) f (atom_names atoms) (fold_of w.lasso h i) ↔ Holds w (bodies_of w list) f (atom_names atoms) i }
+        Holds w (bodies_of w list) f (atom_names atoms) (fold_of w.lasso h i)
+        ↔ Holds w (bodies_of w list) f (atom_names atoms) i }
 {}

@@ -21,7 +21,8 @@ fn sum_of<G: Gates>(alloc: Global, gates: &mut G, a: &Bits, b: &Bits) -> Result<
     ensures belongs { IfOk result (λ s. AllIn (G.belongs gates.new) s) }
     ensures width { IfOk result (λ s. length s ≡ length a.now) }
     ensures value { IfOk result (λ s. (x : ℕ → Bool) → signed (G.node_value gates.new x) s
-        ≡ wrap (length a.now) (result_of Add (signed (G.node_value gates.old x) a.now) (signed (G.node_value gates.old x) b.now))) }
+        ≡ wrap (length a.now) (result_of Add (signed (G.node_value gates.old x) a.now)
+        (signed (G.node_value gates.old x) b.now))) }
 {
     let made = gate_integers::add(alloc, gates, a, b)?;
     Ok(made)
@@ -42,7 +43,8 @@ fn difference_of<G: Gates>(
     ensures belongs { IfOk result (λ s. AllIn (G.belongs gates.new) s) }
     ensures width { IfOk result (λ s. length s ≡ length a.now) }
     ensures value { IfOk result (λ s. (x : ℕ → Bool) → signed (G.node_value gates.new x) s
-        ≡ wrap (length a.now) (result_of Sub (signed (G.node_value gates.old x) a.now) (signed (G.node_value gates.old x) b.now))) }
+        ≡ wrap (length a.now) (result_of Sub (signed (G.node_value gates.old x) a.now)
+        (signed (G.node_value gates.old x) b.now))) }
 {
     let made = gate_integers::sub(alloc, gates, a, b)?;
     Ok(made)
@@ -63,7 +65,8 @@ fn product_of<G: Gates>(
     ensures belongs { IfOk result (λ s. AllIn (G.belongs gates.new) s) }
     ensures width { IfOk result (λ s. length s ≡ length a.now) }
     ensures value { IfOk result (λ s. (x : ℕ → Bool) → signed (G.node_value gates.new x) s
-        ≡ wrap (length a.now) (result_of Mul (signed (G.node_value gates.old x) a.now) (signed (G.node_value gates.old x) b.now))) }
+        ≡ wrap (length a.now) (result_of Mul (signed (G.node_value gates.old x) a.now)
+        (signed (G.node_value gates.old x) b.now))) }
 {
     let made = gate_integers::mul(alloc, gates, a, b)?;
     Ok(made)
@@ -84,7 +87,8 @@ fn quotient_of<G: Gates>(
     ensures belongs { IfOk result (λ s. AllIn (G.belongs gates.new) s) }
     ensures width { IfOk result (λ s. length s ≡ length a.now) }
     ensures value { IfOk result (λ s. (x : ℕ → Bool) → signed (G.node_value gates.new x) s
-        ≡ wrap (length a.now) (result_of Div (signed (G.node_value gates.old x) a.now) (signed (G.node_value gates.old x) b.now))) }
+        ≡ wrap (length a.now) (result_of Div (signed (G.node_value gates.old x) a.now)
+        (signed (G.node_value gates.old x) b.now))) }
 {
     let made = gate_integers::div(alloc, gates, a, b)?;
     Ok(made)
@@ -105,7 +109,8 @@ fn remainder_of<G: Gates>(
     ensures belongs { IfOk result (λ s. AllIn (G.belongs gates.new) s) }
     ensures width { IfOk result (λ s. length s ≡ length a.now) }
     ensures value { IfOk result (λ s. (x : ℕ → Bool) → signed (G.node_value gates.new x) s
-        ≡ wrap (length a.now) (result_of Rem (signed (G.node_value gates.old x) a.now) (signed (G.node_value gates.old x) b.now))) }
+        ≡ wrap (length a.now) (result_of Rem (signed (G.node_value gates.old x) a.now)
+        (signed (G.node_value gates.old x) b.now))) }
 {
     let made = gate_integers::rem(alloc, gates, a, b)?;
     Ok(made)
@@ -127,7 +132,8 @@ pub fn operate<G: Gates>(
     ensures belongs { IfOk result (λ s. AllIn (G.belongs gates.new) s) }
     ensures width { IfOk result (λ s. length s ≡ length a.now) }
     ensures value { IfOk result (λ s. (x : ℕ → Bool) → signed (G.node_value gates.new x) s
-        ≡ wrap (length a.now) (result_of op (signed (G.node_value gates.old x) a.now) (signed (G.node_value gates.old x) b.now))) }
+        ≡ wrap (length a.now) (result_of op (signed (G.node_value gates.old x) a.now)
+        (signed (G.node_value gates.old x) b.now))) }
 {
     match op {
         IntOp::Add => sum_of(alloc, gates, a, b),

@@ -94,7 +94,8 @@ fn add_member<G: Gates>(
     ensures belongs { IfOk result (λ s. AllIn (G.belongs gates.new) s) }
     ensures width { IfOk result (λ s. length s ≡ universe.bits) }
     ensures sum { IfOk result (λ s. (x : ℕ → Bool) → number (G.node_value gates.new x) s
-        ≡ (number (G.node_value gates.old x) total.now + bit (G.node_value gates.old x node) * amount_for universe member) % 2 ^ universe.bits) }
+        ≡ (number (G.node_value gates.old x) total.now + bit (G.node_value gates.old x node)
+        * amount_for universe member) % 2 ^ universe.bits) }
 {
     let amount = amount_of(universe, member);
     let part = weighted(alloc, gates, universe.bits, amount, node)?;

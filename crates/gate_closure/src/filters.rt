@@ -61,7 +61,8 @@ fn asked<G: Gates>(
     requires other_belongs { ForSome other (λ n. G.belongs gates.old n) }
     ensures keeps { Keeps G.belongs G.node_value gates.old gates.new }
     ensures ok { IfOk result (λ o. OptionComputes G.belongs G.node_value gates.new o
-        (λ x. G.node_value gates.old x node && counts kept (truth_of (G.node_value gates.old x) other))) }
+        (λ x. G.node_value gates.old x node && counts kept
+        (truth_of (G.node_value gates.old x) other))) }
 {
     match (kept, other) {
         (Kept::Inside, None) => Ok(None),
@@ -90,7 +91,8 @@ fn filtered<G: Gates>(
     ensures arity { IfOk result (λ m. m.arity ≡ a.now.arity) }
     ensures truth { IfOk result (λ m. (x : ℕ → Bool) (t : List ℕ) →
         truth (G.node_value gates.new x) m t
-        ≡ (truth (G.node_value gates.old x) a.now t && counts kept (truth (G.node_value gates.old x) s.now (atom_at side t ∷ [])))) }
+        ≡ (truth (G.node_value gates.old x) a.now t
+        && counts kept (truth (G.node_value gates.old x) s.now (atom_at side t ∷ [])))) }
 {
     let mut all = Vec::new(alloc);
     let entries = a.entries();

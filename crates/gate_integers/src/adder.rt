@@ -26,7 +26,8 @@ pub fn add_digits<G: Gates>(gates: &mut G, a: Node, b: Node, c: Node) -> Result<
     ensures carry_belongs { IfOk result (λ d. G.belongs gates.new d.carry) }
     ensures digits { IfOk result (λ d. (x : ℕ → Bool) →
         bit (G.node_value gates.new x d.sum) + 2 * bit (G.node_value gates.new x d.carry)
-        ≡ bit (G.node_value gates.old x a) + bit (G.node_value gates.old x b) + bit (G.node_value gates.old x c)) }
+        ≡ bit (G.node_value gates.old x a) + bit (G.node_value gates.old x b)
+        + bit (G.node_value gates.old x c)) }
 {
     let half = gates.xor(a, b)?;
     let sum = gates.xor(half, c)?;
@@ -58,8 +59,10 @@ pub fn add_carried<G: Gates>(
     ensures carry_belongs { IfOk result (λ s. G.belongs gates.new s.carry) }
     ensures width { IfOk result (λ s. length s.total ≡ length a.now) }
     ensures number { IfOk result (λ s. (x : ℕ → Bool) →
-        number (G.node_value gates.new x) s.total + 2 ^ length a.now * bit (G.node_value gates.new x s.carry)
-        ≡ number (G.node_value gates.old x) a.now + number (G.node_value gates.old x) b.now + bit (G.node_value gates.old x carry)) }
+        number (G.node_value gates.new x) s.total + 2 ^ length a.now
+        * bit (G.node_value gates.new x s.carry)
+        ≡ number (G.node_value gates.old x) a.now + number (G.node_value gates.old x) b.now
+        + bit (G.node_value gates.old x carry)) }
 {
     let mut total = Bits::new(alloc);
     let mut over = carry;
@@ -85,7 +88,8 @@ pub fn add_numbers<G: Gates>(
     ensures belongs { IfOk result (λ s. AllIn (G.belongs gates.new) s) }
     ensures width { IfOk result (λ s. length s ≡ length a.now) }
     ensures number { IfOk result (λ s. (x : ℕ → Bool) → number (G.node_value gates.new x) s
-        ≡ (number (G.node_value gates.old x) a.now + number (G.node_value gates.old x) b.now) % 2 ^ length a.now) }
+        ≡ (number (G.node_value gates.old x) a.now + number (G.node_value gates.old x) b.now)
+        % 2 ^ length a.now) }
 {
     let no_carry = gates.constant(false);
     let sum = add_carried(alloc, gates, a, b, no_carry)?;
@@ -107,7 +111,8 @@ pub fn subtract_carried<G: Gates>(
     ensures carry_belongs { IfOk result (λ s. G.belongs gates.new s.carry) }
     ensures width { IfOk result (λ s. length s.total ≡ length a.now) }
     ensures number { IfOk result (λ s. (x : ℕ → Bool) →
-        number (G.node_value gates.new x) s.total + 2 ^ length a.now * bit (G.node_value gates.new x s.carry) + number (G.node_value gates.old x) b.now
+        number (G.node_value gates.new x) s.total + 2 ^ length a.now
+        * bit (G.node_value gates.new x s.carry) + number (G.node_value gates.old x) b.now
         ≡ number (G.node_value gates.old x) a.now + 2 ^ length a.now) }
 {
     let other = negated(alloc, gates, b)?;
@@ -148,7 +153,8 @@ pub fn add<G: Gates>(alloc: Global, gates: &mut G, a: &Bits, b: &Bits) -> Result
     ensures belongs { IfOk result (λ s. AllIn (G.belongs gates.new) s) }
     ensures width { IfOk result (λ s. length s ≡ length a.now) }
     ensures value { IfOk result (λ s. (x : ℕ → Bool) → signed (G.node_value gates.new x) s
-        ≡ wrap (length a.now) (signed (G.node_value gates.old x) a.now +ℤ signed (G.node_value gates.old x) b.now)) }
+        ≡ wrap (length a.now) (signed (G.node_value gates.old x) a.now
+        +ℤ signed (G.node_value gates.old x) b.now)) }
 {
     let sum = add_numbers(alloc, gates, a.nodes(), b.nodes())?;
     Ok(sum)
@@ -163,7 +169,8 @@ pub fn sub<G: Gates>(alloc: Global, gates: &mut G, a: &Bits, b: &Bits) -> Result
     ensures belongs { IfOk result (λ s. AllIn (G.belongs gates.new) s) }
     ensures width { IfOk result (λ s. length s ≡ length a.now) }
     ensures value { IfOk result (λ s. (x : ℕ → Bool) → signed (G.node_value gates.new x) s
-        ≡ wrap (length a.now) (signed (G.node_value gates.old x) a.now -ℤ signed (G.node_value gates.old x) b.now)) }
+        ≡ wrap (length a.now) (signed (G.node_value gates.old x) a.now
+        -ℤ signed (G.node_value gates.old x) b.now)) }
 {
     let difference = subtract_carried(alloc, gates, a.nodes(), b.nodes())?;
     Ok(difference.total)

@@ -22,7 +22,8 @@ fn less_below<G: Gates>(
     ensures keeps { Keeps G.belongs G.node_value gates.old gates.new }
     ensures belongs { IfOk result (λ n. G.belongs gates.new n) }
     ensures less { IfOk result (λ n. (x : ℕ → Bool) → G.node_value gates.new x n
-        ≡ nat_lt (number (G.node_value gates.old x) (take width a.now)) (number (G.node_value gates.old x) (take width b.now))) }
+        ≡ nat_lt (number (G.node_value gates.old x) (take width a.now))
+        (number (G.node_value gates.old x) (take width b.now))) }
 {
     let mut less = gates.constant(false);
     for i in 0..width {

@@ -15,7 +15,8 @@ fn node_or_false<G: Gates>(gates: &G, nodes: &[Node], place: usize) -> Node
     ensures belongs { G.belongs gates.now result }
     ensures counts { (x : ℕ → Bool) → count_by (G.node_value gates.now x)
         (take (place + 1) nodes.now)
-        ≡ count_by (G.node_value gates.now x) (take place nodes.now) + bit (G.node_value gates.now x result) }
+        ≡ count_by (G.node_value gates.now x) (take place nodes.now)
+        + bit (G.node_value gates.now x result) }
 {
     if place < nodes.len() {
         nodes[place]
@@ -38,7 +39,8 @@ fn add_column<G: Gates>(alloc: Global, gates: &mut G, nodes: &[Node]) -> Result<
     ensures bit_belongs { IfOk result (λ c. G.belongs gates.new c.bit) }
     ensures carries_belong { IfOk result (λ c. AllIn (G.belongs gates.new) c.carries.items) }
     ensures sum { IfOk result (λ c. (x : ℕ → Bool) →
-        bit (G.node_value gates.new x c.bit) + 2 * count_by (G.node_value gates.new x) c.carries.items
+        bit (G.node_value gates.new x c.bit) + 2
+        * count_by (G.node_value gates.new x) c.carries.items
         ≡ count_by (G.node_value gates.old x) nodes.now) }
 {
     let mut carries = Vec::new(alloc);

@@ -36,12 +36,16 @@ fn divide_step<G: Gates>(
     ensures rest_belongs { IfOk result (λ s. AllIn (G.belongs gates.new) s.rest) }
     ensures width { IfOk result (λ s. length s.rest ≡ length rest.now) }
     ensures sum { IfOk result (λ s. (x : ℕ → Bool) →
-        bit (G.node_value gates.old x next) + 2 * number (G.node_value gates.old x) rest.now < 2 ^ length rest.now →
-        bit (G.node_value gates.new x s.bit) * number (G.node_value gates.old x) b.now + number (G.node_value gates.new x) s.rest
+        bit (G.node_value gates.old x next) + 2 * number (G.node_value gates.old x) rest.now
+        < 2 ^ length rest.now →
+        bit (G.node_value gates.new x s.bit) * number (G.node_value gates.old x) b.now
+        + number (G.node_value gates.new x) s.rest
         ≡ bit (G.node_value gates.old x next) + 2 * number (G.node_value gates.old x) rest.now) }
     ensures taken { IfOk result (λ s. (x : ℕ → Bool) →
-        bit (G.node_value gates.old x next) + 2 * number (G.node_value gates.old x) rest.now < 2 ^ length rest.now →
-        bit (G.node_value gates.new x s.bit) ≡ 0 → number (G.node_value gates.new x) s.rest < number (G.node_value gates.old x) b.now) }
+        bit (G.node_value gates.old x next) + 2 * number (G.node_value gates.old x) rest.now
+        < 2 ^ length rest.now →
+        bit (G.node_value gates.new x s.bit) ≡ 0 →
+        number (G.node_value gates.new x) s.rest < number (G.node_value gates.old x) b.now) }
 {
     let shifted = shifted_in(alloc, gates, rest, next)?;
     let less = subtract_carried(alloc, gates, shifted.nodes(), b)?;
@@ -89,7 +93,8 @@ fn divide<G: Gates>(
     ensures quotient_width { IfOk result (λ p. length p.quotient ≡ length a.now) }
     ensures remainder_width { IfOk result (λ p. length p.remainder ≡ length a.now) }
     ensures sum { IfOk result (λ p. (x : ℕ → Bool) →
-        number (G.node_value gates.new x) p.quotient * number (G.node_value gates.old x) b.now + number (G.node_value gates.new x) p.remainder
+        number (G.node_value gates.new x) p.quotient * number (G.node_value gates.old x) b.now
+        + number (G.node_value gates.new x) p.remainder
         ≡ number (G.node_value gates.old x) a.now) }
     ensures below { IfOk result (λ p. (x : ℕ → Bool) → 0 < number (G.node_value gates.old x) b.now →
         number (G.node_value gates.new x) p.remainder < number (G.node_value gates.old x) b.now) }
@@ -170,7 +175,8 @@ fn quotient_of<G: Gates>(
     ensures belongs { IfOk result (λ s. AllIn (G.belongs gates.new) s) }
     ensures width { IfOk result (λ s. length s ≡ length a.now) }
     ensures value { IfOk result (λ s. (x : ℕ → Bool) → signed (G.node_value gates.new x) s
-        ≡ wrap (length a.now) (quotient (signed (G.node_value gates.old x) a.now) (signed (G.node_value gates.old x) b.now))) }
+        ≡ wrap (length a.now) (quotient (signed (G.node_value gates.old x) a.now)
+        (signed (G.node_value gates.old x) b.now))) }
 {
     let parts = divide_magnitudes(alloc, gates, a, b)?;
     let some = any_bit(gates, a)?;
@@ -195,7 +201,8 @@ fn remainder_of<G: Gates>(
     ensures belongs { IfOk result (λ s. AllIn (G.belongs gates.new) s) }
     ensures width { IfOk result (λ s. length s ≡ length a.now) }
     ensures value { IfOk result (λ s. (x : ℕ → Bool) → signed (G.node_value gates.new x) s
-        ≡ wrap (length a.now) (remainder (signed (G.node_value gates.old x) a.now) (signed (G.node_value gates.old x) b.now))) }
+        ≡ wrap (length a.now) (remainder (signed (G.node_value gates.old x) a.now)
+        (signed (G.node_value gates.old x) b.now))) }
 {
     let parts = divide_magnitudes(alloc, gates, a, b)?;
     let remainder = negate_where(alloc, gates, a[a.len() - 1], parts.remainder.nodes())?;
@@ -213,7 +220,8 @@ pub fn div<G: Gates>(alloc: Global, gates: &mut G, a: &Bits, b: &Bits) -> Result
     ensures belongs { IfOk result (λ s. AllIn (G.belongs gates.new) s) }
     ensures width { IfOk result (λ s. length s ≡ length a.now) }
     ensures value { IfOk result (λ s. (x : ℕ → Bool) → signed (G.node_value gates.new x) s
-        ≡ wrap (length a.now) (quotient (signed (G.node_value gates.old x) a.now) (signed (G.node_value gates.old x) b.now))) }
+        ≡ wrap (length a.now) (quotient (signed (G.node_value gates.old x) a.now)
+        (signed (G.node_value gates.old x) b.now))) }
 {
     let quotient = quotient_of(alloc, gates, a.nodes(), b.nodes())?;
     Ok(quotient)
@@ -230,7 +238,8 @@ pub fn rem<G: Gates>(alloc: Global, gates: &mut G, a: &Bits, b: &Bits) -> Result
     ensures belongs { IfOk result (λ s. AllIn (G.belongs gates.new) s) }
     ensures width { IfOk result (λ s. length s ≡ length a.now) }
     ensures value { IfOk result (λ s. (x : ℕ → Bool) → signed (G.node_value gates.new x) s
-        ≡ wrap (length a.now) (remainder (signed (G.node_value gates.old x) a.now) (signed (G.node_value gates.old x) b.now))) }
+        ≡ wrap (length a.now) (remainder (signed (G.node_value gates.old x) a.now)
+        (signed (G.node_value gates.old x) b.now))) }
 {
     let remainder = remainder_of(alloc, gates, a.nodes(), b.nodes())?;
     Ok(remainder)

@@ -61,7 +61,8 @@ fn multiply_step<G: Gates>(
     ensures total_width { IfOk result (λ p. length p.total ≡ length total.now) }
     ensures row_width { IfOk result (λ p. length p.row ≡ length total.now) }
     ensures total { IfOk result (λ p. (x : ℕ → Bool) → number (G.node_value gates.new x) p.total
-        ≡ (number (G.node_value gates.old x) total.now + bit (G.node_value gates.old x factor) * number (G.node_value gates.old x) row.now) % 2 ^ length total.now) }
+        ≡ (number (G.node_value gates.old x) total.now + bit (G.node_value gates.old x factor)
+        * number (G.node_value gates.old x) row.now) % 2 ^ length total.now) }
     ensures row { IfOk result (λ p. (x : ℕ → Bool) → number (G.node_value gates.new x) p.row
         ≡ (2 * number (G.node_value gates.old x) row.now) % 2 ^ length total.now) }
 {
@@ -88,7 +89,8 @@ fn multiply<G: Gates>(
     ensures belongs { IfOk result (λ s. AllIn (G.belongs gates.new) s) }
     ensures width { IfOk result (λ s. length s ≡ length a.now) }
     ensures number { IfOk result (λ s. (x : ℕ → Bool) → number (G.node_value gates.new x) s
-        ≡ (number (G.node_value gates.old x) a.now * number (G.node_value gates.old x) b.now) % 2 ^ length a.now) }
+        ≡ (number (G.node_value gates.old x) a.now * number (G.node_value gates.old x) b.now)
+        % 2 ^ length a.now) }
 {
     let mut total = zeros(alloc, gates, a.len())?;
     let mut row = copied(alloc, gates, a)?;
@@ -109,7 +111,8 @@ pub fn mul<G: Gates>(alloc: Global, gates: &mut G, a: &Bits, b: &Bits) -> Result
     ensures belongs { IfOk result (λ s. AllIn (G.belongs gates.new) s) }
     ensures width { IfOk result (λ s. length s ≡ length a.now) }
     ensures value { IfOk result (λ s. (x : ℕ → Bool) → signed (G.node_value gates.new x) s
-        ≡ wrap (length a.now) (signed (G.node_value gates.old x) a.now *ℤ signed (G.node_value gates.old x) b.now)) }
+        ≡ wrap (length a.now) (signed (G.node_value gates.old x) a.now
+        *ℤ signed (G.node_value gates.old x) b.now)) }
 {
     let product = multiply(alloc, gates, a.nodes(), b.nodes())?;
     Ok(product)

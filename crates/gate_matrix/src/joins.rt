@@ -81,12 +81,14 @@ fn add_row<G: Gates>(
     ensures keeps { Keeps G.belongs G.node_value gates.old gates.new }
     ensures belongs { OnOk result (AllBelong (G.belongs gates.new) all.new.items) }
     ensures columns { OnOk result ((k : ℕ) → All (λ e. length e.tuple ≡ k) all.old.items
-        → All (λ e. length head.now + (length e.tuple - skip) ≡ k) row.now → All (λ e. length e.tuple ≡ k) all.new.items) }
+        → All (λ e. length head.now + (length e.tuple - skip) ≡ k) row.now →
+        All (λ e. length e.tuple ≡ k) all.new.items) }
     ensures numbers { OnOk result (All (λ e. All IsNumber e.tuple) all.old.items →
         All (λ e. All IsNumber e.tuple) all.new.items) }
     ensures truth { OnOk result ((x : ℕ → Bool) (t : List ℕ) →
         has (G.node_value gates.new x) all.new.items t
-        ≡ (has (G.node_value gates.old x) all.old.items t || has_row (G.node_value gates.old x) head.now node skip row.now t)) }
+        ≡ (has (G.node_value gates.old x) all.old.items t
+        || has_row (G.node_value gates.old x) head.now node skip row.now t)) }
 {
     for entry in row {
         let both = gates.and(node, entry.node)?;

@@ -52,7 +52,8 @@ fn combined<G: Gates>(
     requires second_belongs { ForSome second (λ n. G.belongs gates.old n) }
     ensures keeps { Keeps G.belongs G.node_value gates.old gates.new }
     ensures ok { IfOk result (λ o. OptionComputes G.belongs G.node_value gates.new o
-        (λ x. combine rule (truth_of (G.node_value gates.old x) first) (truth_of (G.node_value gates.old x) second))) }
+        (λ x. combine rule (truth_of (G.node_value gates.old x) first)
+        (truth_of (G.node_value gates.old x) second))) }
 {
     match (rule, first, second) {
         (Rule::Union, Some(a), Some(b)) => {
@@ -111,7 +112,8 @@ fn add_kept<G: Gates>(
     ensures keeps { Keeps G.belongs G.node_value gates.old gates.new }
     ensures added { OnOk result (IsAdded G.belongs G.node_value gates.new all.old.items
         all.new.items tuple.now
-        (λ x. combine rule (truth_of (G.node_value gates.old x) nodes.0) (truth_of (G.node_value gates.old x) nodes.1))) }
+        (λ x. combine rule (truth_of (G.node_value gates.old x) nodes.0)
+        (truth_of (G.node_value gates.old x) nodes.1))) }
 {
     let node = combined(gates, rule, nodes.0, nodes.1)?;
     add_some(alloc, tuple, node, all)?;
@@ -158,7 +160,8 @@ fn merge<G: Gates>(
     ensures arity { IfOk result (λ m. m.arity ≡ arity) }
     ensures truth { IfOk result (λ m. (x : ℕ → Bool) (t : List ℕ) →
         truth (G.node_value gates.new x) m t
-        ≡ combine rule (has (G.node_value gates.old x) a.now t) (has (G.node_value gates.old x) b.now t)) }
+        ≡ combine rule (has (G.node_value gates.old x) a.now t)
+        (has (G.node_value gates.old x) b.now t)) }
 {
     let mut all = Vec::new(alloc);
     let mut i = 0;
@@ -259,7 +262,8 @@ pub fn difference<G: Gates>(
     ensures arity { IfOk result (λ m. m.arity ≡ a.now.arity) }
     ensures truth { IfOk result (λ m. (x : ℕ → Bool) (t : List ℕ) →
         truth (G.node_value gates.new x) m t
-        ≡ (truth (G.node_value gates.old x) a.now t && not (truth (G.node_value gates.old x) b.now t))) }
+        ≡ (truth (G.node_value gates.old x) a.now t
+        && not (truth (G.node_value gates.old x) b.now t))) }
 {
     merge(
         alloc,
@@ -285,7 +289,8 @@ pub(crate) fn exclusive<G: Gates>(
     ensures belongs { IfOk result (λ m. AllBelong (G.belongs gates.new) m.entries) }
     ensures truth { IfOk result (λ m. (x : ℕ → Bool) (t : List ℕ) →
         truth (G.node_value gates.new x) m t
-        ≡ xor (truth (G.node_value gates.old x) a.now t) (truth (G.node_value gates.old x) b.now t)) }
+        ≡ xor (truth (G.node_value gates.old x) a.now t)
+        (truth (G.node_value gates.old x) b.now t)) }
 {
     merge(
         alloc,

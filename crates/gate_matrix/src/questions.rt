@@ -93,7 +93,8 @@ fn seen_more<G: Gates>(gates: &mut G, seen: Seen, node: Node) -> Result<Seen, Al
     ensures keeps { Keeps G.belongs G.node_value gates.old gates.new }
     ensures ok { IfOk result (λ s. BothCompute G.belongs G.node_value gates.new s.one s.two
         (λ x. G.node_value gates.old x seen.one || G.node_value gates.old x node)
-        (λ x. G.node_value gates.old x seen.two || (G.node_value gates.old x seen.one && G.node_value gates.old x node))) }
+        (λ x. G.node_value gates.old x seen.two || (G.node_value gates.old x seen.one
+        && G.node_value gates.old x node))) }
 {
     let again = gates.and(seen.one, node)?;
     let two = gates.or(seen.two, again)?;

@@ -51,7 +51,8 @@ pub fn calculate<G: Gates>(
     ensures fit { OnOk result (length a.now ≡ length b.now) }
     ensures width { IfOk result (λ s. length s ≡ length a.now) }
     ensures value { IfOk result (λ s. (x : ℕ → Bool) → signed (G.node_value gates.new x) s
-        ≡ wrap (length a.now) (result_of op (signed (G.node_value gates.old x) a.now) (signed (G.node_value gates.old x) b.now))) }
+        ≡ wrap (length a.now) (result_of op (signed (G.node_value gates.old x) a.now)
+        (signed (G.node_value gates.old x) b.now))) }
 {
     if a.len() != b.len() || a.is_empty() {
         return Err(AllocError);
@@ -68,7 +69,8 @@ fn at_least<G: Gates>(alloc: Global, gates: &mut G, a: &Bits, b: &Bits) -> Resul
     ensures keeps { Keeps G.belongs G.node_value gates.old gates.new }
     ensures belongs { IfOk result (λ n. G.belongs gates.new n) }
     ensures value { IfOk result (λ n. (x : ℕ → Bool) → (G.node_value gates.new x n ≡ true)
-        ↔ (¬ (signed (G.node_value gates.old x) a.now <ℤ signed (G.node_value gates.old x) b.now))) }
+        ↔ (¬ (signed (G.node_value gates.old x) a.now
+        <ℤ signed (G.node_value gates.old x) b.now))) }
 {
     let below = less(alloc, gates, a, b)?;
     let node = gates.not(below);
@@ -88,7 +90,8 @@ pub fn compare<G: Gates>(
     ensures keeps { Keeps G.belongs G.node_value gates.old gates.new }
     ensures belongs { IfOk result (λ n. G.belongs gates.new n) }
     ensures value { IfOk result (λ n. (x : ℕ → Bool) → (G.node_value gates.new x n ≡ true)
-        ↔ AreSo op (signed (G.node_value gates.old x) a.now) (signed (G.node_value gates.old x) b.now)) }
+        ↔ AreSo op (signed (G.node_value gates.old x) a.now)
+        (signed (G.node_value gates.old x) b.now)) }
 {
     if a.len() != b.len() || a.is_empty() {
         return Err(AllocError);
@@ -130,7 +133,8 @@ pub fn count_of<G: Gates>(
     ensures belongs { IfOk result (λ s. AllIn (G.belongs gates.new) s) }
     ensures width { IfOk result (λ s. length s ≡ width) }
     ensures value { IfOk result (λ s. (x : ℕ → Bool) (w : World) → w.bits ≡ width
-        → IsCount w (set_of (G.node_value gates.old x) matrix.now) (signed (G.node_value gates.new x) s)) }
+        → IsCount w (set_of (G.node_value gates.old x) matrix.now)
+        (signed (G.node_value gates.new x) s)) }
 {
     let nodes = entry_nodes(alloc, gates, matrix)?;
     // for the proof: this call's clause says that it is a matrix
@@ -170,7 +174,8 @@ pub fn masked_sum<G: Gates>(
     ensures belongs { IfOk result (λ s. AllIn (G.belongs gates.new) s) }
     ensures width { IfOk result (λ s. length s ≡ length a.now) }
     ensures value { IfOk result (λ s. (x : ℕ → Bool) → signed (G.node_value gates.new x) s
-        ≡ wrap (length a.now) (signed (G.node_value gates.old x) a.now +ℤ where_true (G.node_value gates.old x node) (signed (G.node_value gates.old x) b.now))) }
+        ≡ wrap (length a.now) (signed (G.node_value gates.old x) a.now
+        +ℤ where_true (G.node_value gates.old x node) (signed (G.node_value gates.old x) b.now))) }
 {
     if b.is_empty() {
         return Err(AllocError);

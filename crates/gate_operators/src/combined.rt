@@ -27,7 +27,8 @@ fn united<G: Gates>(
     ensures belongs { IfOk result (λ m. AllBelong (G.belongs gates.new) m.entries) }
     ensures columns { IfOk result (λ m. m.arity ≡ columns_of Union a.now.arity b.now.arity) }
     ensures means { IfOk result (λ m. (x : ℕ → Bool) → MeansSet (G.node_value gates.new x) m
-        (combined_tuples Union (set_of (G.node_value gates.old x) a.now) (set_of (G.node_value gates.old x) b.now))) }
+        (combined_tuples Union (set_of (G.node_value gates.old x) a.now)
+        (set_of (G.node_value gates.old x) b.now))) }
 {
     let made = gate_matrix::union(alloc, gates, a, b)?;
     Ok(made)
@@ -47,7 +48,8 @@ fn subtracted<G: Gates>(
     ensures belongs { IfOk result (λ m. AllBelong (G.belongs gates.new) m.entries) }
     ensures columns { IfOk result (λ m. m.arity ≡ columns_of Difference a.now.arity b.now.arity) }
     ensures means { IfOk result (λ m. (x : ℕ → Bool) → MeansSet (G.node_value gates.new x) m
-        (combined_tuples Difference (set_of (G.node_value gates.old x) a.now) (set_of (G.node_value gates.old x) b.now))) }
+        (combined_tuples Difference (set_of (G.node_value gates.old x) a.now)
+        (set_of (G.node_value gates.old x) b.now))) }
 {
     let made = gate_matrix::difference(alloc, gates, a, b)?;
     Ok(made)
@@ -62,7 +64,8 @@ fn met<G: Gates>(alloc: Global, gates: &mut G, a: &Matrix, b: &Matrix) -> Result
     ensures belongs { IfOk result (λ m. AllBelong (G.belongs gates.new) m.entries) }
     ensures columns { IfOk result (λ m. m.arity ≡ columns_of Intersection a.now.arity b.now.arity) }
     ensures means { IfOk result (λ m. (x : ℕ → Bool) → MeansSet (G.node_value gates.new x) m
-        (combined_tuples Intersection (set_of (G.node_value gates.old x) a.now) (set_of (G.node_value gates.old x) b.now))) }
+        (combined_tuples Intersection (set_of (G.node_value gates.old x) a.now)
+        (set_of (G.node_value gates.old x) b.now))) }
 {
     let made = gate_matrix::intersection(alloc, gates, a, b)?;
     Ok(made)
@@ -83,7 +86,8 @@ fn joined<G: Gates>(
     ensures belongs { IfOk result (λ m. AllBelong (G.belongs gates.new) m.entries) }
     ensures columns { IfOk result (λ m. m.arity ≡ columns_of Join a.now.arity b.now.arity) }
     ensures means { IfOk result (λ m. (x : ℕ → Bool) → MeansSet (G.node_value gates.new x) m
-        (combined_tuples Join (set_of (G.node_value gates.old x) a.now) (set_of (G.node_value gates.old x) b.now))) }
+        (combined_tuples Join (set_of (G.node_value gates.old x) a.now)
+        (set_of (G.node_value gates.old x) b.now))) }
 {
     let made = gate_matrix::join(alloc, gates, a, b)?;
     Ok(made)
@@ -104,7 +108,8 @@ fn overridden<G: Gates>(
     ensures belongs { IfOk result (λ m. AllBelong (G.belongs gates.new) m.entries) }
     ensures columns { IfOk result (λ m. m.arity ≡ columns_of Override a.now.arity b.now.arity) }
     ensures means { IfOk result (λ m. (x : ℕ → Bool) → MeansSet (G.node_value gates.new x) m
-        (combined_tuples Override (set_of (G.node_value gates.old x) a.now) (set_of (G.node_value gates.old x) b.now))) }
+        (combined_tuples Override (set_of (G.node_value gates.old x) a.now)
+        (set_of (G.node_value gates.old x) b.now))) }
 {
     let made = override_by(alloc, gates, a, b)?;
     Ok(made)
@@ -124,7 +129,8 @@ fn left_restricted<G: Gates>(
     ensures belongs { IfOk result (λ m. AllBelong (G.belongs gates.new) m.entries) }
     ensures columns { IfOk result (λ m. m.arity ≡ columns_of LeftRestrict a.now.arity b.now.arity) }
     ensures means { IfOk result (λ m. (x : ℕ → Bool) → MeansSet (G.node_value gates.new x) m
-        (combined_tuples LeftRestrict (set_of (G.node_value gates.old x) a.now) (set_of (G.node_value gates.old x) b.now))) }
+        (combined_tuples LeftRestrict (set_of (G.node_value gates.old x) a.now)
+        (set_of (G.node_value gates.old x) b.now))) }
 {
     let made = left_restrict(alloc, gates, a, b)?;
     Ok(made)
@@ -145,7 +151,8 @@ fn right_restricted<G: Gates>(
     ensures columns { IfOk result (λ m. m.arity ≡ columns_of RightRestrict a.now.arity
         b.now.arity) }
     ensures means { IfOk result (λ m. (x : ℕ → Bool) → MeansSet (G.node_value gates.new x) m
-        (combined_tuples RightRestrict (set_of (G.node_value gates.old x) a.now) (set_of (G.node_value gates.old x) b.now))) }
+        (combined_tuples RightRestrict (set_of (G.node_value gates.old x) a.now)
+        (set_of (G.node_value gates.old x) b.now))) }
 {
     let made = right_restrict(alloc, gates, a, b)?;
     Ok(made)
@@ -166,7 +173,8 @@ pub fn combine<G: Gates>(
     ensures belongs { IfOk result (λ m. AllBelong (G.belongs gates.new) m.entries) }
     ensures columns { IfOk result (λ m. m.arity ≡ columns_of op a.now.arity b.now.arity) }
     ensures means { IfOk result (λ m. (x : ℕ → Bool) → MeansSet (G.node_value gates.new x) m
-        (combined_tuples op (set_of (G.node_value gates.old x) a.now) (set_of (G.node_value gates.old x) b.now))) }
+        (combined_tuples op (set_of (G.node_value gates.old x) a.now)
+        (set_of (G.node_value gates.old x) b.now))) }
 {
     match op {
         RelationOp::Union => united(alloc, gates, a, b),
@@ -193,7 +201,8 @@ pub fn multiplied<G: Gates>(
     ensures belongs { IfOk result (λ m. AllBelong (G.belongs gates.new) m.entries) }
     ensures columns { IfOk result (λ m. m.arity ≡ a.now.arity + b.now.arity) }
     ensures means { IfOk result (λ m. (x : ℕ → Bool) → MeansSet (G.node_value gates.new x) m
-        (product_tuples (set_of (G.node_value gates.old x) a.now) (set_of (G.node_value gates.old x) b.now))) }
+        (product_tuples (set_of (G.node_value gates.old x) a.now)
+        (set_of (G.node_value gates.old x) b.now))) }
 {
     let made = gate_matrix::product(alloc, gates, a, b)?;
     Ok(made)

@@ -54,7 +54,8 @@ pub fn choose<G: Gates>(
     ensures fit { OnOk result (a.now.arity ≡ b.now.arity) }
     ensures columns { IfOk result (λ m. m.arity ≡ a.now.arity) }
     ensures means { IfOk result (λ m. (x : ℕ → Bool) → MeansSet (G.node_value gates.new x) m
-        (chosen_tuples (G.node_value gates.old x node) (set_of (G.node_value gates.old x) a.now) (set_of (G.node_value gates.old x) b.now))) }
+        (chosen_tuples (G.node_value gates.old x node) (set_of (G.node_value gates.old x) a.now)
+        (set_of (G.node_value gates.old x) b.now))) }
 {
     if a.arity() != b.arity() {
         return Err(AllocError);

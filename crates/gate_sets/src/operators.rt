@@ -56,7 +56,8 @@ pub fn combine<G: Gates>(
     ensures fit { OnOk result (FitTogether op a.now.arity b.now.arity) }
     ensures columns { IfOk result (λ m. m.arity ≡ columns_of op a.now.arity b.now.arity) }
     ensures means { IfOk result (λ m. (x : ℕ → Bool) → MeansSet (G.node_value gates.new x) m
-        (combined_tuples op (set_of (G.node_value gates.old x) a.now) (set_of (G.node_value gates.old x) b.now))) }
+        (combined_tuples op (set_of (G.node_value gates.old x) a.now)
+        (set_of (G.node_value gates.old x) b.now))) }
 {
     if !fit_together(op, a.arity(), b.arity()) {
         return Err(AllocError);
@@ -79,7 +80,8 @@ fn multiply<G: Gates>(
     ensures fit { OnOk result (a.now.arity + b.now.arity ≤ 9) }
     ensures columns { IfOk result (λ m. m.arity ≡ a.now.arity + b.now.arity) }
     ensures means { IfOk result (λ m. (x : ℕ → Bool) → MeansSet (G.node_value gates.new x) m
-        (product_tuples (set_of (G.node_value gates.old x) a.now) (set_of (G.node_value gates.old x) b.now))) }
+        (product_tuples (set_of (G.node_value gates.old x) a.now)
+        (set_of (G.node_value gates.old x) b.now))) }
 {
     // ArityLimit, S47: a relation has at most nine columns.
     if a.arity() + b.arity() > 9 {
@@ -175,7 +177,8 @@ pub fn apply<G: Gates>(
     ensures fit { OnOk result (FitsOperator op a.now.arity b.now.arity) }
     ensures columns { IfOk result (λ m. m.arity ≡ columns_made op a.now.arity b.now.arity) }
     ensures means { IfOk result (λ m. (x : ℕ → Bool) → MeansSet (G.node_value gates.new x) m
-        (tuples_made op (set_of (G.node_value gates.old x) a.now) (set_of (G.node_value gates.old x) b.now))) }
+        (tuples_made op (set_of (G.node_value gates.old x) a.now)
+        (set_of (G.node_value gates.old x) b.now))) }
 {
     match op {
         SetOperator::Combine(op) => combine(alloc, gates, op, a, b),

@@ -32,7 +32,8 @@ fn inside<G: Gates>(
     ensures keeps { Keeps G.belongs G.node_value gates.old gates.new }
     ensures belongs { IfOk result (λ n. G.belongs gates.new n) }
     ensures means { IfOk result (λ n. (x : ℕ → Bool) → (G.node_value gates.new x n ≡ true)
-        ↔ IsInside (set_of (G.node_value gates.old x) a.now) (set_of (G.node_value gates.old x) b.now)) }
+        ↔ IsInside (set_of (G.node_value gates.old x) a.now)
+        (set_of (G.node_value gates.old x) b.now)) }
 {
     if a.arity() != b.arity() {
         return Err(AllocError);
@@ -65,7 +66,8 @@ pub fn ask<G: Gates>(
     ensures keeps { Keeps G.belongs G.node_value gates.old gates.new }
     ensures belongs { IfOk result (λ n. G.belongs gates.new n) }
     ensures means { IfOk result (λ n. (x : ℕ → Bool) → (G.node_value gates.new x n ≡ true)
-        ↔ IsAnswered question (set_of (G.node_value gates.old x) a.now) (set_of (G.node_value gates.old x) b.now)) }
+        ↔ IsAnswered question (set_of (G.node_value gates.old x) a.now)
+        (set_of (G.node_value gates.old x) b.now)) }
 {
     match question {
         Question::Inside => inside(alloc, gates, a, b),

@@ -72,7 +72,8 @@ fn exclusive_gates(store: &mut CircuitStore, low: u64, high: u64) -> Result<Node
     requires high_there { high < length store.old }
     ensures keeps { Keeps BelongsTo value_in store.old store.new }
     ensures ok { IfOk result (λ n. Computes BelongsTo value_in store.new n (λ x.
-        xor (slice_index_or (values store.old x) low false) (slice_index_or (values store.old x) high false))) }
+        xor (slice_index_or (values store.old x) low false)
+        (slice_index_or (values store.old x) high false))) }
 {
     // for the proof: this call's clauses say what a store keeps
     let _count = store.gates();

@@ -65,7 +65,9 @@ fn backward<G: Gates>(
     ensures length { IfOk result (λ row. length row ≡ length f.now - from) }
     ensures values { IfOk result (λ row. (x : ℕ → Bool) (i : ℕ) → from ≤ i → i < length f.now
         → row_value (G.node_value gates.new x) row (length f.now - i - 1)
-        ≡ until_to (row_value (G.node_value gates.old x) f.now) (row_value (G.node_value gates.old x) g.now) (G.node_value gates.old x last) (length f.now - i) i) }
+        ≡ until_to (row_value (G.node_value gates.old x) f.now)
+        (row_value (G.node_value gates.old x) g.now) (G.node_value gates.old x last) (length f.now
+        - i) i) }
 {
     let mut row = NodeList::new(alloc);
     let mut next = last;
@@ -99,7 +101,8 @@ pub fn until<G: Gates>(
     ensures length { IfOk result (λ row. length row ≡ length f.now) }
     ensures truth { IfOk result (λ row. (x : ℕ → Bool) (i : ℕ) → i < length f.now
         → IsTrue (row_value (G.node_value gates.new x) row i)
-        ↔ UntilAt (IsAt (G.node_value gates.old x) f.now first) (IsAt (G.node_value gates.old x) g.now first) i) }
+        ↔ UntilAt (IsAt (G.node_value gates.old x) f.now first)
+        (IsAt (G.node_value gates.old x) g.now first) i) }
 {
     let never = gates.constant(false);
     let once = backward(alloc, gates, f, g, 0, never)?;

@@ -24,7 +24,8 @@ pub fn since<G: Gates>(
     ensures length { IfOk result (λ row. length row ≡ length f.now) }
     ensures truth { IfOk result (λ row. (x : ℕ → Bool) (i : ℕ) → i < length f.now
         → IsTrue (row_value (G.node_value gates.new x) row i)
-        ↔ SinceAt (λ j. IsTrue (row_value (G.node_value gates.old x) f.now j)) (λ j. IsTrue (row_value (G.node_value gates.old x) g.now j)) i) }
+        ↔ SinceAt (λ j. IsTrue (row_value (G.node_value gates.old x) f.now j)) (λ j.
+        IsTrue (row_value (G.node_value gates.old x) g.now j)) i) }
 {
     let mut row = NodeList::new(alloc);
     let mut last = gates.constant(false);

@@ -13,7 +13,8 @@ pub fn negated<G: Gates>(alloc: Global, gates: &G, f: &NodeList) -> Result<NodeL
     ensures belongs { IfOk result (λ row. AllIn (G.belongs gates.now) row) }
     ensures length { IfOk result (λ row. length row ≡ length f.now) }
     ensures truth { IfOk result (λ row. (x : ℕ → Bool) (i : ℕ) → i < length f.now
-        → row_value (G.node_value gates.now x) row i ≡ not (row_value (G.node_value gates.now x) f.now i)) }
+        → row_value (G.node_value gates.now x) row i
+        ≡ not (row_value (G.node_value gates.now x) f.now i)) }
 {
     let mut row = NodeList::new(alloc);
     for place in 0..f.len() {
@@ -36,7 +37,9 @@ pub fn both<G: Gates>(
     ensures belongs { IfOk result (λ row. AllIn (G.belongs gates.new) row) }
     ensures length { IfOk result (λ row. length row ≡ length f.now) }
     ensures truth { IfOk result (λ row. (x : ℕ → Bool) (i : ℕ) → i < length f.now
-        → row_value (G.node_value gates.new x) row i ≡ (row_value (G.node_value gates.old x) f.now i && row_value (G.node_value gates.old x) g.now i)) }
+        → row_value (G.node_value gates.new x) row i
+        ≡ (row_value (G.node_value gates.old x) f.now i
+        && row_value (G.node_value gates.old x) g.now i)) }
 {
     let mut row = NodeList::new(alloc);
     for place in 0..f.len() {

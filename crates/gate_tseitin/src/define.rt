@@ -58,7 +58,8 @@ pub fn add_clause(
     ensures is { OnOk result (cnf.new.clauses ≡ cnf.old.clauses
         ++ map (literal_of names.now.list.items) nodes.now ∷ []) }
     ensures value { OnOk result ((v : ℕ → Bool) → satisfied v cnf.new.clauses
-        ≡ (satisfied v cnf.old.clauses && any_node (named_values v names.now.list.items) nodes.now)) }
+        ≡ (satisfied v cnf.old.clauses && any_node (named_values v names.now.list.items)
+        nodes.now)) }
 {
     let clause = clause_of(alloc, names, nodes, cnf.variables)?;
     cnf.clauses.push(clause)
@@ -108,7 +109,8 @@ fn define_or(
     ensures value { OnOk result ((v : ℕ → Bool) → satisfied v cnf.new.clauses
         ≡ (satisfied v cnf.old.clauses
         && alike (value_among (named_values v names.now.list.items) output)
-        ((value_among (named_values v names.now.list.items) a) || (value_among (named_values v names.now.list.items) b)))) }
+        ((value_among (named_values v names.now.list.items) a)
+        || (value_among (named_values v names.now.list.items) b)))) }
 {
     add_clause(alloc, cnf, names, &[output, a.opposite()])?;
     add_clause(alloc, cnf, names, &[output, b.opposite()])?;
@@ -132,7 +134,8 @@ fn define_where(
     ensures value { OnOk result ((v : ℕ → Bool) → satisfied v cnf.new.clauses
         ≡ (satisfied v cnf.old.clauses
         && (not (value_among (named_values v names.now.list.items) condition)
-        || alike (value_among (named_values v names.now.list.items) output) (value_among (named_values v names.now.list.items) node)))) }
+        || alike (value_among (named_values v names.now.list.items) output)
+        (value_among (named_values v names.now.list.items) node)))) }
 {
     add_clause(
         alloc,
@@ -165,7 +168,8 @@ fn define_xor(
     ensures value { OnOk result ((v : ℕ → Bool) → satisfied v cnf.new.clauses
         ≡ (satisfied v cnf.old.clauses
         && alike (value_among (named_values v names.now.list.items) output)
-        (xor (value_among (named_values v names.now.list.items) a) (value_among (named_values v names.now.list.items) b)))) }
+        (xor (value_among (named_values v names.now.list.items) a)
+        (value_among (named_values v names.now.list.items) b)))) }
 {
     define_where(alloc, cnf, names, output, a, b.opposite())?;
     define_where(alloc, cnf, names, output, a.opposite(), b)

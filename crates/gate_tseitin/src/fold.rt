@@ -114,7 +114,8 @@ fn ask_all(asked: &mut [u8], store: &CircuitStore, sure: Node, roots: &[Node], m
     requires marks_each { length marks.now ≡ length store.now }
     requires sure_there { BelongsTo store.now sure }
     requires roots_there { All (λ n. BelongsTo store.now n) roots.now }
-    ensures { (k : ℕ) → Asks asked.old asked.new k (all_shares store.now sure roots.now marks.now k) }
+    ensures { (k : ℕ) → Asks asked.old asked.new k
+        (all_shares store.now sure roots.now marks.now k) }
 {
     ask(asked, sure, 2);
     ask_nodes(asked, roots);

@@ -33,9 +33,11 @@ fn open_operand(
         All (IsOperand marks.now kept.now) waiting.new.items) }
     ensures kept { OnOk result (All (HasMark kept.now) leaves.old.items →
         All (HasMark kept.now) leaves.new.items) }
-    ensures value { OnOk result ((v : ℕ → Bool) (vs : List Bool) → AreComputed store.now kept.now v vs →
+    ensures value { OnOk result ((v : ℕ → Bool) (vs : List Bool) →
+        AreComputed store.now kept.now v vs →
         (all_nodes vs leaves.new.items && all_nodes vs waiting.new.items)
-        ≡ (all_nodes vs leaves.old.items && (all_nodes vs waiting.old.items && value_among vs node))) }
+        ≡ (all_nodes vs leaves.old.items && (all_nodes vs waiting.old.items
+        && value_among vs node))) }
 {
     // for the proof: only the clauses name the marks
     let _ = marks;

@@ -151,7 +151,9 @@ fn keep(
     ensures fewer { (formula : List (List ℤ)) (count : ℕ) (d : Entries) →
         IsSearch formula log.old.lines log.old.checker trail.old count d →
         HasNoPart trail.old d analysis.now.literals.items →
-        IfOk result (λ taken. taken ≡ Taken.Added → remaining trail.old.variables (behind formula log.new.lines) < remaining trail.old.variables (behind formula log.old.lines)) }
+        IfOk result (λ taken. taken ≡ Taken.Added →
+        remaining trail.old.variables (behind formula log.new.lines)
+        < remaining trail.old.variables (behind formula log.old.lines)) }
     ensures taken { (formula : List (List ℤ)) (count : ℕ) (d : Entries) →
         IsSearch formula log.old.lines log.old.checker trail.old count d →
         HasNoPart trail.old d analysis.now.literals.items →
@@ -252,7 +254,9 @@ fn take_lemma<C: Chooser>(
     ensures room { OnOk result (AreWithin budget log.new.lines) }
     ensures fewer { (formula : List (List ℤ)) → IsSearch formula log.old.lines log.old.checker
         trail.old store.old.first store.old.dropped →
-        IfOk result (λ turn. turn ≡ Turn.On → remaining trail.old.variables (behind formula log.new.lines) < remaining trail.old.variables (behind formula log.old.lines)) }
+        IfOk result (λ turn. turn ≡ Turn.On → remaining trail.old.variables
+        (behind formula log.new.lines) < remaining trail.old.variables
+        (behind formula log.old.lines)) }
 {
     // What is learnt under a spent budget is the further lemma, which isn't kept.
     if is_spent(budget, log.lines.len()) {
@@ -301,7 +305,8 @@ fn take_conflict<C: Chooser>(
     ensures on { (formula : List (List ℤ)) → IsSearch formula log.old.lines log.old.checker
         trail.old store.old.first store.old.dropped →
         IfOk result (λ turn. turn ≡ Turn.On →
-        (remaining trail.old.variables (behind formula log.new.lines) < remaining trail.old.variables (behind formula log.old.lines))
+        (remaining trail.old.variables (behind formula log.new.lines)
+        < remaining trail.old.variables (behind formula log.old.lines))
         ⊎ ((log.new.lines ≡ log.old.lines)
         × (entry_count store.new.dropped < entry_count store.old.dropped))) }
 {
