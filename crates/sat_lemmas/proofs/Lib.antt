@@ -1,4 +1,4 @@
 mod Taking
 pub mod Hints
 pub mod Keeping
-pub mod Copying
+pub mod Moving

@@ -10,8 +10,8 @@ mod log;
 
 pub use log::{LemmaLog, Taken};
 
-mod copy;
 mod mark;
+mod moved;
 mod shorten;
 mod stay;
 

@@ -5,8 +5,8 @@ ghost use Rattle.std.specs.List.{list_any};
 ghost use Rattle.sat_lrat.specs.Step.{Refutes, is_empty_lemma};
 ghost use Rattle.sat_lemmas.specs.Kept.{ArePart};
 
-use crate::copy::copy_marked;
 use crate::mark::mark_needed;
+use crate::moved::move_marked;
 use crate::stay::{are_right, is_empty_lemma};
 use sat_dimacs::Cnf;
 use sat_lrat::{Line, LineList};
@@ -38,26 +38,25 @@ fn marks_of(alloc: Global, clauses: usize, lines: &[Line]) -> Result<Vec<bool>, 
     Ok(marks)
 }
 
-/// The lines that the last one is drawn from, if these need no other.
-fn needed(alloc: Global, clauses: usize, lines: &[Line]) -> Result<Option<LineList>, AllocError>
-    ensures refutes { (formula : List (List ℤ)) → length formula ≡ clauses →
-        Refutes formula lines.now →
-        IfOk result (λ found. IfSome found (λ rest. Refutes formula rest)) }
-    ensures part { IfOk result (λ found. IfSome found (λ rest. ArePart rest lines.now)) }
+/// The lines that the last one is drawn from, if these need no other; else all lines. Each is moved, and none copied.
+fn needed(alloc: Global, clauses: usize, lines: LineList) -> Result<LineList, AllocError>
+    ensures refutes { (formula : List (List ℤ)) → length formula ≡ clauses → Refutes formula lines →
+        IfOk result (λ rest. Refutes formula rest) }
+    ensures part { IfOk result (λ rest. ArePart rest lines) }
 {
-    let marks = marks_of(alloc, clauses, lines)?;
-    if !are_right(clauses, &marks, lines) {
-        return Ok(None);
+    let marks = marks_of(alloc, clauses, lines.lines())?;
+    if !are_right(clauses, &marks, lines.lines()) {
+        return Ok(lines);
     }
-    let rest = copy_marked(alloc, lines, &marks)?;
-    Ok(Some(rest))
+    let rest = move_marked(alloc, lines, &marks)?;
+    Ok(rest)
 }
 
 /// Leaves out the lines of a refutation that it doesn't need: those behind the first empty lemma, and the lemmas from which
 /// that one isn't drawn, directly or by others. The only error is want of memory.
 ///
-/// The lines are left as they are where they have no empty lemma, or where the numbers of the lemmas aren't those behind the
-/// clauses' in turn.
+/// The lines are left as they are where they have no empty lemma, and those up to the first one where the numbers of the
+/// lemmas aren't those behind the clauses' in turn. What stays is moved, and not copied.
 pub fn trim(alloc: Global, cnf: &Cnf, lines: LineList) -> Result<LineList, AllocError>
     // What the lines refute is still refuted.
     ensures refutes { Refutes cnf.now.clauses lines →
@@ -69,9 +68,8 @@ pub fn trim(alloc: Global, cnf: &Cnf, lines: LineList) -> Result<LineList, Alloc
     let Some(count) = front(lines.lines()) else {
         return Ok(lines);
     };
-    let (first, _) = lines.lines().split_at(count);
-    match needed(alloc, cnf.clauses.len(), first)? {
-        Some(rest) => Ok(rest),
-        None => Ok(lines),
-    }
+    let mut first = lines;
+    first.truncate(count);
+    let rest = needed(alloc, cnf.clauses.len(), first)?;
+    Ok(rest)
 }

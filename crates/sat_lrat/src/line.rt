@@ -1,6 +1,6 @@
 //! Lines of a refutation, lists of them, and what a clause has beside false literals.
 
-ghost use Rattle.std.specs.Prelude.{◌≡◌, ◌==◌, ◌<◌, ◌++◌, ◌∷◌, [], length, slice_get, is_ok, if◌then◌else◌, Some};
+ghost use Rattle.std.specs.Prelude.{◌≡◌, ◌==◌, ◌<◌, ◌++◌, ◌∷◌, [], length, reverse, slice_get, take, is_ok, if◌then◌else◌, IfNone, IfSome, Some};
 
 use sat_dimacs::{Clause, Cnf};
 use smallvec::SmallVec;
@@ -127,6 +127,28 @@ impl LineList {
     {
         self.lines.push(item)?;
         Ok(())
+    }
+
+    /// Takes the last line off, if there is one.
+    pub fn pop(&mut self) -> Option<Line>
+        ensures some { IfSome result (λ line. self.old ≡ self.new ++ line ∷ []) }
+        ensures none { IfNone result ((self.old ≡ []) × (self.new ≡ [])) }
+    {
+        self.lines.pop()
+    }
+
+    /// Lets go of the lines behind so many.
+    pub fn truncate(&mut self, count: usize)
+        ensures { self.new ≡ take count self.old }
+    {
+        self.lines.truncate(count);
+    }
+
+    /// Turns the order of the lines.
+    pub fn reverse(&mut self)
+        ensures { self.new ≡ reverse self.old }
+    {
+        self.lines.reverse();
     }
 
     /// How many lines there are.
