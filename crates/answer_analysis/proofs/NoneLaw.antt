@@ -1,8 +1,9 @@
 -- What is ruled out of a model that was made ready.
-use Rattle.std.proofs.Common.{◌≡◌, ◌∙◌, ℕ, true, List, [], ◌∷◌, ◌++◌, map, length, Option, Some, slice_get, refl, sym, ap, subst, arith, length-append}
+use Rattle.std.proofs.Common.{◌≡◌, ◌∙◌, ℕ, true, List, length, Option, Some, slice_get, refl, sym, ap, subst}
 use Rattle.std.specs.Prelude.{IfSome}
 use Rattle.std.proofs.lemmas.Bool.{false≢true}
-use Rattle.std.proofs.lemmas.List.{length-map, map-append}
+use Rattle.std.proofs.lemmas.List.{length-map}
+use Rattle.core_tree.specs.declared.model.Command.{Command}
 use Rattle.core_tree.specs.declared.model.Model.{Model}
 use Rattle.core_tree.specs.declared.model.Sig.{Sig}
 use Rattle.core_tree.specs.declared.model.SigKind.{SigKind}
@@ -18,48 +19,44 @@ use Rattle.core_meaning.specs.Kept.{world_of}
 use Rattle.core_meaning.specs.Meaning.{no_names}
 use Rattle.core_meaning.specs.Satisfied.{HoldsAt}
 use Rattle.core_meaning.specs.Sequence.{LassoValue}
-use Rattle.form_target.specs.declared.target.Part.{Part}
-use Rattle.form_target.specs.Targets.{fact_claims, HoldsWith}
+use Rattle.form_target.specs.Targets.{HoldsWith}
 use Rattle.bound_uppers.specs.declared.table.Bounds.{Bounds}
 use Rattle.bound_uppers.specs.Table.{IsTable}
 use Rattle.bound_uppers.specs.Uppers.{AreUppers}
 use Rattle.answer_search.specs.Clauses.{Meets, IsRuledOut}
 use Rattle.answer_checks.proofs.Kept.{named_by}
 use Rattle.answer_analysis.specs.declared.ready.Prepared.{Prepared}
-use Rattle.answer_analysis.specs.Found.{IsReady, IsTraceOf, IsUsual, NoneWithin, NoneSatisfies, RuledOutMeansNone}
+use Rattle.answer_analysis.specs.declared.ready.Ready.{Ready}
+use Rattle.answer_analysis.specs.Found.{IsPrepared, IsReady, IsTraceOf, IsUsual, NoneWithin, NoneSatisfies, RuledOutMeansNone}
 
--- two lists with one more at their ends have the same at their ends
-last_same : {X : Type 0} (xs ys : List X) (x y : X) → xs ++ x ∷ [] ≡ ys ++ y ∷ [] → x ≡ y
-last_same [] [] x y e = cc
-last_same [] (b ∷ ys) x y e = absurd (omega (arith, ap length e, length-append ys (y ∷ [])))
-last_same (a ∷ xs) [] x y e = absurd (omega (arith, ap length e, length-append xs (x ∷ [])))
-last_same (a ∷ xs) (b ∷ ys) x y e = last_same xs ys x y (let rest : xs ++ x ∷ [] ≡ ys ++ y ∷ [] = cc in rest)
+-- an item at a place of a list is one
+pub same_item : {X : Type 0} (xs : List X) (k n : ℕ) (x y : X) → k ≡ n → slice_get xs k ≡ Some x → slice_get xs n ≡ Some y → x ≡ y
+same_item xs k n x y same at there = let both : Some x ≡ Some y = sym at ∙ ap (slice_get xs) same ∙ there in cc
 
-module _ (number : ℕ) (prepared : Prepared) (ready : IsReady number prepared) (lasso : LassoValue) (trace : IsTraceOf prepared lasso) where
-  abbrev claim : Part → Claim
-  claim p = claim_of p.formula
+module _ (number : ℕ) (prepared : Prepared) (made : IsPrepared number prepared) (lasso : LassoValue) (trace : IsTraceOf prepared.ready lasso) where
+  abbrev ready : IsReady number prepared.ready
+  ready = made.ready
 
-  -- the last part is the command
+  -- a trace is one of the command that the target is made of
   same_command : claim_of trace.command.formula ≡ claim_of ready.command.formula
   same_command =
-      last_same (map claim trace.facts) (fact_claims prepared.model.facts) (claim trace.command) (claim_of ready.command.formula)
-      (sym (map-append claim trace.facts (trace.command ∷ [])) ∙ ap (map claim) (sym trace.parts_are) ∙ ready.parts_are)
+      ap (λ (c : Command). claim_of c.formula) (same_item prepared.ready.model.commands prepared.ready.command number trace.command ready.command ready.asked trace.chosen ready.chosen)
 
   -- what the scopes give is a world for the model
-  of_model : length (world_of prepared.scopes lasso).top ≡ length prepared.model.sigs
-  of_model = length-map prepared.scopes.numbers (λ (s : SigScope). s.top) ∙ ready.counted
+  of_model : length (world_of prepared.ready.scopes lasso).top ≡ length prepared.ready.model.sigs
+  of_model = length-map prepared.ready.scopes.numbers (λ (s : SigScope). s.top) ∙ ready.counted
 
   -- a lasso that satisfies the model and the command meets the target
   meets : Meets prepared.target lasso
   meets =
-      let is = ready.target_is in
+      let is = made.target_is in
       let s = trace.satisfies in
-      let parts : HoldsWith prepared.model prepared.scopes (claim_of ready.command.formula) is.asked lasso =
+      let parts : HoldsWith prepared.ready.model prepared.ready.scopes (claim_of ready.command.formula) is.asked lasso =
       record {
         numbers = s.keeps.numbers;
-        declared = λ k d lt i never. never ((is.says (world_of prepared.scopes lasso) i of_model).1 (s.declared i) k d lt);
+        declared = λ k d lt i never. never ((is.says (world_of prepared.ready.scopes lasso) i of_model).1 (s.declared i) k d lt);
         facts_hold = s.facts_hold;
-        command_holds = subst (λ (f : Claim). HoldsAt prepared.model prepared.scopes lasso f no_names 0) same_command s.command_holds;
+        command_holds = subst (λ (f : Claim). HoldsAt prepared.ready.model prepared.ready.scopes lasso f no_names 0) same_command s.command_holds;
       } in
       let target = (is.same lasso).1 parts in
       (target.numbers, target.formulas)
@@ -80,28 +77,28 @@ rightly_of model scopes are = record {
   only = λ s d e get there top. top_kind d.kind e (sig_scope model scopes are s d e get there) top;
 }
 
-pub right_of : (number : ℕ) (prepared : Prepared) → IsReady number prepared → IsUsual prepared.model → IsRight prepared.model prepared.scopes
-right_of number prepared ready usual = record {
-  kept = ready.kept;
-  plain = ready.plain;
-  named = named_by prepared.model ready.kept usual;
+pub right_of : (number : ℕ) (ready : Ready) → IsReady number ready → IsUsual ready.model → IsRight ready.model ready.scopes
+right_of number ready is usual = record {
+  kept = is.kept;
+  plain = is.plain;
+  named = named_by ready.model is.kept usual;
   owned = usual;
-  rightly = rightly_of prepared.model prepared.scopes ready.scopes_are;
+  rightly = rightly_of ready.model ready.scopes is.scopes_are;
 }
 
-none_within : (number : ℕ) (prepared : Prepared) → IsReady number prepared → (bounds : Bounds) → AreBoundsOf prepared.model prepared.scopes bounds → IsTable bounds → IsRuledOut prepared.target bounds → SatisfyingAreCandidates → NoneWithin prepared bounds.states
-none_within number prepared ready bounds are table ruled law covered usual lasso over few trace =
-    let (r, other, renaming, renamed, candidate, satisfied) = law prepared.model prepared.scopes bounds lasso prepared.model.facts (claim_of trace.command.formula) (right_of number prepared ready usual) are over few trace.satisfies in
-    let shown : IsTraceOf prepared other = record { facts = trace.facts; command = trace.command; parts_are = trace.parts_are; satisfies = satisfied } in
-    ruled table covered other candidate (meets number prepared ready other shown)
+none_within : (number : ℕ) (prepared : Prepared) → IsPrepared number prepared → (bounds : Bounds) → AreBoundsOf prepared.ready.model prepared.ready.scopes bounds → IsTable bounds → IsRuledOut prepared.target bounds → SatisfyingAreCandidates → NoneWithin prepared bounds.states
+none_within number prepared made bounds are table ruled law covered usual lasso over few trace =
+    let (r, other, renaming, renamed, candidate, satisfied) = law prepared.ready.model prepared.ready.scopes bounds lasso prepared.ready.model.facts (claim_of trace.command.formula) (right_of number prepared.ready made.ready usual) are over few trace.satisfies in
+    let shown : IsTraceOf prepared.ready other = record { command = trace.command; chosen = trace.chosen; satisfies = satisfied } in
+    ruled table covered other candidate (meets number prepared made other shown)
 
-pub none_satisfies : (number : ℕ) (prepared : Prepared) → IsReady number prepared → IsRuledOut prepared.target prepared.bounds → SatisfyingAreCandidates → NoneSatisfies prepared
-none_satisfies number prepared ready ruled law = record {
-  candidates = λ covered lasso candidate trace. ruled ready.table covered lasso candidate (meets number prepared ready lasso trace);
-  lassos = subst (NoneWithin prepared) ready.states (none_within number prepared ready prepared.bounds ready.bounds_are ready.table ruled law);
+pub none_satisfies : (number : ℕ) (prepared : Prepared) → IsPrepared number prepared → IsRuledOut prepared.target prepared.ready.bounds → SatisfyingAreCandidates → NoneSatisfies prepared
+none_satisfies number prepared made ruled law = record {
+  candidates = λ covered lasso candidate trace. ruled made.ready.table covered lasso candidate (meets number prepared made lasso trace);
+  lassos = subst (NoneWithin prepared) made.ready.states (none_within number prepared made prepared.ready.bounds made.ready.bounds_are made.ready.table ruled law);
 }
 
 pub ruled_out : SatisfyingAreCandidates → RuledOutMeansNone
-ruled_out law number prepared states ready out =
-    let uppers = subst (λ (scopes : Scopes). AreUppers prepared.model scopes out.bounds.relations) ready.scoped out.uppers in
-    subst (NoneWithin prepared) out.count (none_within number prepared ready out.bounds (record { most = ready.bounds_are.most; origins = ready.bounds_are.origins; uppers = uppers; fixed = out.fixed }) out.table out.ruled law)
+ruled_out law number prepared states made out =
+    let uppers = subst (λ (scopes : Scopes). AreUppers prepared.ready.model scopes out.bounds.relations) made.scoped out.uppers in
+    subst (NoneWithin prepared) out.count (none_within number prepared made out.bounds (record { most = made.ready.bounds_are.most; origins = made.ready.bounds_are.origins; uppers = uppers; fixed = out.fixed }) out.table out.ruled law)

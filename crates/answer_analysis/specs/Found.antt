@@ -1,5 +1,5 @@
 -- What a model is made ready with, and what an analysis may answer.
-use Rattle.std.specs.Prelude.{◌≡◌, ◌≤◌, ◌<◌, ◌^◌, ◌⊎◌, ℕ, List, [], ◌∷◌, ◌++◌, length, map, All, ⊤, Option, Some, option_map, slice_get}
+use Rattle.std.specs.Prelude.{◌≡◌, ◌≤◌, ◌<◌, ◌^◌, ◌⊎◌, ℕ, List, length, All, ⊤, Option, Some, option_map, slice_get}
 use Rattle.base_types.specs.declared.place.Refusal.{Refusal}
 use Rattle.base_types.specs.declared.place.Rule.TheVariants.{Cells}
 use Rattle.syntax_tree.specs.declared.loaded.Loaded.{Loaded}
@@ -18,16 +18,16 @@ use Rattle.bound_scopes.specs.Limits.{AreScopes, IsScopeRule, no_command}
 use Rattle.bound_scopes.specs.Numbers.{IsListed}
 use Rattle.core_laws.specs.Typed.{ExtendsPlain}
 use Rattle.bound_definitions.specs.Numbers.{AreScopesBy}
-use Rattle.form_target.specs.Targets.{fact_claims, IsTargetOf}
-use Rattle.form_target.specs.declared.target.Part.{Part}
+use Rattle.form_target.specs.Targets.{IsTargetOf}
 use Rattle.resolve_model.specs.Refused.{IsOfReadings}
 use Rattle.answer_search.specs.Clauses.{IsCovered, SayTarget}
 use Rattle.answer_search.specs.Found.{AreNewWithin}
 use Rattle.answer_search.specs.Limits.{IsRuledOutOver}
-use Rattle.answer_texts.specs.Table.{AreLines}
+use Rattle.answer_texts.specs.Table.{IsTableOf}
 use Rattle.answer_trace.specs.Made.{AreRelationsOf, relation_labels_of, universe_texts}
 use Rattle.answer_laws.specs.Form.{HaveLassos, IsLassoOf}
 use Rattle.answer_analysis.specs.declared.ready.Prepared.{Prepared}
+use Rattle.answer_analysis.specs.declared.ready.Ready.{Ready}
 use Rattle.sat_lrat.specs.Step.{Refutes}
 use Rattle.sat_lrat.specs.Spent.{Spends}
 use Rattle.answer_analysis.specs.declared.answer.Answer.{Answer}
@@ -36,37 +36,39 @@ use Rattle.answer_analysis.specs.declared.fault.AnalyseFault.{AnalyseFault}
 use Rattle.answer_analysis.specs.declared.fault.AnalyseFault.TheVariants.{Refused, Read, Memory}
 
 -- a model made ready for its command of this number: the model keeps what resolved models keep, and no sig of it extends an
--- `in` sig; the parts are its facts and then that command, the target is that of the command under the scopes, these are the
--- ones that the rules give the command, the bounds are those of the model and the scopes and
+-- `in` sig; the scopes are the ones that the rules give the command, the bounds are those of the model and the scopes and
 -- have a table; the labels are exactly those of its relations and of its universe, an atom for each number of it, and each text
 -- under them is that of one lasso
-pub record IsReady (number : ℕ) (prepared : Prepared) : Type 0 where
-  pub kept : IsModel prepared.model
-  pub plain : ExtendsPlain prepared.model.sigs
+pub record IsReady (number : ℕ) (ready : Ready) : Type 0 where
+  pub kept : IsModel ready.model
+  pub plain : ExtendsPlain ready.model.sigs
   pub command : Command
-  pub chosen : slice_get prepared.model.commands number ≡ Some command
-  pub parts_are : map (λ (p : Part). claim_of p.formula) prepared.parts ≡ fact_claims prepared.model.facts ++ claim_of command.formula ∷ []
-  pub target_is : IsTargetOf prepared.model prepared.scopes (claim_of command.formula) prepared.target prepared.first_fact
-  pub scoped : prepared.target.scopes ≡ prepared.scopes
-  pub counted : length prepared.scopes.numbers ≡ length prepared.model.sigs
-  pub scopes_are : AreScopes prepared.model prepared.scopes
-  pub scoped_by : AreScopesBy prepared.model command prepared.scopes
-  pub listed : All (IsListed prepared.scopes.numbers) command.scope
-  pub table : IsTable prepared.bounds
-  pub bounds_are : AreBoundsOf prepared.model prepared.scopes prepared.bounds
-  pub states : prepared.bounds.states ≡ prepared.scopes.states
-  pub relations_are : AreRelationsOf prepared.model prepared.labels
-  pub labels_are : prepared.labels.relations ≡ relation_labels_of prepared.model prepared.scopes
-  pub atoms_are : prepared.labels.atoms ≡ universe_texts prepared.model prepared.scopes
-  pub read : HaveLassos prepared.labels
-  pub universe : length prepared.labels.atoms ≡ universe_size prepared.scopes
+  pub asked : ready.command ≡ number
+  pub chosen : slice_get ready.model.commands number ≡ Some command
+  pub counted : length ready.scopes.numbers ≡ length ready.model.sigs
+  pub scopes_are : AreScopes ready.model ready.scopes
+  pub scoped_by : AreScopesBy ready.model command ready.scopes
+  pub listed : All (IsListed ready.scopes.numbers) command.scope
+  pub table : IsTable ready.bounds
+  pub bounds_are : AreBoundsOf ready.model ready.scopes ready.bounds
+  pub states : ready.bounds.states ≡ ready.scopes.states
+  pub relations_are : AreRelationsOf ready.model ready.labels
+  pub labels_are : ready.labels.relations ≡ relation_labels_of ready.model ready.scopes
+  pub atoms_are : ready.labels.atoms ≡ universe_texts ready.model ready.scopes
+  pub read : HaveLassos ready.labels
+  pub universe : length ready.labels.atoms ≡ universe_size ready.scopes
 
--- a lasso satisfies a model that was made ready and its command, which is the last part
-pub record IsTraceOf (prepared : Prepared) (lasso : LassoValue) : Type 0 where
-  pub facts : List Part
-  pub command : Part
-  pub parts_are : prepared.parts ≡ facts ++ command ∷ []
-  pub satisfies : Satisfies prepared.model prepared.scopes lasso (claim_of command.formula)
+-- the same made ready for a search: the target is that of the command under the scopes
+pub record IsPrepared (number : ℕ) (prepared : Prepared) : Type 0 where
+  pub ready : IsReady number prepared.ready
+  pub target_is : IsTargetOf prepared.ready.model prepared.ready.scopes (claim_of ready.command.formula) prepared.target prepared.first_fact
+  pub scoped : prepared.target.scopes ≡ prepared.ready.scopes
+
+-- a lasso satisfies a model that was made ready and its command
+pub record IsTraceOf (ready : Ready) (lasso : LassoValue) : Type 0 where
+  pub command : Command
+  pub chosen : slice_get ready.model.commands ready.command ≡ Some command
+  pub satisfies : Satisfies ready.model ready.scopes lasso (claim_of command.formula)
 
 -- what is asked of a model beside that it was made ready: each field belongs to a sig, none stands for a relation parameter
 abbrev pub IsUsual : Model → Type 0
@@ -75,33 +77,39 @@ IsUsual model = AreOwned model
 -- where all formulas that are searched have plain forms, and the model is usual, no lasso of at most so many states satisfies the
 -- model and its command
 abbrev pub NoneWithin : Prepared → ℕ → Type 0
-NoneWithin prepared most = All IsCovered prepared.target.formulas → IsUsual prepared.model → (lasso : LassoValue) → IsLassoOver prepared.model prepared.scopes lasso → length lasso.states ≤ most → IsTraceOf prepared lasso → ⊥
+NoneWithin prepared most =
+    All IsCovered prepared.target.formulas → IsUsual prepared.ready.model →
+    (lasso : LassoValue) → IsLassoOver prepared.ready.model prepared.ready.scopes lasso → length lasso.states ≤ most → IsTraceOf prepared.ready lasso → ⊥
 
 -- what is ruled out over some number of states
 abbrev pub RuledOutMeansNone : Type 0
-RuledOutMeansNone = (number : ℕ) (prepared : Prepared) (states : ℕ) → IsReady number prepared → IsRuledOutOver prepared.model prepared.target states → NoneWithin prepared states
+RuledOutMeansNone = (number : ℕ) (prepared : Prepared) (states : ℕ) → IsPrepared number prepared → IsRuledOutOver prepared.ready.model prepared.target states → NoneWithin prepared states
 
 -- where all formulas that are searched have plain forms
 pub record NoneSatisfies (prepared : Prepared) : Type 0 where
   -- no lasso within the bounds, of as many states as they have, satisfies the model and its command
-  pub candidates : All IsCovered prepared.target.formulas → (lasso : LassoValue) → IsCandidate prepared.bounds lasso → IsTraceOf prepared lasso → ⊥
+  pub candidates : All IsCovered prepared.target.formulas → (lasso : LassoValue) → IsCandidate prepared.ready.bounds lasso → IsTraceOf prepared.ready lasso → ⊥
   -- and none at all of at most as many states as the scopes say
-  pub lassos : NoneWithin prepared prepared.scopes.states
+  pub lassos : NoneWithin prepared prepared.ready.scopes.states
+
+-- the rows of a table say what the variables of the bounds stand for
+abbrev pub RowsOf : Prepared → List (List ℕ) → Type 0
+RowsOf prepared = λ table. IsTableOf prepared.ready.labels prepared.ready.bounds table
 
 -- A trace satisfies the model and the command, is a lasso of the labels, and has the fewest states that show its sequence. Where
 -- there is no lasso, the lines refute the clauses, their lemmas are new and at most as many as the budget, and where all formulas
 -- that are searched have plain forms no lasso satisfies the model and the command, as `NoneSatisfies` says. Only a budget that is
 -- spent leaves it open: there are just as many lemmas, each new and none empty, and one more would pass; and it is below 3 to the
--- power of the number of variables. The clauses say what the target does, as `SayTarget` tells, and each row of the table is one
--- line.
+-- power of the number of variables. The clauses say what the target does, as `SayTarget` tells, and the rows of the table what
+-- their variables stand for.
 abbrev pub IsFoundIn : Prepared → Option ℕ → Answer → Type 0
-IsFoundIn prepared budget (Trace labels lasso) = (labels ≡ prepared.labels) × IsTraceOf prepared lasso × IsLassoOf prepared.labels lasso × (length lasso.states ≤ prepared.bounds.states) × HasFewestStates lasso
-IsFoundIn prepared budget (Refuted table states cnf lines) = (states ≡ prepared.bounds.states) × Refutes cnf.clauses lines × ((number : ℕ) → IsReady number prepared → NoneSatisfies prepared) × SayTarget prepared.target prepared.bounds cnf.clauses × AreNewWithin budget cnf.clauses lines × AreLines table
-IsFoundIn prepared budget (Unknown table cnf lines) = (budget ≡ Some (length lines)) × Spends cnf.clauses (length lines) lines × (length lines < 3 ^ cnf.variables) × SayTarget prepared.target prepared.bounds cnf.clauses × AreLines table
+IsFoundIn prepared budget (Trace labels lasso) = (labels ≡ prepared.ready.labels) × IsTraceOf prepared.ready lasso × IsLassoOf prepared.ready.labels lasso × (length lasso.states ≤ prepared.ready.bounds.states) × HasFewestStates lasso
+IsFoundIn prepared budget (Refuted table states cnf lines) = (states ≡ prepared.ready.bounds.states) × Refutes cnf.clauses lines × ((number : ℕ) → IsPrepared number prepared → NoneSatisfies prepared) × SayTarget prepared.target prepared.ready.bounds cnf.clauses × AreNewWithin budget cnf.clauses lines × RowsOf prepared table
+IsFoundIn prepared budget (Unknown table cnf lines) = (budget ≡ Some (length lines)) × Spends cnf.clauses (length lines) lines × (length lines < 3 ^ cnf.variables) × SayTarget prepared.target prepared.ready.bounds cnf.clauses × RowsOf prepared table
 
 -- the same of the model of what is loaded, made ready for its command of this number
 abbrev pub IsFound : Loaded → ℕ → Option ℕ → Answer → Type 0
-IsFound loaded number budget answer = (prepared : Prepared) × (prepared.loaded ≡ loaded) × IsReady number prepared × IsFoundIn prepared budget answer
+IsFound loaded number budget answer = (prepared : Prepared) × (prepared.ready.loaded ≡ loaded) × IsPrepared number prepared × IsFoundIn prepared budget answer
 
 -- the name is that of the text of the place, which is one of those that are loaded
 abbrev pub IsOfText : Loaded → Refusal → List ℕ → Type 0

@@ -1,14 +1,15 @@
-//! A model made ready for a search: its scopes, bounds and target.
+//! A model made ready for a command: its scopes, bounds and labels, and for a search the target.
 
-ghost use Rattle.std.specs.Prelude.{◌≡◌, ◌<◌, ◌≤◌, map, All, IfOk, IfErr, IfSome, length, slice_get};
+ghost use Rattle.std.specs.Prelude.{◌≡◌, ◌<◌, ◌≤◌, ℕ, map, All, IfOk, IfErr, IfSome, length, slice_get};
 ghost use Rattle.bound_uppers.specs.declared.table.Bound.{Bound};
 ghost use Rattle.bound_uppers.specs.Table.{IsTable, are_fixed};
 ghost use Rattle.bound_owners.specs.Own.{HasOrigins};
 ghost use Rattle.bound_uppers.specs.Uppers.{AreUppers};
 ghost use Rattle.core_meaning.specs.Kept.{universe_size};
-ghost use Rattle.answer_analysis.specs.Found.{IsLoadedFault, IsReady};
+ghost use Rattle.answer_analysis.specs.Found.{IsLoadedFault, IsPrepared, IsReady};
 ghost use Rattle.core_laws.specs.Typed.{ExtendsPlain};
 ghost use Rattle.core_tree.specs.Models.{IsModel};
+ghost use Rattle.resolve_check.specs.Kept.{IsModelButTypes};
 ghost use Rattle.bound_scopes.specs.Limits.{AreScopes};
 ghost use Rattle.bound_definitions.specs.Numbers.{AreScopesBy};
 ghost use Rattle.bound_scopes.specs.Numbers.{IsListed};
@@ -16,7 +17,7 @@ ghost use Rattle.answer_trace.specs.Made.{AreRelationsOf, relation_labels_of, un
 ghost use Rattle.answer_laws.specs.Form.{HaveLassos};
 
 use crate::fault::{AnalyseFault, refused_in};
-use answer_checks::{extends_plain, has_universe, have_lassos, keeps_whole_model};
+use answer_checks::{extends_plain, has_universe, have_lassos, is_typed_model};
 use answer_trace::{Labels, make_labels};
 use base_types::{Fault, Position, Refusal, Rule};
 use bound_scopes::scopes;
@@ -24,29 +25,36 @@ use bound_uppers::{Bounds, bounds};
 use core_meaning::{Scopes, Target};
 use core_tree::Model;
 use form_skolem::open_params;
-use form_target::{PartList, parts_of, target_of};
+use form_target::target_of;
 use resolve_model::resolve;
 use std::alloc::{AllocError, Global};
 use syntax_tree::Loaded;
 
-/// A model and a command, made ready for a search.
+/// A model and a command, made ready for a trace to be read or judged.
 #[derive(Drop)]
-pub struct Prepared {
+pub struct Ready {
     pub loaded: Loaded,
     pub model: Model,
+    /// The number of the command.
+    pub command: u32,
     pub scopes: Scopes,
     pub bounds: Bounds,
     pub labels: Labels,
+}
+
+/// The same made ready for a search.
+#[derive(Drop)]
+pub struct Prepared {
+    pub ready: Ready,
     pub target: Target,
-    /// The facts and the command as they were resolved.
-    pub parts: PartList,
     /// How many formulas of the target say what the declarations do; those of the facts follow.
     pub first_fact: u32,
 }
 
 /// The model of what is loaded.
 fn model_of(alloc: Global, loaded: &Loaded) -> Result<Model, AnalyseFault>
-    ensures { IfErr result (IsLoadedFault loaded.now) }
+    ensures kept { IfOk result IsModelButTypes }
+    ensures fault { IfErr result (IsLoadedFault loaded.now) }
 {
     match resolve(alloc, loaded) {
         Ok(model) => Ok(model),
@@ -55,13 +63,14 @@ fn model_of(alloc: Global, loaded: &Loaded) -> Result<Model, AnalyseFault>
     }
 }
 
-/// The model, where it keeps what resolved models keep, and no sig of it extends an `in` sig. The fields
-/// that stand for relation parameters take nothing of that away; it is tested once more on the model itself.
+/// The model, where the types of its fields are those of their declarations too, and no sig of it extends an `in` sig. No
+/// resolved model is known that is not so.
 fn kept(alloc: Global, model: Model) -> Result<Model, AllocError>
+    requires { IsModelButTypes model }
     ensures kept { IfOk result IsModel }
     ensures plain { IfOk result (λ m. ExtendsPlain m.sigs) }
 {
-    let is_kept = keeps_whole_model(alloc, &model)?;
+    let is_kept = is_typed_model(alloc, &model)?;
     if !is_kept {
         return Err(AllocError);
     }
@@ -155,19 +164,19 @@ fn labels_of(alloc: Global, model: &Model, scopes: &Scopes) -> Result<Labels, Al
     Ok(labels)
 }
 
-/// Resolves and bounds a loaded model and writes its formulas in the kernel of the language. The
-/// model keeps what resolved models keep.
+/// Resolves and bounds a loaded model. The model keeps what resolved models keep.
 ///
 /// A refusal is the first broken rule: on names, sigs, fields and readings, then of the command
 /// and its scopes, with the name of the text that has its place.
-pub fn prepare_loaded(alloc: Global, loaded: Loaded, command: u32) -> Result<Prepared, AnalyseFault>
-    ensures kept { IfOk result (λ prepared. IsModel prepared.model) }
-    ensures loaded { IfOk result (λ prepared. prepared.loaded ≡ loaded) }
+pub fn ready_loaded(alloc: Global, loaded: Loaded, command: u32) -> Result<Ready, AnalyseFault>
+    ensures kept { IfOk result (λ ready. IsModel ready.model) }
+    ensures loaded { IfOk result (λ ready. ready.loaded ≡ loaded) }
     ensures ready { IfOk result (IsReady command) }
     ensures fault { IfErr result (IsLoadedFault loaded) }
 {
     let resolved = model_of(alloc, &loaded)?;
-    let model = kept(alloc, open_params(alloc, resolved, command)?)?;
+    let opened = open_params(alloc, resolved, command)?;
+    let model = kept(alloc, opened)?;
     let scopes = scopes_of(alloc, &loaded, &model, command)?;
     if command as usize >= model.commands.len() {
         // The scopes are refused then.
@@ -176,16 +185,42 @@ pub fn prepare_loaded(alloc: Global, loaded: Loaded, command: u32) -> Result<Pre
     let chosen = model.commands.get(command as usize);
     let bounds = bounds_of(alloc, &loaded, &model, &scopes, chosen.keyword)?;
     let labels = labels_of(alloc, &model, &scopes)?;
-    let (target, first_fact) = target_of(alloc, &model, &scopes, chosen)?;
-    let parts = parts_of(alloc, &model, chosen)?;
-    Ok(Prepared {
+    Ok(Ready {
         loaded,
         model,
+        command,
         scopes,
         bounds,
         labels,
+    })
+}
+
+/// The same with the target of its command: the model's formulas, written in the kernel of the language.
+pub fn with_target(alloc: Global, ready: Ready) -> Result<Prepared, AllocError>
+    ensures same { IfOk result (λ prepared. prepared.ready ≡ ready) }
+    ensures prepared { (number : ℕ) → IsReady number ready → IfOk result (IsPrepared number) }
+{
+    let model = &ready.model;
+    if ready.command as usize >= model.commands.len() {
+        // The command is one of the model's.
+        return Err(AllocError);
+    }
+    let chosen = model.commands.get(ready.command as usize);
+    let (target, first_fact) = target_of(alloc, model, &ready.scopes, chosen)?;
+    Ok(Prepared {
+        ready,
         target,
-        parts,
         first_fact,
     })
+}
+
+/// A loaded model, made ready for a search for its command of this number. Refused as [`ready_loaded`] is.
+pub fn prepare_loaded(alloc: Global, loaded: Loaded, command: u32) -> Result<Prepared, AnalyseFault>
+    ensures loaded { IfOk result (λ prepared. prepared.ready.loaded ≡ loaded) }
+    ensures prepared { IfOk result (IsPrepared command) }
+    ensures fault { IfErr result (IsLoadedFault loaded) }
+{
+    let ready = ready_loaded(alloc, loaded, command)?;
+    let prepared = with_target(alloc, ready)?;
+    Ok(prepared)
 }

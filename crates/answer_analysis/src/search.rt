@@ -3,11 +3,14 @@
 ghost use Rattle.std.specs.Prelude.{◌≤◌, ℕ, length, Option, IfOk, IfErr, IsTrue};
 ghost use Rattle.bound_uppers.specs.Shortest.{HasFewestStates};
 ghost use Rattle.answer_laws.specs.Form.{IsLassoOf};
+ghost use Rattle.answer_search.specs.Clauses.{RulesOut, SaysTargetWithin};
+ghost use Rattle.answer_search.specs.Found.{IsFoundWithin};
+ghost use Rattle.answer_search.specs.declared.found.Found.TheVariants as found;
 ghost use Rattle.answer_analysis.specs.Found.{IsFound, IsFoundIn, IsLoadedFault, IsTraceOf};
 
 use crate::answer::Answer;
 use crate::fault::AnalyseFault;
-use crate::ready::{Prepared, prepare_loaded};
+use crate::ready::{Prepared, Ready, prepare_loaded};
 use answer_checks::fits_labels;
 use answer_search::{Found, search_target};
 use answer_texts::table;
@@ -15,6 +18,7 @@ use bound_laws::satisfying_lassos_are_candidates;
 use core_meaning::Lasso;
 use eval_check::satisfies;
 use sat_decide::{Boxed, Chooser};
+use sat_lrat::Proof;
 use std::alloc::{AllocError, Global};
 use syntax_tree::Loaded;
 
@@ -24,7 +28,7 @@ use syntax_tree::Loaded;
 /// Where there is none of as many states as the command's scopes have, the answer has clauses that just such lassos
 /// satisfy, of these the canonical ones, and lines that refute them. Only under a budget the search may end before it
 /// knows. Refused as
-/// [`prepare_loaded`](crate::prepare_loaded()) is.
+/// [`ready_loaded`](crate::ready_loaded()) is.
 pub fn analyse_loaded(
     alloc: Global,
     loaded: Loaded,
@@ -42,19 +46,20 @@ pub fn analyse_loaded(
 
 /// Whether a lasso is one of the labels of a model that was made ready, and satisfies the model and its command, by their
 /// meaning alone.
-pub fn is_trace(alloc: Global, prepared: &Prepared, lasso: &Lasso) -> Result<bool, AllocError>
-    ensures trace { IfOk result (λ b. IsTrue b → IsTraceOf prepared.now lasso.now) }
-    ensures fits { IfOk result (λ b. IsTrue b → IsLassoOf prepared.now.labels lasso.now) }
+pub fn is_trace(alloc: Global, ready: &Ready, lasso: &Lasso) -> Result<bool, AllocError>
+    ensures trace { IfOk result (λ b. IsTrue b → IsTraceOf ready.now lasso.now) }
+    ensures fits { IfOk result (λ b. IsTrue b → IsLassoOf ready.now.labels lasso.now) }
 {
-    if !fits_labels(&prepared.labels, lasso) {
+    if !fits_labels(&ready.labels, lasso) {
         return Ok(false);
     }
-    let Some((command, _)) = prepared.parts.as_slice().split_last() else {
-        // The command is a part.
+    let model = &ready.model;
+    if ready.command as usize >= model.commands.len() {
+        // The command is one of the model's.
         return Err(AllocError);
-    };
-    let model = &prepared.model;
-    let holds = satisfies(alloc, model, &prepared.scopes, lasso, &command.formula)?;
+    }
+    let command = model.commands.get(ready.command as usize);
+    let holds = satisfies(alloc, model, &ready.scopes, lasso, &command.formula)?;
     Ok(holds)
 }
 
@@ -69,40 +74,76 @@ pub fn search_prepared(
     ensures { IfOk result (IsFoundIn prepared budget) }
 {
     let mut boxed = Boxed { chooser };
-    let target = &prepared.target;
-    match search_target(alloc, target, &prepared.bounds, &mut boxed, budget)? {
+    let found = found_in(alloc, &prepared, &mut boxed, budget)?;
+    match found {
         Found::Trace(lasso) => trace_of(alloc, prepared, lasso),
-        Found::Refuted(proof) => {
-            satisfying_lassos_are_candidates();
-            let table = table(alloc, &prepared.labels, &prepared.bounds)?;
-            Ok(Answer::Refuted {
-                table,
-                states: proof.states,
-                cnf: proof.cnf,
-                lines: proof.lines,
-            })
-        }
-        Found::Unknown(proof) => {
-            let table = table(alloc, &prepared.labels, &prepared.bounds)?;
-            Ok(Answer::Unknown {
-                table,
-                cnf: proof.cnf,
-                lines: proof.lines,
-            })
-        }
+        Found::Refuted(proof) => refuted_of(alloc, &prepared, proof),
+        Found::Unknown(proof) => unknown_of(alloc, &prepared, proof),
     }
+}
+
+/// What a search for the target of a prepared model comes to.
+fn found_in<C: Chooser>(
+    alloc: Global,
+    prepared: &Prepared,
+    chooser: &mut C,
+    budget: Option<u64>,
+) -> Result<Found, AllocError>
+    ensures found { IfOk result (IsFoundWithin prepared.now.ready.bounds.states budget) }
+    ensures says { IfOk result (SaysTargetWithin prepared.now.target prepared.now.ready.bounds) }
+    ensures none { IfOk result (RulesOut prepared.now.target prepared.now.ready.bounds) }
+{
+    let bounds = &prepared.ready.bounds;
+    let found = search_target(alloc, &prepared.target, bounds, chooser, budget)?;
+    Ok(found)
+}
+
+/// The answer that there is none.
+fn refuted_of(alloc: Global, prepared: &Prepared, proof: Proof) -> Result<Answer, AllocError>
+    ensures { (budget : Option ℕ) →
+        IsFoundWithin prepared.now.ready.bounds.states budget (found.Refuted proof) →
+        SaysTargetWithin prepared.now.target prepared.now.ready.bounds (found.Refuted proof) →
+        RulesOut prepared.now.target prepared.now.ready.bounds (found.Refuted proof) →
+        IfOk result (IsFoundIn prepared.now budget) }
+{
+    satisfying_lassos_are_candidates();
+    let ready = &prepared.ready;
+    let table = table(alloc, &ready.labels, &ready.bounds)?;
+    Ok(Answer::Refuted {
+        table,
+        states: proof.states,
+        cnf: proof.cnf,
+        lines: proof.lines,
+    })
+}
+
+/// The answer that a budget is spent.
+fn unknown_of(alloc: Global, prepared: &Prepared, proof: Proof) -> Result<Answer, AllocError>
+    ensures { (budget : Option ℕ) →
+        IsFoundWithin prepared.now.ready.bounds.states budget (found.Unknown proof) →
+        SaysTargetWithin prepared.now.target prepared.now.ready.bounds (found.Unknown proof) →
+        IfOk result (IsFoundIn prepared.now budget) }
+{
+    let ready = &prepared.ready;
+    let table = table(alloc, &ready.labels, &ready.bounds)?;
+    Ok(Answer::Unknown {
+        table,
+        cnf: proof.cnf,
+        lines: proof.lines,
+    })
 }
 
 /// The answer that a lasso is which a search has found.
 fn trace_of(alloc: Global, prepared: Prepared, lasso: Lasso) -> Result<Answer, AllocError>
-    requires few { length lasso.states ≤ prepared.bounds.states }
+    requires few { length lasso.states ≤ prepared.ready.bounds.states }
     requires fewest { HasFewestStates lasso }
     ensures { (budget : Option ℕ) → IfOk result (IsFoundIn prepared budget) }
 {
-    let holds = is_trace(alloc, &prepared, &lasso)?;
+    let ready = prepared.ready;
+    let holds = is_trace(alloc, &ready, &lasso)?;
     if !holds {
         return Err(AllocError);
     }
-    let labels = prepared.labels;
+    let labels = ready.labels;
     Ok(Answer::Trace { labels, lasso })
 }

@@ -2,10 +2,11 @@
 use Rattle.std.proofs.Common.{◌≡◌, ◌∙◌, ℕ, ℤ, zero, suc, ◌+◌, ◌-◌, ◌<◌, ◌≤◌, Bool, true, false, not, ◌||◌, cond, nat_lt, List, [], ◌∷◌, ◌++◌, map, take, length, slice_get, All, Option, Some, None, refl, sym, ap, subst, ⊎_elim, arith, length-append}
 use Rattle.std.specs.List.{Contains}
 use Rattle.std.proofs.lemmas.Bool.{cases_lt, ltb-true, false_from_ne_true}
-use Rattle.std.proofs.lemmas.List.{length-map, map-append}
+use Rattle.std.proofs.lemmas.List.{length-map}
 use Rattle.std.proofs.lemmas.List.Elements.{All-nil, All-cons, All-head, All-tail}
 use Rattle.std.proofs.lemmas.Option.{slice_get_within, get_or_from_slice_get}
 use Rattle.core_tree.specs.declared.model.Body.{Body}
+use Rattle.core_tree.specs.declared.model.Command.{Command}
 use Rattle.core_tree.specs.declared.model.Fact.{Fact}
 use Rattle.core_tree.specs.declared.tree.Formula.{Formula}
 use Rattle.core_tree.specs.declared.operators.TemporalUnary.TheVariants.{Always}
@@ -22,7 +23,6 @@ use Rattle.bound_uppers.specs.Candidates.{IsCandidate}
 use Rattle.bound_uppers.specs.Table.{IsTable}
 use Rattle.bound_uppers.specs.Uppers.{AreUppers}
 use Rattle.bound_laws.specs.Satisfying.{AreBoundsOf, IsLassoOver, SatisfyingAreCandidates}
-use Rattle.form_target.specs.declared.target.Part.{Part}
 use Rattle.form_target.specs.Targets.{IsWrittenOut, Adds, none_added, one_added, fact_claims, always_claims}
 use Rattle.core_tree.specs.Past.{no_depths, past_of}
 use Rattle.bmc_leaves.specs.Shown.{none_nested}
@@ -30,18 +30,11 @@ use Rattle.bmc_translate.specs.Forms.{IsPlain}
 use Rattle.answer_search.specs.Clauses.{IsCovered, HoldsFirst, Meets}
 use Rattle.answer_certificates.specs.Parts.{is_out, stays, staying, IsPartOf, RuleOut}
 use Rattle.answer_analysis.specs.declared.ready.Prepared.{Prepared}
-use Rattle.answer_analysis.specs.Found.{IsReady, IsUsual}
-use Rattle.answer_analysis.proofs.NoneLaw.{right_of}
+use Rattle.answer_analysis.specs.Found.{IsPrepared, IsReady, IsUsual}
+use Rattle.answer_analysis.proofs.NoneLaw.{right_of, same_item}
 use Rattle.answer_certificates.specs.Kept.{before, facts_at, KeepsFacts, KeptFactsRuleOut}
 
 -- ---- lists
-
--- two lists with one more at their ends have the same at their ends
-last_same : {X : Type 0} (xs ys : List X) (x y : X) → xs ++ x ∷ [] ≡ ys ++ y ∷ [] → x ≡ y
-last_same [] [] x y e = cc
-last_same [] (b ∷ ys) x y e = absurd (omega (arith, ap length e, length-append ys (y ∷ [])))
-last_same (a ∷ xs) [] x y e = absurd (omega (arith, ap length e, length-append xs (x ∷ [])))
-last_same (a ∷ xs) (b ∷ ys) x y e = last_same xs ys x y (let rest : xs ++ x ∷ [] ≡ ys ++ y ∷ [] = cc in rest)
 
 -- what is at a place of two lists
 at_left : {X : Type 0} (xs ys : List X) (k : ℕ) → k < length xs → slice_get (xs ++ ys) k ≡ slice_get xs k
@@ -150,22 +143,22 @@ not_false false e = refl
 not_less : (a b : ℕ) → b ≤ a → nat_lt a b ≡ false
 not_less a b low = false_from_ne_true (nat_lt a b) (λ e. let less = ltb-true a b e in omega (arith, low, less))
 
-module _ (number : ℕ) (prepared : Prepared) (kept : List ℕ) (clauses : List (List ℤ)) (ready : IsReady number prepared)
-    (out : RuleOut prepared.model prepared.target prepared.first_fact (length prepared.parts - 1) kept clauses) (lasso : LassoValue) (keeps : KeepsFacts prepared kept lasso) where
-  abbrev claim : Part → Claim
-  claim p = claim_of p.formula
+module _ (number : ℕ) (prepared : Prepared) (kept : List ℕ) (clauses : List (List ℤ)) (made : IsPrepared number prepared)
+    (out : RuleOut prepared.ready.model prepared.target prepared.first_fact (length prepared.ready.model.facts) kept clauses) (lasso : LassoValue) (keeps : KeepsFacts prepared.ready kept lasso) where
+  abbrev ready : IsReady number prepared.ready
+  ready = made.ready
 
   abbrev world : World
-  world = world_of prepared.scopes lasso
+  world = world_of prepared.ready.scopes lasso
 
   abbrev New : Claim → Type 0
   New c = Holds world no_bodies c no_names 0
 
   abbrev Old : Claim → Type 0
-  Old c = Holds world (bodies_of world prepared.model.bodies) c no_names 0
+  Old c = Holds world (bodies_of world prepared.ready.model.bodies) c no_names 0
 
   abbrev bodies : List Body
-  bodies = prepared.model.bodies
+  bodies = prepared.ready.model.bodies
 
   abbrev all : List Formula
   all = prepared.target.formulas
@@ -173,28 +166,18 @@ module _ (number : ℕ) (prepared : Prepared) (kept : List ℕ) (clauses : List 
   abbrev first : ℕ
   first = prepared.first_fact
 
-  -- the last part is the command
+  -- the command is that which the target is made of
   same_command : claim_of keeps.command.formula ≡ claim_of ready.command.formula
   same_command =
-      last_same (map claim keeps.facts) (fact_claims prepared.model.facts) (claim keeps.command) (claim_of ready.command.formula)
-      (sym (map-append claim keeps.facts (keeps.command ∷ [])) ∙ ap (map claim) (sym keeps.parts_are) ∙ ready.parts_are)
+      ap (λ (c : Command). claim_of c.formula) (same_item prepared.ready.model.commands prepared.ready.command number keeps.command ready.command ready.asked keeps.chosen ready.chosen)
 
-  of_model : length world.top ≡ length prepared.model.sigs
-  of_model = length-map prepared.scopes.numbers (λ (s : SigScope). s.top) ∙ ready.counted
-
-  -- each part but the last is a fact
-  fact_count : length prepared.parts - 1 ≡ length prepared.model.facts
-  fact_count =
-      let count : length prepared.parts ≡ length prepared.model.facts + 1 =
-      sym (length-map prepared.parts claim)
-      ∙ ap length ready.parts_are
-      ∙ length-append (fact_claims prepared.model.facts) (claim_of ready.command.formula ∷ [])
-      ∙ ap (λ (n : ℕ). n + 1) (length-map prepared.model.facts (λ (f : Fact). claim_of f.formula)) in omega (arith, count)
+  of_model : length world.top ≡ length prepared.ready.model.sigs
+  of_model = length-map prepared.ready.scopes.numbers (λ (s : SigScope). s.top) ∙ ready.counted
 
   -- what a target's formula for the declarations says
   declared_hold : (k : ℕ) (f : Formula) → k < first → slice_get all k ≡ Some f → New (claim_of f)
   declared_hold k f low there =
-      let is = ready.target_is in
+      let is = made.target_is in
       let at = written_at bodies [] (take first all) (always_claims is.asked) is.declared k f (at_take all first k low ∙ there) (omega arith) in
       let same : k - 0 ≡ k = omega arith in
       let there_is : slice_get (always_claims is.asked) k ≡ Some at.0 = subst (λ (n : ℕ). slice_get (always_claims is.asked) n ≡ Some at.0) same at.1 in
@@ -206,8 +189,8 @@ module _ (number : ℕ) (prepared : Prepared) (kept : List ℕ) (clauses : List 
   -- what one for a fact, or for the command, says
   part_holds : (k : ℕ) (f : Formula) → first ≤ k → slice_get all k ≡ Some f → is_out out.dropped (k - first) ≡ false → New (claim_of f)
   part_holds k f low there kept_one =
-      let is = ready.target_is in
-      let facts = prepared.model.facts in
+      let is = made.target_is in
+      let facts = prepared.ready.model.facts in
       let command = claim_of ready.command.formula in
       let claims = fact_claims facts in
       let within = slice_get_within all k f there in
@@ -219,7 +202,7 @@ module _ (number : ℕ) (prepared : Prepared) (kept : List ℕ) (clauses : List 
       let old : Old at.0 = ⊎_elim
       (λ (early : m < length facts).
       let x = claim_at (λ (y : Fact). claim_of y.formula) facts m at.0 (sym (at_left claims (command ∷ []) m (omega (arith, early, size))) ∙ there_is) in
-      let has : Contains kept m = (out.left_out.each m (omega (arith, early, fact_count))).1 kept_one in
+      let has : Contains kept m = (out.left_out.each m early).1 kept_one in
       subst Old (sym x.2) (kept_holds (λ (y : Fact). Old (claim_of y.formula)) facts kept m x.0 keeps.satisfies.facts_hold has x.1))
       (λ (late : length facts ≤ m).
       let room = slice_get_within (claims ++ command ∷ []) m at.0 there_is in
@@ -242,7 +225,7 @@ module _ (number : ℕ) (prepared : Prepared) (kept : List ℕ) (clauses : List 
   part_meets : Meets out.refuted.part lasso
   part_meets =
       let part = out.refuted.part in
-      let scopes : part.scopes ≡ prepared.scopes = out.refuted.is_part.scopes ∙ ready.scoped in
+      let scopes : part.scopes ≡ prepared.ready.scopes = out.refuted.is_part.scopes ∙ made.scoped in
       let formulas : All (λ (f : Formula). New (claim_of f)) part.formulas = each_claim New claim_of part.formulas (subst (All New) (sym out.refuted.is_part.formulas) staying_hold) in
       subst (λ (s : Scopes). KeepsNumbers s lasso × All (HoldsFirst s lasso) part.formulas) (sym scopes) (keeps.satisfies.keeps.numbers, formulas)
 
@@ -255,36 +238,36 @@ part_covered target first dropped part is covered =
     each_claim IsCoveredClaim claim_of part.formulas
     (subst (All IsCoveredClaim) (sym is.formulas) (stay_holds IsCoveredClaim (stays first dropped) target.formulas 0 (λ k m f at there e. at_place IsCovered target.formulas k f covered there)))
 
-module _ (number : ℕ) (prepared : Prepared) (kept : List ℕ) (clauses : List (List ℤ)) (ready : IsReady number prepared)
-    (out : RuleOut prepared.model prepared.target prepared.first_fact (length prepared.parts - 1) kept clauses) where
-  no_candidate : All IsCovered prepared.target.formulas → (lasso : LassoValue) → IsCandidate out.limits lasso → KeepsFacts prepared kept lasso → ⊥
+module _ (number : ℕ) (prepared : Prepared) (kept : List ℕ) (clauses : List (List ℤ)) (made : IsPrepared number prepared)
+    (out : RuleOut prepared.ready.model prepared.target prepared.first_fact (length prepared.ready.model.facts) kept clauses) where
+  no_candidate : All IsCovered prepared.target.formulas → (lasso : LassoValue) → IsCandidate out.limits lasso → KeepsFacts prepared.ready kept lasso → ⊥
   no_candidate covered lasso candidate keeps =
-      let some = ready.scopes_are.states.0 in
-      let more : 0 < out.limits.states = omega (arith, some, out.states, ap (λ (s : Scopes). s.states) ready.scoped) in
+      let some = made.ready.scopes_are.states.0 in
+      let more : 0 < out.limits.states = omega (arith, some, out.states, ap (λ (s : Scopes). s.states) made.scoped) in
       let table : IsTable out.limits = out.limits_are.table out.limits.states more in
       let part = out.refuted in
       let plain = part_covered prepared.target prepared.first_fact out.dropped part.part part.is_part covered in
-      part.ruled table plain lasso candidate (part_meets number prepared kept clauses ready out lasso keeps)
+      part.ruled table plain lasso candidate (part_meets number prepared kept clauses made out lasso keeps)
 
-  limits_are : AreBoundsOf prepared.model prepared.scopes out.limits
+  limits_are : AreBoundsOf prepared.ready.model prepared.ready.scopes out.limits
   limits_are = record {
-    most = ready.bounds_are.most;
-    origins = ready.bounds_are.origins;
-    uppers = subst (λ (scopes : Scopes). AreUppers prepared.model scopes out.limits.relations) ready.scoped out.limits_are.uppers;
+    most = made.ready.bounds_are.most;
+    origins = made.ready.bounds_are.origins;
+    uppers = subst (λ (scopes : Scopes). AreUppers prepared.ready.model scopes out.limits.relations) made.scoped out.limits_are.uppers;
     fixed = out.limits_are.fixed;
   }
 
   -- a lasso that keeps the facts has a renaming that is a candidate and keeps them too
-  no_lasso : SatisfyingAreCandidates → All IsCovered prepared.target.formulas → IsUsual prepared.model →
-      (lasso : LassoValue) → IsLassoOver prepared.model prepared.scopes lasso → length lasso.states ≤ out.limits.states → KeepsFacts prepared kept lasso → ⊥
+  no_lasso : SatisfyingAreCandidates → All IsCovered prepared.target.formulas → IsUsual prepared.ready.model →
+      (lasso : LassoValue) → IsLassoOver prepared.ready.model prepared.ready.scopes lasso → length lasso.states ≤ out.limits.states → KeepsFacts prepared.ready kept lasso → ⊥
   no_lasso law covered usual lasso over few keeps =
-      let right = right_of number prepared ready usual in
-      let (r, other, renaming, renamed, candidate, satisfied) = law prepared.model prepared.scopes out.limits lasso (facts_at prepared.model.facts kept) (claim_of keeps.command.formula) right limits_are over few keeps.satisfies in
-      let also : KeepsFacts prepared kept other = record { facts = keeps.facts; command = keeps.command; parts_are = keeps.parts_are; satisfies = satisfied } in
+      let right = right_of number prepared.ready made.ready usual in
+      let (r, other, renaming, renamed, candidate, satisfied) = law prepared.ready.model prepared.ready.scopes out.limits lasso (facts_at prepared.ready.model.facts kept) (claim_of keeps.command.formula) right limits_are over few keeps.satisfies in
+      let also : KeepsFacts prepared.ready kept other = record { command = keeps.command; chosen = keeps.chosen; satisfies = satisfied } in
       no_candidate covered other candidate also
 
 pub kept_law : SatisfyingAreCandidates → KeptFactsRuleOut
-kept_law law number prepared kept clauses ready out = record {
-  candidates = no_candidate number prepared kept clauses ready out;
-  lassos = no_lasso number prepared kept clauses ready out law;
+kept_law law number prepared kept clauses made out = record {
+  candidates = no_candidate number prepared kept clauses made out;
+  lassos = no_lasso number prepared kept clauses made out law;
 }

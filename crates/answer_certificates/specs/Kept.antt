@@ -1,5 +1,6 @@
 -- What a model means with some of its facts alone.
-use Rattle.std.specs.Prelude.{◌≡◌, ◌-◌, ℕ, ℤ, List, [], ◌∷◌, ◌++◌, ◌≤◌, length, All, Option, Some, None, slice_get}
+use Rattle.std.specs.Prelude.{◌≡◌, ℕ, ℤ, List, [], ◌∷◌, ◌≤◌, length, All, Option, Some, None, slice_get}
+use Rattle.core_tree.specs.declared.model.Command.{Command}
 use Rattle.core_tree.specs.declared.model.Fact.{Fact}
 use Rattle.core_tree.specs.Trees.{claim_of}
 use Rattle.core_meaning.specs.Satisfied.{SatisfiesWith}
@@ -7,11 +8,11 @@ use Rattle.core_meaning.specs.Sequence.{LassoValue}
 use Rattle.bound_uppers.specs.declared.table.Bounds.{Bounds}
 use Rattle.bound_uppers.specs.Candidates.{IsCandidate}
 use Rattle.bound_laws.specs.Satisfying.{IsLassoOver}
-use Rattle.form_target.specs.declared.target.Part.{Part}
 use Rattle.answer_search.specs.Clauses.{IsCovered}
 use Rattle.answer_certificates.specs.Parts.{RuleOut}
 use Rattle.answer_analysis.specs.declared.ready.Prepared.{Prepared}
-use Rattle.answer_analysis.specs.Found.{IsReady, IsUsual}
+use Rattle.answer_analysis.specs.declared.ready.Ready.{Ready}
+use Rattle.answer_analysis.specs.Found.{IsPrepared, IsUsual}
 
 abbrev pub before : Option Fact → List Fact → List Fact
 before None facts = facts
@@ -22,25 +23,23 @@ abbrev pub facts_at : List Fact → List ℕ → List Fact
 facts_at facts [] = []
 facts_at facts (number ∷ numbers) = before (slice_get facts number) (facts_at facts numbers)
 
--- a lasso satisfies the command of a model that was made ready, which is the last part, its declarations, and the facts of these
--- numbers
-pub record KeepsFacts (prepared : Prepared) (kept : List ℕ) (lasso : LassoValue) : Type 0 where
-  pub facts : List Part
-  pub command : Part
-  pub parts_are : prepared.parts ≡ facts ++ command ∷ []
-  pub satisfies : SatisfiesWith prepared.model prepared.scopes lasso (facts_at prepared.model.facts kept) (claim_of command.formula)
+-- a lasso satisfies the command of a model that was made ready, its declarations, and the facts of these numbers
+pub record KeepsFacts (ready : Ready) (kept : List ℕ) (lasso : LassoValue) : Type 0 where
+  pub command : Command
+  pub chosen : slice_get ready.model.commands ready.command ≡ Some command
+  pub satisfies : SatisfiesWith ready.model ready.scopes lasso (facts_at ready.model.facts kept) (claim_of command.formula)
 
 -- where all formulas that are searched have plain forms
 pub record NoneKeeps (prepared : Prepared) (bounds : Bounds) (kept : List ℕ) : Type 0 where
   -- no lasso within the bounds does, of as many states as they have
-  pub candidates : All IsCovered prepared.target.formulas → (lasso : LassoValue) → IsCandidate bounds lasso → KeepsFacts prepared kept lasso → ⊥
+  pub candidates : All IsCovered prepared.target.formulas → (lasso : LassoValue) → IsCandidate bounds lasso → KeepsFacts prepared.ready kept lasso → ⊥
   -- and none at all of at most as many states, where the model is usual
   pub lassos :
-      All IsCovered prepared.target.formulas → IsUsual prepared.model →
-      (lasso : LassoValue) → IsLassoOver prepared.model prepared.scopes lasso → length lasso.states ≤ bounds.states →
-      KeepsFacts prepared kept lasso → ⊥
+      All IsCovered prepared.target.formulas → IsUsual prepared.ready.model →
+      (lasso : LassoValue) → IsLassoOver prepared.ready.model prepared.ready.scopes lasso → length lasso.states ≤ bounds.states →
+      KeepsFacts prepared.ready kept lasso → ⊥
 
 -- what clauses rule out with some facts alone
 abbrev pub KeptFactsRuleOut : Type 0
-KeptFactsRuleOut = (number : ℕ) (prepared : Prepared) (kept : List ℕ) (clauses : List (List ℤ)) → IsReady number prepared
-    → (out : RuleOut prepared.model prepared.target prepared.first_fact (length prepared.parts - 1) kept clauses) → NoneKeeps prepared out.limits kept
+KeptFactsRuleOut = (number : ℕ) (prepared : Prepared) (kept : List ℕ) (clauses : List (List ℤ)) → IsPrepared number prepared
+    → (out : RuleOut prepared.ready.model prepared.target prepared.first_fact (length prepared.ready.model.facts) kept clauses) → NoneKeeps prepared out.limits kept

@@ -7,13 +7,12 @@ ghost use Rattle.answer_search.specs.Found.{Spends};
 ghost use Rattle.answer_trace.specs.Text.{trace_text};
 ghost use Rattle.answer_laws.specs.Form.{IsLassoOf};
 ghost use Rattle.answer_texts.specs.Certified.{trace_part};
-ghost use Rattle.answer_certificates.specs.Certificate.{IsShort, ShowsTrace, IsSpentText};
+ghost use Rattle.answer_certificates.specs.Certificate.{IsShort, RowsOver, ShowsTrace, IsSpentText};
 
-use answer_analysis::{Prepared, is_trace, table};
+use answer_analysis::{Prepared, Ready, is_trace, table};
 use answer_texts::{trace_part, unknown_text};
 use answer_trace::{Labels, print_trace};
 use base_types::Bytes;
-use bound_uppers::Bounds;
 use cli_words::Part;
 use core_meaning::Lasso;
 use sat_lrat::Proof;
@@ -37,9 +36,9 @@ pub fn trace_shown(
     lasso: &Lasso,
     part: Part,
 ) -> Result<Bytes, AllocError>
-    ensures { (prepared : PreparedOf) → labels.now ≡ prepared.labels → IsTraceOf prepared lasso.now
-        → IsLassoOf prepared.labels lasso.now → IsShort prepared lasso.now →
-        IfOk result (ShowsTrace prepared part) }
+    ensures { (prepared : PreparedOf) → labels.now ≡ prepared.ready.labels →
+        IsTraceOf prepared.ready lasso.now → IsLassoOf prepared.ready.labels lasso.now →
+        IsShort prepared lasso.now → IfOk result (ShowsTrace prepared part) }
 {
     let shown = lasso_part(alloc, labels, lasso, part)?;
     Ok(shown)
@@ -61,21 +60,22 @@ pub(crate) fn lasso_part(
 }
 
 /// The text of a budget that is spent.
-pub fn spent_shown(
+pub(crate) fn spent_shown(
     alloc: Global,
-    labels: &Labels,
-    mut bounds: Bounds,
+    prepared: &mut Prepared,
     proof: Proof,
     budget: Option<u64>,
 ) -> Result<Bytes, AllocError>
     requires { Spends budget proof }
-    ensures { IfOk result (λ text. IsSpentText proof.cnf budget text) }
+    ensures { IfOk result (λ text. IsSpentText (RowsOver prepared.old proof.states) proof.cnf budget
+        text) }
 {
-    bounds.states = proof.states;
+    prepared.ready.bounds.states = proof.states;
     let Some(conflicts) = budget else {
         unreachable!();
     };
-    let rows = table(alloc, labels, &bounds)?;
+    let ready = &prepared.ready;
+    let rows = table(alloc, &ready.labels, &ready.bounds)?;
     let text = unknown_text(alloc, conflicts, &rows, &proof.cnf, &proof.lines)?;
     let shown = Bytes::from_vec(text);
     Ok(shown)
@@ -83,15 +83,11 @@ pub fn spent_shown(
 
 /// Goes on where a lasso that a search has found is one of the prepared model's labels and satisfies the model and its command.
 /// No search is known to find another; the answer to such a one would be that of want of memory.
-pub(crate) fn test_trace(
-    alloc: Global,
-    prepared: &Prepared,
-    lasso: &Lasso,
-) -> Result<(), AllocError>
-    ensures trace { IfOk result (λ r. IsTraceOf prepared.now lasso.now) }
-    ensures fits { IfOk result (λ r. IsLassoOf prepared.now.labels lasso.now) }
+pub(crate) fn test_trace(alloc: Global, ready: &Ready, lasso: &Lasso) -> Result<(), AllocError>
+    ensures trace { IfOk result (λ r. IsTraceOf ready.now lasso.now) }
+    ensures fits { IfOk result (λ r. IsLassoOf ready.now.labels lasso.now) }
 {
-    let holds = is_trace(alloc, prepared, lasso)?;
+    let holds = is_trace(alloc, ready, lasso)?;
     if holds { Ok(()) } else { Err(AllocError) }
 }
 
@@ -105,10 +101,10 @@ pub(crate) fn found_shown(
     requires { IsShort prepared.now lasso.now }
     ensures { IfOk result (ShowsTrace prepared.now part) }
 {
-    let holds = is_trace(alloc, prepared, lasso)?;
+    let holds = is_trace(alloc, &prepared.ready, lasso)?;
     if !holds {
         return Err(AllocError);
     }
-    let text = trace_shown(alloc, &prepared.labels, lasso, part)?;
+    let text = trace_shown(alloc, &prepared.ready.labels, lasso, part)?;
     Ok(text)
 }

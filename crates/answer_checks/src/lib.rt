@@ -1,5 +1,5 @@
-//! Tests on an answer: that each text under some labels is that of one lasso, that a lasso is one of the labels, and that a
-//! model keeps what resolved models keep.
+//! Tests on an answer: that each text under some labels is that of one lasso, that a lasso is one of the labels, that the types
+//! of a model's fields are those of their declarations, and that no sig of it extends an `in` sig.
 //!
 //! Each takes time linear in what it tests, but for the types of fields, whose time is that of their rows. Two laws say what
 //! a model keeps by what is tested of it.
@@ -15,4 +15,4 @@ mod texts;
 pub use labels::{has_universe, have_lassos};
 pub use lassos::fits_labels;
 pub use laws::{owned_fields_are_named, typed_models_are_models};
-pub use models::{extends_plain, keeps_whole_model};
+pub use models::{extends_plain, is_typed_model};

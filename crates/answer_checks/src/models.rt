@@ -3,11 +3,11 @@
 ghost use Rattle.std.specs.Prelude.{IfOk, IsTrue};
 ghost use Rattle.core_tree.specs.Models.{IsModel};
 ghost use Rattle.core_laws.specs.Typed.{ExtendsPlain};
+ghost use Rattle.resolve_check.specs.Kept.{IsModelButTypes};
 ghost use Rattle.answer_checks.specs.Parts.{ExtendsPlainSig, IsPlainKind, IsPlainAt};
 
 use crate::laws::typed_models_are_models;
 use core_tree::{Model, Sig, SigKind, SigList};
-use resolve_check::keeps_model;
 use resolve_type_check::keeps_types;
 use std::alloc::{AllocError, Global};
 
@@ -62,15 +62,12 @@ pub fn extends_plain(sigs: &SigList) -> bool
     extend_plain(sigs.as_slice())
 }
 
-/// Whether a model keeps all that resolved models keep, the types of its fields among it. Errors where memory runs out.
-pub fn keeps_whole_model(alloc: Global, model: &Model) -> Result<bool, AllocError>
+/// Whether a model that keeps all but the types of its fields keeps these too. Errors where memory runs out.
+pub fn is_typed_model(alloc: Global, model: &Model) -> Result<bool, AllocError>
+    requires { IsModelButTypes model.now }
     ensures { IfOk result (λ b. IsTrue b → IsModel model.now) }
 {
     typed_models_are_models();
-    let kept = keeps_model(alloc, model)?;
-    if !kept {
-        return Ok(false);
-    }
     let typed = keeps_types(alloc, model)?;
     Ok(typed)
 }

@@ -1,13 +1,15 @@
 -- What is said of a trace: of a lasso whose text it is, and by what the model means on it.
-use Rattle.std.specs.Prelude.{◌≡◌, ◌↔◌, ℕ, Bool, IsTrue, List, [], ◌∷◌, ◌++◌, All, codes, ⊤}
-use Rattle.answer_analysis.specs.declared.ready.Prepared.{Prepared}
+use Rattle.std.specs.Prelude.{◌≡◌, ◌↔◌, ℕ, Bool, IsTrue, List, [], ◌∷◌, ◌++◌, Some, codes, slice_get, ⊤}
+use Rattle.answer_analysis.specs.declared.ready.Ready.{Ready}
+use Rattle.answer_analysis.specs.Found.{IsTraceOf}
 use Rattle.syntax_tree.specs.declared.loaded.Loaded.{Loaded}
-use Rattle.core_tree.specs.Trees.{Term, claim_of}
+use Rattle.core_tree.specs.declared.model.Command.{Command}
+use Rattle.core_tree.specs.declared.model.Fact.{Fact}
+use Rattle.core_tree.specs.Trees.{Claim, Term, claim_of}
 use Rattle.core_meaning.specs.Sequence.{LassoValue}
 use Rattle.core_meaning.specs.Meaning.{no_names}
 use Rattle.core_meaning.specs.Kept.{Keeps}
 use Rattle.core_meaning.specs.Satisfied.{HoldsAt, InTermAt, DeclaresAt}
-use Rattle.form_target.specs.declared.target.Part.{Part}
 use Rattle.answer_texts.specs.Facts.{fact_name}
 use Rattle.answer_texts.specs.Judged.{judgement_text, is_satisfied}
 use Rattle.answer_texts.specs.declared.fact.FactName.{FactName}
@@ -23,85 +25,82 @@ use Rattle.answer_judge.specs.declared.answer.TraceAnswer.{TraceAnswer}
 use Rattle.answer_judge.specs.declared.answer.TraceAnswer.TheVariants.{Judged, Valued, BadTrace}
 
 -- how a fact of loaded modules is named
-abbrev pub name_in : Loaded → Part → FactName
-name_in loaded part = fact_name loaded.texts loaded.instances part.instance part.place part.name
+abbrev pub name_in : Loaded → Fact → FactName
+name_in loaded fact = fact_name loaded.texts loaded.instances fact.instance fact.place fact.name
 
--- a fact or the command of a prepared model holds at the first position of a lasso
-abbrev pub PartHolds : Prepared → LassoValue → Part → Type 0
-PartHolds prepared lasso part = HoldsAt prepared.model prepared.scopes lasso (claim_of part.formula) no_names 0
+-- a formula of a model that was made ready holds at the first position of a lasso
+abbrev pub HoldsFirst : Ready → LassoValue → Claim → Type 0
+HoldsFirst ready lasso claim = HoldsAt ready.model ready.scopes lasso claim no_names 0
 
 -- a fact has its name, and it is said just whether it holds
-abbrev pub IsJudgedFact : Prepared → LassoValue → JudgedFact → Part → Type 0
-IsJudgedFact prepared lasso judged part = (judged.fact ≡ name_in prepared.loaded part) × (IsTrue judged.holds ↔ PartHolds prepared lasso part)
+abbrev pub IsJudgedFact : Ready → LassoValue → JudgedFact → Fact → Type 0
+IsJudgedFact ready lasso judged fact = (judged.fact ≡ name_in ready.loaded fact) × (IsTrue judged.holds ↔ HoldsFirst ready lasso (claim_of fact.formula))
 
 -- the same of facts in order
-abbrev pub AreJudged : Prepared → LassoValue → List JudgedFact → List Part → Type 0
-AreJudged prepared lasso [] [] = ⊤
-AreJudged prepared lasso (judged ∷ more) (part ∷ parts) = IsJudgedFact prepared lasso judged part × AreJudged prepared lasso more parts
-AreJudged prepared lasso [] (part ∷ parts) = ⊥
-AreJudged prepared lasso (judged ∷ more) [] = ⊥
+abbrev pub AreJudged : Ready → LassoValue → List JudgedFact → List Fact → Type 0
+AreJudged ready lasso [] [] = ⊤
+AreJudged ready lasso (judged ∷ more) (fact ∷ facts) = IsJudgedFact ready lasso judged fact × AreJudged ready lasso more facts
+AreJudged ready lasso [] (fact ∷ facts) = ⊥
+AreJudged ready lasso (judged ∷ more) [] = ⊥
 
--- what is said of a lasso: whether it keeps the scopes of a prepared model, the first position at which the declarations don't
--- hold, and whether each fact and the command hold at the first position. The parts are the facts in order, and last the command
-pub record IsRight (prepared : Prepared) (lasso : LassoValue) (judgement : Judgement) : Type 0 where
-  pub facts : List Part
-  pub command : Part
-  pub parts_are : prepared.parts ≡ facts ++ command ∷ []
-  pub scopes_are : IsTrue judgement.scopes ↔ Keeps prepared.model prepared.scopes lasso
-  pub declared : IsFirstWithout (DeclaresAt prepared.model prepared.scopes lasso) judgement.broken_at
-  pub facts_are : AreJudged prepared lasso judgement.facts facts
-  pub command_is : IsTrue judgement.command ↔ PartHolds prepared lasso command
+-- what is said of a lasso: whether it keeps the scopes of a model that was made ready, the first position at which the
+-- declarations don't hold, and whether each fact of the model, in order, and its command hold at the first position
+pub record IsRight (ready : Ready) (lasso : LassoValue) (judgement : Judgement) : Type 0 where
+  pub command : Command
+  pub chosen : slice_get ready.model.commands ready.command ≡ Some command
+  pub scopes_are : IsTrue judgement.scopes ↔ Keeps ready.model ready.scopes lasso
+  pub declared : IsFirstWithout (DeclaresAt ready.model ready.scopes lasso) judgement.broken_at
+  pub facts_are : AreJudged ready lasso judgement.facts ready.model.facts
+  pub command_is : IsTrue judgement.command ↔ HoldsFirst ready lasso (claim_of command.formula)
 
--- a lasso satisfies a prepared model and its command
-pub record IsSatisfied (prepared : Prepared) (lasso : LassoValue) : Type 0 where
-  pub keeps : Keeps prepared.model prepared.scopes lasso
-  pub declared : (i : ℕ) → DeclaresAt prepared.model prepared.scopes lasso i
-  pub parts_hold : All (PartHolds prepared lasso) prepared.parts
+-- a lasso satisfies a model that was made ready and its command: it is what a search calls a trace
+abbrev pub IsSatisfied : Ready → LassoValue → Type 0
+IsSatisfied ready lasso = IsTraceOf ready lasso
 
 -- the trace is the text of a lasso of the model's labels, the text is that of the judgement on it, and everything holds just
 -- where the lasso satisfies the model and the command
-pub record IsJudged (prepared : Prepared) (trace : List ℕ) (satisfied : Bool) (text : List ℕ) : Type 0 where
+pub record IsJudged (ready : Ready) (trace : List ℕ) (satisfied : Bool) (text : List ℕ) : Type 0 where
   pub lasso : LassoValue
-  pub fits : IsLassoOf prepared.labels lasso
-  pub spelled : trace_text prepared.labels lasso ≡ trace
+  pub fits : IsLassoOf ready.labels lasso
+  pub spelled : trace_text ready.labels lasso ≡ trace
   pub judgement : Judgement
-  pub right : IsRight prepared lasso judgement
+  pub right : IsRight ready lasso judgement
   pub text_is : text ≡ judgement_text judgement
   pub all_hold : satisfied ≡ is_satisfied judgement
-  pub satisfies : IsTrue satisfied ↔ IsSatisfied prepared lasso
+  pub satisfies : IsTrue satisfied ↔ IsSatisfied ready lasso
 
 abbrev pub value_text : List (List ℕ) → List (List ℕ) → List ℕ
 value_text atoms tuples = codes "value =" ++ (tuples_text atoms tuples ++ codes "\n")
 
 -- the trace is the text of a lasso of the model's labels, and the text has just the tuples that the expression has at the
 -- position of its sequence
-pub record IsValued (prepared : Prepared) (value : Term) (position : ℕ) (trace : List ℕ) (text : List ℕ) : Type 0 where
+pub record IsValued (ready : Ready) (value : Term) (position : ℕ) (trace : List ℕ) (text : List ℕ) : Type 0 where
   pub lasso : LassoValue
-  pub fits : IsLassoOf prepared.labels lasso
-  pub spelled : trace_text prepared.labels lasso ≡ trace
+  pub fits : IsLassoOf ready.labels lasso
+  pub spelled : trace_text ready.labels lasso ≡ trace
   pub set : TupleList
   pub sorted : IsTupleSet set
-  pub has : IsSetOf set (InTermAt prepared.model prepared.scopes lasso value no_names position)
-  pub text_is : text ≡ value_text prepared.labels.atoms set.tuples
+  pub has : IsSetOf set (InTermAt ready.model ready.scopes lasso value no_names position)
+  pub text_is : text ≡ value_text ready.labels.atoms set.tuples
 
 -- the line is the first at which no text of a lasso of the model's labels has all lines up to it
-abbrev pub IsBadTrace : Prepared → List ℕ → ℕ → Type 0
-IsBadTrace prepared trace line = NamesFirst prepared.labels trace line
+abbrev pub IsBadTrace : Ready → List ℕ → ℕ → Type 0
+IsBadTrace ready trace line = NamesFirst ready.labels trace line
 
 -- an answer that a text is no trace
-abbrev pub IsNotRead : Prepared → List ℕ → TraceAnswer → Type 0
-IsNotRead prepared trace (Judged satisfied text) = ⊥
-IsNotRead prepared trace (Valued text) = ⊥
-IsNotRead prepared trace (BadTrace line) = IsBadTrace prepared trace line
+abbrev pub IsNotRead : Ready → List ℕ → TraceAnswer → Type 0
+IsNotRead ready trace (Judged satisfied text) = ⊥
+IsNotRead ready trace (Valued text) = ⊥
+IsNotRead ready trace (BadTrace line) = IsBadTrace ready trace line
 
 -- an answer of the mode that judges a trace
-abbrev pub IsJudgement : Prepared → List ℕ → TraceAnswer → Type 0
-IsJudgement prepared trace (Judged satisfied text) = IsJudged prepared trace satisfied text
-IsJudgement prepared trace (Valued text) = ⊥
-IsJudgement prepared trace (BadTrace line) = IsBadTrace prepared trace line
+abbrev pub IsJudgement : Ready → List ℕ → TraceAnswer → Type 0
+IsJudgement ready trace (Judged satisfied text) = IsJudged ready trace satisfied text
+IsJudgement ready trace (Valued text) = ⊥
+IsJudgement ready trace (BadTrace line) = IsBadTrace ready trace line
 
 -- an answer of the mode that evaluates an expression on a trace
-abbrev pub IsValue : Prepared → Term → ℕ → List ℕ → TraceAnswer → Type 0
-IsValue prepared value position trace (Judged satisfied text) = ⊥
-IsValue prepared value position trace (Valued text) = IsValued prepared value position trace text
-IsValue prepared value position trace (BadTrace line) = IsBadTrace prepared trace line
+abbrev pub IsValue : Ready → Term → ℕ → List ℕ → TraceAnswer → Type 0
+IsValue ready value position trace (Judged satisfied text) = ⊥
+IsValue ready value position trace (Valued text) = IsValued ready value position trace text
+IsValue ready value position trace (BadTrace line) = IsBadTrace ready trace line

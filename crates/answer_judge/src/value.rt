@@ -8,7 +8,7 @@ ghost use Rattle.answer_judge.specs.Judged.{IsValue, value_text};
 
 use crate::answer::TraceAnswer;
 use crate::unread::not_read;
-use answer_analysis::Prepared;
+use answer_analysis::Ready;
 use answer_laws::read_lassos_are_of_the_labels;
 use answer_trace::{TextList, push_tuples, read_trace};
 use base_types::Bytes;
@@ -22,20 +22,20 @@ use std::alloc::{AllocError, Global};
 /// ascending order.
 pub fn value_on_trace(
     alloc: Global,
-    prepared: &Prepared,
+    ready: &Ready,
     value: &Expr,
     position: u64,
     trace: &[u8],
 ) -> Result<TraceAnswer, AllocError>
-    requires { HaveLassos prepared.now.labels }
-    ensures { IfOk result (λ answer. IsValue prepared.now (term_of value.now) position trace.now
+    requires { HaveLassos ready.now.labels }
+    ensures { IfOk result (λ answer. IsValue ready.now (term_of value.now) position trace.now
         answer) }
 {
     read_lassos_are_of_the_labels();
-    match read_trace(alloc, &prepared.labels, trace) {
-        Ok(lasso) => valued(alloc, prepared, value, position, &lasso, trace),
+    match read_trace(alloc, &ready.labels, trace) {
+        Ok(lasso) => valued(alloc, ready, value, position, &lasso, trace),
         Err(fault) => {
-            let answer = not_read(prepared, trace, fault)?;
+            let answer = not_read(ready, trace, fault)?;
             Ok(answer)
         }
     }
@@ -44,28 +44,21 @@ pub fn value_on_trace(
 /// The tuples of an expression at a position of the sequence of the lasso of which this is the text.
 fn valued(
     alloc: Global,
-    prepared: &Prepared,
+    ready: &Ready,
     value: &Expr,
     position: u64,
     lasso: &Lasso,
     trace: &[u8],
 ) -> Result<TraceAnswer, AllocError>
-    requires fits { IsLassoOf prepared.now.labels lasso.now }
-    requires spelled { trace_text prepared.now.labels lasso.now ≡ trace.now }
-    ensures { IfOk result (λ answer. IsValue prepared.now (term_of value.now) position trace.now
+    requires fits { IsLassoOf ready.now.labels lasso.now }
+    requires spelled { trace_text ready.now.labels lasso.now ≡ trace.now }
+    ensures { IfOk result (λ answer. IsValue ready.now (term_of value.now) position trace.now
         answer) }
 {
-    let set = tuples(
-        alloc,
-        &prepared.model,
-        &prepared.scopes,
-        lasso,
-        value,
-        position,
-    )?;
+    let set = tuples(alloc, &ready.model, &ready.scopes, lasso, value, position)?;
     // for the proof: this call's clause says that it is a set of tuples
     let _ = set.arity();
-    let text = value_text(alloc, &prepared.labels.atoms, &set)?;
+    let text = value_text(alloc, &ready.labels.atoms, &set)?;
     let shown = Bytes::from_vec(text);
     // for the proof: only the clauses name the text of the trace
     let _ = trace;

@@ -1,2 +1,3 @@
 pub mod OneLine
+pub mod TableRows
 pub mod Text

@@ -47,22 +47,23 @@ fn ready(rt: &(impl Files + AllocGlobal), name: &str, command: u32) -> Result<Op
 /// What is counted of a command; none where its table has too many variables. Where there are two states or more, the clauses are
 /// to have more variables than the table, since one more says that just one loop is chosen.
 fn tally_of(alloc: Global, prepared: &Prepared) -> Result<Option<Tally>, AllocError> {
+    let ready = &prepared.ready;
     let found = compare(
         alloc,
         &Question {
-            model: &prepared.model,
-            scopes: &prepared.scopes,
-            bounds: &prepared.bounds,
+            model: &ready.model,
+            command: ready.command,
+            scopes: &ready.scopes,
+            bounds: &ready.bounds,
             target: &prepared.target,
-            parts: &prepared.parts,
             first_fact: prepared.first_fact,
         },
     )?;
     let Some(mut tally) = found else {
         return Ok(None);
     };
-    let clauses = clauses_of(alloc, &prepared.target, &prepared.bounds)?;
-    if prepared.bounds.states > 1 && clauses.variables <= tally.variables {
+    let clauses = clauses_of(alloc, &prepared.target, &ready.bounds)?;
+    if ready.bounds.states > 1 && clauses.variables <= tally.variables {
         tally.different = tally.different.saturating_add(1);
     }
     Ok(Some(tally))
@@ -87,7 +88,7 @@ fn print_sizes(
     command: u32,
     prepared: &Prepared,
 ) -> Result<u8> {
-    let found = sizes_of(rt.alloc(), &prepared.target, &prepared.bounds)?;
+    let found = sizes_of(rt.alloc(), &prepared.target, &prepared.ready.bounds)?;
     if found.shared >= found.plain {
         println!(rt; "{name} {command}: no fewer gates in the store")?;
         return Ok(1);
@@ -120,7 +121,7 @@ fn compare_command(
         return Ok((3, 0));
     };
     let status = compare_prepared(rt, name, command, &prepared)?;
-    Ok((status, prepared.model.commands.len()))
+    Ok((status, prepared.ready.model.commands.len()))
 }
 
 /// Compares all commands of a model. The answer is the status.

@@ -4,7 +4,7 @@
 //! time of each stage in milliseconds: of loading, of names, scopes, forms and bounds, of the circuit, of the clauses, and of
 //! the search. Other words are answered with status 2, a model that is refused with 3.
 
-use answer_analysis::prepare_loaded;
+use answer_analysis::{Prepared, prepare_loaded};
 use answer_search::{circuit_of, table_store};
 use anyhow::Result;
 use base_types::Library;
@@ -108,6 +108,26 @@ fn print_sizes(rt: &impl Print, measured: &Measured) -> Result<()> {
     Ok(())
 }
 
+/// Goes through the stages behind the preparation, and prints what this kind asks for. The answer is the status.
+fn measure_prepared(
+    rt: &(impl CpuClock + Print + AllocGlobal),
+    kind: &str,
+    prepared: &Prepared,
+    begun: u64,
+    loaded: u64,
+) -> Result<u8> {
+    let bounds = &prepared.ready.bounds;
+    let Some(measured) = run_stages(rt, &prepared.target, bounds, begun, loaded)? else {
+        return Ok(5);
+    };
+    if kind == "sizes" {
+        print_sizes(rt, &measured)?;
+    } else {
+        print_times(rt, &measured.ends)?;
+    }
+    Ok(0)
+}
+
 /// Measures the analysis of this command of a model.
 fn measure<L: Library>(
     rt: &(impl CpuClock + Print + AllocGlobal),
@@ -126,15 +146,7 @@ fn measure<L: Library>(
     let Ok(prepared) = prepare_loaded(rt.alloc(), loaded, command) else {
         return Ok(3);
     };
-    let Some(measured) = run_stages(rt, &prepared.target, &prepared.bounds, begun, read)? else {
-        return Ok(5);
-    };
-    if kind == "sizes" {
-        print_sizes(rt, &measured)?;
-    } else {
-        print_times(rt, &measured.ends)?;
-    }
-    Ok(0)
+    measure_prepared(rt, kind, &prepared, begun, read)
 }
 
 /// Measures what the words ask for: a kind, a model's name and the number of a command. The library has the model and what it

@@ -1,5 +1,5 @@
 -- The answers on the text of a model.
-use Rattle.std.proofs.Common.{◌≡◌, ◌≢◌, ℕ, List, Option, Result, Ok, Err, IfOk, IsTrue, Some, Vec, Global, cond, not, true, is_some, refl, sym, subst, inl, inr, codes}
+use Rattle.std.proofs.Common.{◌≡◌, ◌≢◌, ℕ, List, Option, Result, Ok, Err, IfOk, IsTrue, Some, Vec, Global, cond, not, true, is_some, refl, sym, subst, inl, inr}
 use Rattle.std.specs.declared.alloc.AllocError.{AllocError}
 use Rattle.base_types.proofs.Counts.{none_fell_same}
 use Rattle.base_types.specs.Causes.{NoneFell, SomeRose}
@@ -33,7 +33,7 @@ use Rattle.cli_model.specs.Loads.{IsLoaded}
 use Rattle.cli_model.specs.Modes.{looks, analyses, reads_trace}
 use Rattle.cli_model.specs.Refused.{RefusesExpression, RefusesLoaded, loading, behind, reading, scoping, asking, tracing}
 use Rattle.cli_model.specs.Root.{SpellIn, BreakIn}
-use Rattle.cli_model.specs.Model.{IsOnModel, IsOnRing, IsFound, IsFoundIn, IsMade, IsAfter, IsSaidOf, RefusesAt, Says, Tells}
+use Rattle.cli_model.specs.Model.{IsOnModel, IsFound, IsFoundIn, IsAfter, IsSaidOf, RefusesAt, Says, Tells}
 use Rattle.cli_model.specs.declared.answer.Answer.{Answer}
 use Rattle.cli_model.specs.declared.answer.Answer.TheVariants.{Usage, Refused, ReadFault, Trace, Refuted, Unknown, Made, Listed, Checked, Traced}
 
@@ -156,7 +156,7 @@ after_on settings held later text before mid now (Ok a) loaded same keeps given 
     after_one settings held text before now a loaded given mode (subst (λ h. IsAfter loaded settings h before now a) keeps (subst (λ ns. IsAfter loaded settings later ns now a) same is))
 after_on settings held later text before mid now (Err e) loaded same keeps given mode is = tt
 
--- a loaded model that could not be analysed is refused by a search, by one in a model that is made, and by a mode that reads a trace
+-- a loaded model that could not be analysed is refused by a search and by a mode that reads a trace
 tells_found : (loaded : Loaded) (mode : Mode) (number : ℕ) (part : Part) (budget : Option ℕ) (a : Answer) (fault : AnalyseFault) → IsLoadedFault loaded fault → Tells fault a →
     IsFoundIn loaded mode number part budget a
 tells_found loaded mode number part budget a (analyse.Refused refusal name) why is = subst (λ x. IsFoundIn loaded mode number part budget x) (sym is) why
@@ -167,15 +167,6 @@ pub refusal_found : (loaded : Loaded) (mode : Mode) (number : ℕ) (part : Part)
     IfOk r (IsFoundIn loaded mode number part budget)
 refusal_found loaded mode number part budget (Ok a) fault why is = tells_found loaded mode number part budget a fault why is
 refusal_found loaded mode number part budget (Err e) fault why is = tt
-
-tells_made : (a : Answer) (fault : AnalyseFault) → Tells fault a → IsMade a
-tells_made a (analyse.Refused refusal name) is = subst (λ x. IsMade x) (sym is) tt
-tells_made a (analyse.Read name) is = absurd is
-tells_made a analyse.Memory is = absurd is
-
-pub refusal_made : (r : Result Answer AllocError) (fault : AnalyseFault) → IfOk r (Tells fault) → IfOk r IsMade
-refusal_made (Ok a) fault is = tells_made a fault is
-refusal_made (Err e) fault is = tt
 
 module _ (loaded : Loaded) (settings : Settings) (held : List (Option Texts)) (before now : List ℕ) where
   tells_after : (a : Answer) (fault : AnalyseFault) → now ≡ before → IsLoadedFault loaded fault → Tells fault a → IsAfter loaded settings held before now a
@@ -213,35 +204,6 @@ module _ (loaded : Loaded) (settings : Settings) (held : List (Option Texts)) (b
   said_after (Ok a) name text named file is =
       subst (λ x. IsAfter loaded settings held before now x) (sym is.says_so) (file.0, record { trace = text.items; on = is.on; named = named; tells = file.1 })
   said_after (Err e) name text named file is = tt
-
--- a model that was made and analysed
-made_one : (before now : List ℕ) (a : Answer) → now ≡ before → IsMade a → IsOnRing before now a
-made_one before now Usage same is = absurd is
-made_one before now (Refused refusal name) same is = same
-made_one before now (ReadFault name) same is = absurd is
-made_one before now (Trace bytes) same is = absurd is
-made_one before now (Refuted bytes) same is = absurd is
-made_one before now (Unknown bytes) same is = absurd is
-made_one before now (Made bytes) same is = same
-made_one before now (Listed list) same is = absurd is
-made_one before now (Checked verdict clauses lines) same is = absurd is
-made_one before now (Traced said second) same is = absurd is
-
-pub made_on : (before now : List ℕ) (r : Result Answer AllocError) → now ≡ before → IfOk r IsMade → IfOk r (IsOnRing before now)
-made_on before now (Ok a) same is = made_one before now a same is
-made_on before now (Err e) same is = tt
-
-ring_fault_one : (before now : List ℕ) (a : Answer) (fault : LoadFault) → FaultCause (codes "make") before now fault → Says fault a → IsOnRing before now a
-unfolding FaultCause
-ring_fault_one before now a (load.Refused refusal name) cause is = subst (λ x. IsOnRing before now x) (sym is) cause.0
-ring_fault_one before now a (load.Read name) cause is = subst (λ x. IsOnRing before now x) (sym is) (cause.0, cause.2)
-ring_fault_one before now a load.Memory cause is = absurd is
-
--- a model that was made and could not be loaded
-pub ring_fault_on : (before now : List ℕ) (r : Result Answer AllocError) (fault : LoadFault) (root : List ℕ) → root ≡ codes "make" → FaultCause root before now fault → IfOk r (Says fault) →
-    IfOk r (IsOnRing before now)
-ring_fault_on before now (Ok a) fault root at cause is = ring_fault_one before now a fault (subst (λ n. FaultCause n before now fault) at cause) is
-ring_fault_on before now (Err e) fault root at cause is = tt
 
 -- a mode that looks for traces is one of these three, and one that reads a trace is one of these two
 pub looks_one : (m : Mode) → IsTrue (looks m) → m ≢ Exec → m ≢ Least → m ≢ Core → ⊥

@@ -5,12 +5,14 @@ use Rattle.base_types.specs.Texts as texts
 use Rattle.syntax_tree.specs.declared.loaded.Loaded.{Loaded}
 use Rattle.base_types.specs.Texts.{Texts}
 use Rattle.base_types.specs.declared.place.Refusal.{Refusal}
-use Rattle.answer_analysis.specs.Found.{IsOfModel, IsOfText, IsReady, NoneSatisfies, NoneWithin}
+use Rattle.answer_analysis.specs.Found.{IsOfModel, IsOfText, IsPrepared, IsReady, NoneSatisfies, NoneWithin, RowsOf}
+use Rattle.answer_texts.specs.Table.{AreLines}
 use Rattle.answer_analysis.specs.declared.fault.AnalyseFault.{AnalyseFault}
 use Rattle.answer_analysis.specs.declared.fault.AnalyseFault.TheVariants as analyse
 use Rattle.answer_analysis.specs.declared.ready.Prepared.{Prepared}
+use Rattle.answer_analysis.specs.declared.ready.Ready.{Ready}
 use Rattle.base_types.specs.declared.limits.TheConstants.{FILE_BYTES}
-use Rattle.answer_certificates.specs.Certificate.{ShowsTrace, ShowsOne, ShowsAbove, ShowsNone, ShowsCore, ShowsSpent, SayAll, SayOverStates, SayOverSome, SayOfSome}
+use Rattle.answer_certificates.specs.Certificate.{ShowsTrace, ShowsOne, ShowsAbove, ShowsNone, ShowsCore, ShowsSpent, ShowsSpentLeast, ShowsSpentCore, RowsOver, SayAll, SayOverStates}
 use Rattle.answer_certificates.specs.declared.certificate.Certificate.{Certificate}
 use Rattle.answer_certificates.specs.declared.certificate.Certificate.TheVariants as certificate
 use Rattle.core_tree.specs.Trees.{Term}
@@ -30,7 +32,7 @@ use Rattle.cli_model.specs.Modes.{analyses, looks, reads_trace}
 use Rattle.cli_model.specs.Refused.{IsNamedIn, RefusedIn, RefusesLoaded}
 use Rattle.cli_model.specs.Root.{ListsModule}
 use Rattle.cli_model.specs.declared.answer.Answer.{Answer}
-use Rattle.cli_model.specs.declared.answer.Answer.TheVariants.{Refused, ReadFault, Trace, Refuted, Unknown, Made, Listed, Traced}
+use Rattle.cli_model.specs.declared.answer.Answer.TheVariants.{Refused, ReadFault, Trace, Refuted, Unknown, Listed, Traced}
 
 -- this is a name that is tried for a module that the model of the run opens; or the same of a model that is made; or the file
 -- of a trace has it
@@ -39,45 +41,54 @@ IsOpened settings name = (IsTrue (analyses settings.mode) × IsTried settings.fi
 
 -- a model of what is loaded, made ready for its command of this number: its sigs and facts are just those that the loaded texts
 -- declare, and its commands those of the root, by their places
-pub record IsModelOf (loaded : Loaded) (number : ℕ) (prepared : Prepared) : Type 0 where
-  pub loaded_is : prepared.loaded ≡ loaded
-  pub placed : IsPlaced loaded prepared.model
-  pub ready : IsReady number prepared
+pub record IsModelOf (loaded : Loaded) (number : ℕ) (made : Ready) : Type 0 where
+  pub loaded_is : made.loaded ≡ loaded
+  pub placed : IsPlaced loaded made.model
+  pub ready : IsReady number made
+
+-- the same made ready for a search
+pub record IsPreparedOf (loaded : Loaded) (number : ℕ) (made : Prepared) : Type 0 where
+  pub model : IsModelOf loaded number made.ready
+  pub prepared : IsPrepared number made
 
 -- something is so of such a model
-abbrev pub OfModel : Loaded → ℕ → (Prepared → Type 0) → Type 0
-OfModel loaded number P = (prepared : Prepared) × IsModelOf loaded number prepared × P prepared
+abbrev pub OfModel : Loaded → ℕ → (Ready → Type 0) → Type 0
+OfModel loaded number P = (ready : Ready) × IsModelOf loaded number ready × P ready
+
+-- and of one that is searched
+abbrev pub OfPrepared : Loaded → ℕ → (Prepared → Type 0) → Type 0
+OfPrepared loaded number P = (prepared : Prepared) × IsPreparedOf loaded number prepared × P prepared
 
 -- what is written of a trace, which satisfies the model and the command: the part that is asked for; in a search for the fewest
 -- states with clauses of one state less and lines that refute them, and no lasso of fewer states satisfies them, if the target
 -- has plain forms alone and the model is usual; or it has one state
 abbrev pub ShownTrace : Loaded → Mode → ℕ → Part → Option ℕ → List ℕ → Type 0
-ShownTrace loaded Least number part budget text = OfModel loaded number (λ prepared. ShowsOne prepared part text ⊎ ShowsAbove prepared part budget text)
-ShownTrace loaded _ number part budget text = OfModel loaded number (λ prepared. ShowsTrace prepared part text)
+ShownTrace loaded Least number part budget text = OfPrepared loaded number (λ prepared. ShowsOne prepared part text ⊎ ShowsAbove prepared part budget text)
+ShownTrace loaded _ number part budget text = OfPrepared loaded number (λ prepared. ShowsTrace prepared part text)
 
 -- what is written where there is no trace: the part that is asked for, of clauses that say what the target of the model does and
 -- of lines that refute them, where no lasso of at most as many states as the scopes say satisfies the model and the command, if
 -- the target has plain forms alone and the model is usual; in a search for facts that rule out every trace, the same with these
 -- facts
 abbrev pub ShownNone : Loaded → Mode → ℕ → Part → Option ℕ → List ℕ → Type 0
-ShownNone loaded Core number part budget text = OfModel loaded number (λ prepared. ShowsCore prepared part budget text)
-ShownNone loaded Exec number part budget text = OfModel loaded number (λ prepared. ShowsNone (SayAll prepared) prepared.bounds.states budget part text × NoneSatisfies prepared)
-ShownNone loaded Least number part budget text = OfModel loaded number (λ prepared. ShowsNone (SayOverStates prepared prepared.scopes.states) prepared.scopes.states budget part text × NoneWithin prepared prepared.scopes.states)
-ShownNone loaded _ number part budget text = (states : ℕ) × ShowsNone (λ cnf. ⊤) states budget part text
+ShownNone loaded Core number part budget text = OfPrepared loaded number (λ prepared. ShowsCore prepared part budget text)
+ShownNone loaded Exec number part budget text = OfPrepared loaded number (λ prepared. ShowsNone (RowsOf prepared) (SayAll prepared) prepared.ready.bounds.states budget part text × NoneSatisfies prepared)
+ShownNone loaded Least number part budget text = OfPrepared loaded number (λ prepared. ShowsNone (RowsOver prepared prepared.ready.scopes.states) (SayOverStates prepared prepared.ready.scopes.states) prepared.ready.scopes.states budget part text × NoneWithin prepared prepared.ready.scopes.states)
+ShownNone loaded _ number part budget text = (states : ℕ) × ShowsNone AreLines (λ cnf. ⊤) states budget part text
 
 -- what is written where a budget is spent: clauses that say what the target of the model does, over some number of states in a
 -- search for the fewest, and with some of the facts alone in a search for facts; and a derivation that spends it
 abbrev pub ShownSpent : Loaded → Mode → ℕ → Option ℕ → List ℕ → Type 0
-ShownSpent loaded Exec number budget text = OfModel loaded number (λ prepared. ShowsSpent (SayAll prepared) budget text)
-ShownSpent loaded Least number budget text = OfModel loaded number (λ prepared. ShowsSpent (SayOverSome prepared) budget text)
-ShownSpent loaded Core number budget text = OfModel loaded number (λ prepared. ShowsSpent (SayOfSome prepared) budget text)
-ShownSpent loaded _ number budget text = ShowsSpent (λ cnf. ⊤) budget text
+ShownSpent loaded Exec number budget text = OfPrepared loaded number (λ prepared. ShowsSpent (RowsOf prepared) (SayAll prepared) budget text)
+ShownSpent loaded Least number budget text = OfPrepared loaded number (λ prepared. ShowsSpentLeast prepared budget text)
+ShownSpent loaded Core number budget text = OfPrepared loaded number (λ prepared. ShowsSpentCore prepared budget text)
+ShownSpent loaded _ number budget text = ShowsSpent AreLines (λ cnf. ⊤) budget text
 
 -- what is said of the text of a trace in a mode: what a model and its command mean on it, or the tuples that some expression has
 -- there at the position of the settings
 abbrev pub IsSaid : Loaded → Mode → Settings → List ℕ → TraceAnswer → Type 0
-IsSaid loaded Replay settings trace said = OfModel loaded settings.command (λ prepared. IsJudgement prepared trace said)
-IsSaid loaded Eval settings trace said = OfModel loaded settings.command (λ prepared. (value : Term) × IsValue prepared value settings.position trace said)
+IsSaid loaded Replay settings trace said = OfModel loaded settings.command (λ ready. IsJudgement ready trace said)
+IsSaid loaded Eval settings trace said = OfModel loaded settings.command (λ ready. (value : Term) × IsValue ready value settings.position trace said)
 IsSaid loaded _ settings trace said = ⊥
 
 -- the file of this name is whole, and this is said of its text
@@ -133,19 +144,6 @@ pub record IsSaidOf (loaded : Loaded) (settings : Settings) (second trace : List
   pub said : TraceAnswer
   pub says_so : answer ≡ Traced said second
   pub on : IsSaid loaded settings.mode settings trace said
-
--- the answer on a model that is made
-abbrev pub IsMade : Answer → Type 0
-IsMade (Refused refusal name) = ⊤
-IsMade (Made bytes) = ⊤
-IsMade _ = ⊥
-
--- the same by the counts of faults before its modules were asked for and after that
-abbrev pub IsOnRing : List ℕ → List ℕ → Answer → Type 0
-IsOnRing before now (Refused refusal name) = now ≡ before
-IsOnRing before now (ReadFault name) = IsTried (codes "make") name × SomeRose before now
-IsOnRing before now (Made bytes) = now ≡ before
-IsOnRing before now _ = ⊥
 
 -- the answer that says why a model could not be loaded
 abbrev pub Says : LoadFault → Answer → Type 0

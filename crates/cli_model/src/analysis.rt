@@ -7,27 +7,24 @@ ghost use Rattle.answer_analysis.specs.Found as outcome;
 ghost use Rattle.answer_analysis.specs.declared.ready.Prepared.{Prepared as PreparedOf};
 ghost use Rattle.answer_texts.specs.Answers as texts;
 ghost use Rattle.cli_model.specs.Root.{SpellIn};
-ghost use Rattle.cli_model.specs.Model.{IsOnModel, IsModelOf, IsFound, IsFoundIn, IsMade, IsOnRing, Says, Tells, answer_of};
+ghost use Rattle.cli_model.specs.Model.{IsOnModel, IsPreparedOf, IsFound, IsFoundIn, Says, Tells, answer_of};
 ghost use Rattle.cli_model.specs.Modes.{looks};
 ghost use Rattle.cli_words.specs.declared.named.Mode.TheVariants.{Exec, Least, Core};
 
 use crate::Answer;
 use crate::parsed::Parsed;
-use crate::ready::made_ready;
-use answer_analysis::{AnalyseFault, Answer as Found, Prepared, analyse_loaded, search_prepared};
+use crate::ready::made_prepared;
+use answer_analysis::{AnalyseFault, Answer as Found, Prepared, search_prepared};
 use answer_certificates::{Certificate, core_certificate, least_certificate, trace_shown};
-use answer_texts::{absent_text, made_none, made_trace, made_unknown, ring_text, unknown_text};
+use answer_texts::{absent_text, unknown_text};
 use base_types::{Bytes, Libraries};
 use cli_words::{Mode, Settings};
-use load_modules::{LoadFault, load_text, load_tree};
+use load_modules::{LoadFault, load_tree};
 use sat_decide::{Boxed, Chooser};
 use sat_dimacs::{Cnf, Table};
 use sat_lrat::LineList;
 use std::alloc::{AllocError, Global};
 use syntax_tree::Loaded;
-
-/// The name of the text of a ring.
-const RING: &str = "make";
 
 /// The answer of a search on the text of a module, whose model is loaded first. The text is there
 /// for the proof: only the clauses name it.
@@ -83,7 +80,7 @@ fn any_trace(
     ensures { IfOk result (λ answer. IsFoundIn loaded Exec settings.now.command settings.now.part
         settings.now.conflicts answer) }
 {
-    match made_ready(alloc, loaded, settings.command) {
+    match made_prepared(alloc, loaded, settings.command) {
         Ok(prepared) => trace_in(alloc, settings, prepared, chooser),
         Err(fault) => not_analysed(fault),
     }
@@ -96,8 +93,8 @@ fn trace_in(
     prepared: Prepared,
     chooser: Box<dyn Chooser>,
 ) -> Result<Answer, AllocError>
-    requires { IsModelOf prepared.loaded settings.now.command prepared }
-    ensures { IfOk result (λ answer. IsFoundIn prepared.loaded Exec settings.now.command
+    requires { IsPreparedOf prepared.ready.loaded settings.now.command prepared }
+    ensures { IfOk result (λ answer. IsFoundIn prepared.ready.loaded Exec settings.now.command
         settings.now.part settings.now.conflicts answer) }
 {
     let found = search_prepared(alloc, prepared, chooser, settings.conflicts)?;
@@ -114,7 +111,7 @@ fn least_trace(
     ensures { IfOk result (λ answer. IsFoundIn loaded Least settings.now.command settings.now.part
         settings.now.conflicts answer) }
 {
-    match made_ready(alloc, loaded, settings.command) {
+    match made_prepared(alloc, loaded, settings.command) {
         Ok(prepared) => least_of(alloc, settings, prepared, chooser),
         Err(fault) => not_analysed(fault),
     }
@@ -127,8 +124,8 @@ fn least_of(
     prepared: Prepared,
     chooser: Box<dyn Chooser>,
 ) -> Result<Answer, AllocError>
-    requires { IsModelOf prepared.loaded settings.now.command prepared }
-    ensures { IfOk result (λ answer. IsFoundIn prepared.loaded Least settings.now.command
+    requires { IsPreparedOf prepared.ready.loaded settings.now.command prepared }
+    ensures { IfOk result (λ answer. IsFoundIn prepared.ready.loaded Least settings.now.command
         settings.now.part settings.now.conflicts answer) }
 {
     let mut boxed = Boxed { chooser };
@@ -147,7 +144,7 @@ fn ruling_facts(
     ensures { IfOk result (λ answer. IsFoundIn loaded Core settings.now.command settings.now.part
         settings.now.conflicts answer) }
 {
-    match made_ready(alloc, loaded, settings.command) {
+    match made_prepared(alloc, loaded, settings.command) {
         Ok(prepared) => core_of(alloc, settings, prepared, chooser),
         Err(fault) => not_analysed(fault),
     }
@@ -160,8 +157,8 @@ fn core_of(
     prepared: Prepared,
     chooser: Box<dyn Chooser>,
 ) -> Result<Answer, AllocError>
-    requires { IsModelOf prepared.loaded settings.now.command prepared }
-    ensures { IfOk result (λ answer. IsFoundIn prepared.loaded Core settings.now.command
+    requires { IsPreparedOf prepared.ready.loaded settings.now.command prepared }
+    ensures { IfOk result (λ answer. IsFoundIn prepared.ready.loaded Core settings.now.command
         settings.now.part settings.now.conflicts answer) }
 {
     let mut boxed = Boxed { chooser };
@@ -182,7 +179,7 @@ fn answer_of(found: Certificate) -> Answer
 }
 
 /// The chooser of this number.
-fn chosen(
+pub(crate) fn chosen(
     mut choosers: Vec<Box<dyn Chooser>>,
     number: u32,
 ) -> Result<Box<dyn Chooser>, AllocError> {
@@ -196,9 +193,10 @@ fn chosen(
 
 /// The text of what a search found.
 fn found_text(alloc: Global, settings: &Settings, found: Found) -> Result<Answer, AllocError>
-    ensures { (prepared : PreparedOf) → IsModelOf prepared.loaded settings.now.command prepared →
+    ensures { (prepared : PreparedOf) →
+        IsPreparedOf prepared.ready.loaded settings.now.command prepared →
         outcome.IsFoundIn prepared settings.now.conflicts found →
-        IfOk result (λ answer. IsFoundIn prepared.loaded Exec settings.now.command
+        IfOk result (λ answer. IsFoundIn prepared.ready.loaded Exec settings.now.command
         settings.now.part settings.now.conflicts answer) }
 {
     match found {
@@ -224,7 +222,7 @@ fn found_text(alloc: Global, settings: &Settings, found: Found) -> Result<Answer
 }
 
 /// The text of an answer that is left open, since the budget is spent.
-fn spent_text(
+pub(crate) fn spent_text(
     alloc: Global,
     settings: &Settings,
     table: &Table,
@@ -260,81 +258,5 @@ pub fn not_loaded(fault: LoadFault) -> Result<Answer, AllocError>
         LoadFault::Refused(refusal, name) => Ok(Answer::Refused(refusal, name)),
         LoadFault::Read(name) => Ok(Answer::ReadFault(name)),
         LoadFault::Memory => Err(AllocError),
-    }
-}
-
-/// The answer on the model of a ring of as many nodes as the settings name.
-#[tactic(auto, using(crate::proofs::OnModel::made_on, crate::proofs::OnModel::ring_fault_on, crate::proofs::OnModel::later_of))]
-pub fn make<L: Libraries>(
-    alloc: Global,
-    settings: &Settings,
-    choosers: Vec<Box<dyn Chooser>>,
-    libraries: &mut L,
-) -> Result<Answer, AllocError>
-    ensures keeps { L.told libraries.new ≡ L.told libraries.old }
-    ensures later { NoneFell (L.counts libraries.old) (L.counts libraries.new) }
-    ensures on { IfOk result (λ answer. IsOnRing (L.counts libraries.old) (L.counts libraries.new)
-        answer) }
-{
-    let nodes = nodes_in(settings.file.text());
-    let text = ring_text(alloc, nodes)?;
-    match load_text(alloc, libraries, RING, &text) {
-        Ok(loaded) => made(alloc, settings, nodes, loaded, choosers),
-        Err(fault) => not_loaded(fault),
-    }
-}
-
-/// The number of nodes that a text names.
-fn nodes_in(text: &str) -> u64 {
-    match text.parse::<u64>() {
-        Ok(nodes) => nodes,
-        Err(_) => 0,
-    }
-}
-
-/// The answer of an analysis of the model of a ring of so many nodes.
-fn made(
-    alloc: Global,
-    settings: &Settings,
-    nodes: u64,
-    loaded: Loaded,
-    choosers: Vec<Box<dyn Chooser>>,
-) -> Result<Answer, AllocError>
-    ensures { IfOk result (λ answer. IsMade answer) }
-{
-    let chooser = chosen(choosers, settings.chooser)?;
-    match analyse_loaded(alloc, loaded, settings.command, chooser, settings.conflicts) {
-        Ok(found) => made_text(alloc, settings, nodes, found),
-        Err(fault) => not_analysed(fault),
-    }
-}
-
-/// The summary of what was found on a ring of so many nodes. Where it is left open, the whole
-/// answer follows.
-fn made_text(
-    alloc: Global,
-    settings: &Settings,
-    nodes: u64,
-    found: Found,
-) -> Result<Answer, AllocError>
-    ensures { IfOk result (λ answer. IsMade answer) }
-{
-    match found {
-        Found::Trace { labels: _, lasso } => {
-            let line = made_trace(alloc, nodes, lasso.states(), lasso.loop_start())?;
-            Ok(Answer::Made(Bytes::copy(alloc, line.as_bytes())?))
-        }
-        Found::Refuted { states, .. } => {
-            let line = made_none(alloc, nodes, states)?;
-            Ok(Answer::Made(Bytes::copy(alloc, line.as_bytes())?))
-        }
-        Found::Unknown { table, cnf, lines } => {
-            let line = made_unknown(alloc, nodes)?;
-            let text = spent_text(alloc, settings, &table, &cnf, &lines)?;
-            let mut whole = Vec::new(alloc);
-            whole.extend_from_slice(line.as_bytes())?;
-            whole.extend_from_slice(&text)?;
-            Ok(Answer::Made(Bytes::from_vec(whole)))
-        }
     }
 }

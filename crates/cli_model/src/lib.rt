@@ -11,11 +11,12 @@ mod model;
 mod parsed;
 mod ready;
 mod refusals;
+mod ring;
 mod root;
 mod traced;
 
-pub use analysis::make;
 pub use answer::Answer;
 pub use files::{File, whole_file};
 pub use model::on_model;
 pub use refusals::{read_fault, refused};
+pub use ring::make;

@@ -1,6 +1,6 @@
 //! A trace is read: the model is loaded, then the expression is read, then the file of the trace.
 
-ghost use Rattle.std.specs.Prelude.{◌≡◌, ◌≤◌, length, true, is_some, Some, Ok, IfOk, IsTrue};
+ghost use Rattle.std.specs.Prelude.{◌≡◌, true, is_some, Some, Ok, IfOk, IsTrue};
 ghost use Rattle.base_types.specs.Causes.{NoneFell};
 ghost use Rattle.syntax_lexer.specs.Tokens.{tokens_of};
 ghost use Rattle.cli_model.specs.Root.{SpellIn};
@@ -14,7 +14,7 @@ use crate::files::{File, whole_file};
 use crate::parsed::Parsed;
 use crate::ready::made_ready;
 use crate::refusals::{read_fault, refused};
-use answer_analysis::Prepared;
+use answer_analysis::Ready;
 use answer_judge::{ReadValue, TraceAnswer, judge_trace, read_value, value_on_trace};
 use base_types::limits::FILE_BYTES;
 use base_types::{Libraries, Name, Refusal};
@@ -67,7 +67,7 @@ fn on_loaded<L: Libraries>(
         (L.counts libraries.old) (L.counts libraries.new) answer) }
 {
     match made_ready(alloc, loaded, settings.command) {
-        Ok(prepared) => on_prepared(alloc, settings, &prepared, libraries),
+        Ok(ready) => on_ready(alloc, settings, &ready, libraries),
         Err(fault) => not_analysed(fault),
     }
 }
@@ -84,47 +84,32 @@ enum Question {
 }
 
 /// What the settings ask of a trace.
-fn asked_question(
-    alloc: Global,
-    settings: &Settings,
-    prepared: &Prepared,
-) -> Result<Question, AllocError>
+fn asked_question(alloc: Global, settings: &Settings, ready: &Ready) -> Result<Question, AllocError>
     ensures { (refusal : _) → result ≡ Ok (Question.Refused refusal) →
-        RefusesExpression prepared.now.loaded settings.now refusal }
+        RefusesExpression ready.now.loaded settings.now refusal }
 {
     let Some(expression) = &settings.expression else {
         return Ok(Question::Judgement);
     };
     match settings.mode {
-        Mode::Eval => value_asked(alloc, prepared, expression),
+        Mode::Eval => value_asked(alloc, ready, expression),
         _ => Ok(Question::Judgement),
     }
 }
 
 /// What an expression asks of a trace.
-fn value_asked(
-    alloc: Global,
-    prepared: &Prepared,
-    expression: &Name,
-) -> Result<Question, AllocError>
+fn value_asked(alloc: Global, ready: &Ready, expression: &Name) -> Result<Question, AllocError>
     ensures { (refusal : _) → result ≡ Ok (Question.Refused refusal) →
-        BreaksExpression prepared.now.loaded expression.now refusal }
+        BreaksExpression ready.now.loaded expression.now refusal }
 {
-    let loaded = &prepared.loaded;
+    let loaded = &ready.loaded;
     let count = loaded.texts.len();
     if count > u32::MAX as usize {
         return Err(AllocError);
     }
     let number = count as u32;
     let text = expression.text().as_bytes();
-    match read_value(
-        alloc,
-        loaded,
-        &prepared.model,
-        &prepared.scopes,
-        number,
-        text,
-    )? {
+    match read_value(alloc, loaded, &ready.model, &ready.scopes, number, text)? {
         ReadValue::Tree(value) => Ok(Question::Value(value)),
         ReadValue::Refused(refusal) => Ok(Question::Refused(refusal)),
     }
@@ -132,10 +117,10 @@ fn value_asked(
 
 /// The answer where an expression is refused, at a place in its own text or in that of a body that
 /// it calls.
-fn refused_value(alloc: Global, prepared: &Prepared, refusal: Refusal) -> Result<Answer, AllocError>
-    ensures { IfOk result (λ answer. RefusesAt prepared.now.loaded refusal answer) }
+fn refused_value(alloc: Global, ready: &Ready, refusal: Refusal) -> Result<Answer, AllocError>
+    ensures { IfOk result (λ answer. RefusesAt ready.now.loaded refusal answer) }
 {
-    let texts = &prepared.loaded.texts;
+    let texts = &ready.loaded.texts;
     let number = refusal.place.module as usize;
     if number >= texts.len() {
         return Ok(Answer::Refused(refusal, Name::copy(alloc, EXPRESSION)?));
@@ -144,25 +129,25 @@ fn refused_value(alloc: Global, prepared: &Prepared, refusal: Refusal) -> Result
     Ok(Answer::Refused(refusal, Name::copy(alloc, name)?))
 }
 
-/// The answer once the model is prepared.
-fn on_prepared<L: Libraries>(
+/// The answer once the model is made ready.
+fn on_ready<L: Libraries>(
     alloc: Global,
     settings: &Settings,
-    prepared: &Prepared,
+    ready: &Ready,
     libraries: &mut L,
 ) -> Result<Answer, AllocError>
-    requires made { IsModelOf prepared.now.loaded settings.now.command prepared.now }
+    requires made { IsModelOf ready.now.loaded settings.now.command ready.now }
     requires mode { IsTrue (reads_trace settings.now.mode) }
     requires second { is_some settings.now.second ≡ true }
     ensures keeps { L.told libraries.new ≡ L.told libraries.old }
     ensures later { NoneFell (L.counts libraries.old) (L.counts libraries.new) }
-    ensures after { IfOk result (λ answer. IsAfter prepared.now.loaded settings.now
+    ensures after { IfOk result (λ answer. IsAfter ready.now.loaded settings.now
         (L.told libraries.old) (L.counts libraries.old) (L.counts libraries.new) answer) }
 {
-    match asked_question(alloc, settings, prepared)? {
-        Question::Judgement => on_second(alloc, settings, prepared, None, libraries),
-        Question::Value(value) => on_second(alloc, settings, prepared, Some(&value), libraries),
-        Question::Refused(refusal) => refused_value(alloc, prepared, refusal),
+    match asked_question(alloc, settings, ready)? {
+        Question::Judgement => on_second(alloc, settings, ready, None, libraries),
+        Question::Value(value) => on_second(alloc, settings, ready, Some(&value), libraries),
+        Question::Refused(refusal) => refused_value(alloc, ready, refusal),
     }
 }
 
@@ -170,16 +155,16 @@ fn on_prepared<L: Libraries>(
 fn on_second<L: Libraries>(
     alloc: Global,
     settings: &Settings,
-    prepared: &Prepared,
+    ready: &Ready,
     value: Option<&Expr>,
     libraries: &mut L,
 ) -> Result<Answer, AllocError>
-    requires made { IsModelOf prepared.now.loaded settings.now.command prepared.now }
+    requires made { IsModelOf ready.now.loaded settings.now.command ready.now }
     requires mode { IsTrue (reads_trace settings.now.mode) }
     requires second { is_some settings.now.second ≡ true }
     ensures keeps { L.told libraries.new ≡ L.told libraries.old }
     ensures later { NoneFell (L.counts libraries.old) (L.counts libraries.new) }
-    ensures after { IfOk result (λ answer. IsAfter prepared.now.loaded settings.now
+    ensures after { IfOk result (λ answer. IsAfter ready.now.loaded settings.now
         (L.told libraries.old) (L.counts libraries.old) (L.counts libraries.new) answer) }
 {
     let Some(second) = &settings.second else {
@@ -187,7 +172,7 @@ fn on_second<L: Libraries>(
     };
     let name = second.text();
     match whole_file(alloc, libraries, name, FILE_BYTES)? {
-        File::Whole(trace) => on_trace(alloc, settings, prepared, value, name, &trace),
+        File::Whole(trace) => on_trace(alloc, settings, ready, value, name, &trace),
         File::Broken(rule) => refused(alloc, rule, name),
         File::Failed => read_fault(alloc, name),
     }
@@ -197,17 +182,17 @@ fn on_second<L: Libraries>(
 fn on_trace(
     alloc: Global,
     settings: &Settings,
-    prepared: &Prepared,
+    ready: &Ready,
     value: Option<&Expr>,
     second: &str,
     trace: &[u8],
 ) -> Result<Answer, AllocError>
-    requires made { IsModelOf prepared.now.loaded settings.now.command prepared.now }
+    requires made { IsModelOf ready.now.loaded settings.now.command ready.now }
     requires mode { IsTrue (reads_trace settings.now.mode) }
-    ensures { IfOk result (λ answer. IsSaidOf prepared.now.loaded settings.now second.now
+    ensures { IfOk result (λ answer. IsSaidOf ready.now.loaded settings.now second.now
         trace.now answer) }
 {
-    let said = said_of(alloc, settings, prepared, value, trace)?;
+    let said = said_of(alloc, settings, ready, value, trace)?;
     Ok(Answer::Traced(said, Name::copy(alloc, second)?))
 }
 
@@ -215,19 +200,19 @@ fn on_trace(
 fn said_of(
     alloc: Global,
     settings: &Settings,
-    prepared: &Prepared,
+    ready: &Ready,
     value: Option<&Expr>,
     trace: &[u8],
 ) -> Result<TraceAnswer, AllocError>
-    requires made { IsModelOf prepared.now.loaded settings.now.command prepared.now }
+    requires made { IsModelOf ready.now.loaded settings.now.command ready.now }
     requires mode { IsTrue (reads_trace settings.now.mode) }
-    ensures { IfOk result (λ said. IsSaid prepared.now.loaded settings.now.mode settings.now
+    ensures { IfOk result (λ said. IsSaid ready.now.loaded settings.now.mode settings.now
         trace.now said) }
 {
     match settings.mode {
-        Mode::Replay => judge_trace(alloc, prepared, trace),
+        Mode::Replay => judge_trace(alloc, ready, trace),
         Mode::Eval => match value {
-            Some(value) => value_on_trace(alloc, prepared, value, settings.position, trace),
+            Some(value) => value_on_trace(alloc, ready, value, settings.position, trace),
             // Settings that fit have an expression.
             None => Err(AllocError),
         },

@@ -12,7 +12,8 @@ use Rattle.cli_words.specs.Named.{takes_second}
 use Rattle.cli_words.specs.Settings.{has_second}
 use Rattle.cli_words.specs.declared.settings.Settings.{Settings}
 use Rattle.cli_model.specs.Files.{Asked, IsFile, asked, asked_in, second_asked, at_start, file_rule, first_broken, first_of}
-use Rattle.cli_model.specs.Model.{IsOnModel, IsOnRing}
+use Rattle.cli_model.specs.Made.{IsOnRing}
+use Rattle.cli_model.specs.Model.{IsOnModel}
 use Rattle.cli_run.specs.Allowed.{AllowsFiles, IsOnProof, IsCheckedIn, RefusedFor, model_in, model_of}
 use Rattle.cli_model.specs.Loads.{IsLoadedIn}
 use Rattle.cli_model.specs.Refused.{RefusedIn}
@@ -187,21 +188,21 @@ pub has_one : (settings : Settings) → settings.mode ≡ Lrat → has_second se
 has_one settings mode has = subst (λ m. cond (takes_second m) (is_some settings.second) (not (is_some settings.second)) ≡ true) mode has
 
 -- the answer on a model that is made
-ring_one : (settings : Settings) (held : List (Option Texts)) (before now : List ℕ) → settings.mode ≡ Make → (a : Answer) → IsOnRing before now a → AllowsFiles [] settings held before now a
+ring_one : (settings : Settings) (held : List (Option Texts)) (before now : List ℕ) → settings.mode ≡ Make → (a : Answer) → IsOnRing held settings before now a → AllowsFiles [] settings held before now a
 ring_one settings held before now mode Usage h = absurd h
 ring_one settings held before now mode (Refused refusal name) h = (h, λ told tells. inr (inr mode))
 ring_one settings held before now mode (ReadFault name) h = (inr (inr (inl (mode, h.0))), h.1)
 ring_one settings held before now mode (Trace text) h = absurd h
 ring_one settings held before now mode (Refuted text) h = absurd h
 ring_one settings held before now mode (Unknown text) h = absurd h
-ring_one settings held before now mode (Made text) h = (h, mode)
+ring_one settings held before now mode (Made text) h = (h.0, mode, h.1)
 ring_one settings held before now mode (Listed list) h = absurd h
 ring_one settings held before now mode (Checked verdict clauses lines) h = absurd h
 ring_one settings held before now mode (Traced said second) h = absurd h
 
 pub ring_allows : (settings : Settings) (held : List (Option Texts)) (before now : List ℕ) → settings.mode ≡ Make → (r : Result Answer AllocError) (answer : Answer) → r ≡ Ok answer →
-    IfOk r (IsOnRing before now) → AllowsFiles (asked settings) settings held before now answer
+    IfOk r (IsOnRing held settings before now) → AllowsFiles (asked settings) settings held before now answer
 ring_allows settings held before now mode r answer is on =
     let none : asked settings ≡ [] = ap (λ m. asked_in m settings.file settings.second) mode in
     subst (λ fs. AllowsFiles fs settings held before now answer) (sym none)
-    (ring_one settings held before now mode answer (if_ok (IsOnRing before now) r answer on is))
+    (ring_one settings held before now mode answer (if_ok (IsOnRing held settings before now) r answer on is))

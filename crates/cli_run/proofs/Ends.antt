@@ -291,7 +291,8 @@ module _ (run : Run) where
   checked_given (Some settings) (Trace text) fit allows same low line = elim low [ inl e ↦ absurd (omega arith) | inr e ↦ absurd (omega arith) ]
   checked_given (Some settings) (Refuted text) fit allows same low line = elim low [ inl e ↦ absurd (omega arith) | inr e ↦ absurd (omega arith) ]
   checked_given (Some settings) (Unknown text) fit allows same low line = elim low [ inl e ↦ absurd (omega arith) | inr e ↦ absurd (omega arith) ]
-  checked_given (Some settings) (Made text) fit allows same low line = inr (inr (inr (record { settings = settings; fit = fit; mode = allows.1; has = same })))
+  checked_given (Some settings) (Made text) fit allows same low line =
+      inr (inr (inr (record { settings = settings; text = text; fit = fit; mode = allows.1; cause = allows.2; line = line; has = same })))
   checked_given (Some settings) (Listed list) fit allows same low line =
       inr (inr (inl (record { settings = settings; list = list; fit = fit; cause = allows.1; line = line; has = same })))
   checked_given (Some settings) (Checked v clauses lines) fit allows same low line =

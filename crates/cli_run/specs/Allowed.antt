@@ -17,6 +17,7 @@ use Rattle.sat_verdict.specs.declared.mode.Verdict.TheVariants as says
 use Rattle.cli_model.specs.Answer.{text_of, status_of}
 use Rattle.cli_model.specs.Files.{Asked, IsAsked, asked, at_start, first_broken}
 use Rattle.cli_model.specs.Loads.{IsLoadedIn}
+use Rattle.cli_model.specs.Made.{MakesRing}
 use Rattle.cli_model.specs.Modes.{looks}
 use Rattle.cli_model.specs.Refused.{RefusedIn}
 use Rattle.cli_model.specs.Root.{ListsModule}
@@ -101,7 +102,7 @@ AllowsFiles files settings held before now (ReadFault name) = IsSought settings 
 AllowsFiles files settings held before now (Trace text) = (now ≡ before) × (loaded : Loaded) × IsSearched held files settings loaded × ShownTrace loaded settings.mode settings.command settings.part settings.conflicts text
 AllowsFiles files settings held before now (Refuted text) = (now ≡ before) × (loaded : Loaded) × IsSearched held files settings loaded × ShownNone loaded settings.mode settings.command settings.part settings.conflicts text
 AllowsFiles files settings held before now (Unknown text) = (now ≡ before) × (loaded : Loaded) × IsSearched held files settings loaded × ShownSpent loaded settings.mode settings.command settings.conflicts text
-AllowsFiles files settings held before now (Made text) = (now ≡ before) × (settings.mode ≡ Make)
+AllowsFiles files settings held before now (Made text) = (now ≡ before) × (settings.mode ≡ Make) × MakesRing held settings text
 AllowsFiles files settings held before now (Listed list) = (now ≡ before) × IsListed held files settings list
 AllowsFiles files settings held before now (Checked verdict clauses lines) = (now ≡ before) × IsProof held files settings verdict clauses lines
 AllowsFiles files settings held before now (Traced said second) = (now ≡ before) × (loaded : Loaded) × IsOnModule held files settings loaded × IsReadTrace held loaded settings said second

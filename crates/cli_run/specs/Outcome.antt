@@ -16,6 +16,7 @@ use Rattle.sat_verdict.specs.declared.mode.Verdict.{Verdict}
 use Rattle.cli_model.specs.Answer.{text_of, refused_line, fault_line, checked_line}
 use Rattle.cli_model.specs.Files.{asked}
 use Rattle.cli_run.specs.Allowed.{Allows, Written, Begun, IsRefused, IsSearched, IsListed, IsOnModule}
+use Rattle.cli_model.specs.Made.{MakesRing}
 use Rattle.cli_model.specs.Model.{IsReadTrace, ShownTrace, ShownNone, ShownSpent}
 use Rattle.cli_run.specs.Allowed.{IsSought, IsProof}
 use Rattle.cli_model.specs.declared.answer.Answer.{Answer}
@@ -114,11 +115,14 @@ pub record ListsCommands (r : Run) : Type 0 where
   pub line : Wrote r list
   pub has : r.status ≡ 0
 
--- The model of a ring was made and analysed, with status 0.
+-- The model of a ring was made and analysed, with status 0, and what was found was summed up.
 pub record MakesModel (r : Run) : Type 0 where
   pub settings : Settings
+  pub text : List ℕ
   pub fit : r.settings ≡ Some settings
   pub mode : settings.mode ≡ Make
+  pub cause : MakesRing r.held settings text
+  pub line : Wrote r text
   pub has : r.status ≡ 0
 
 -- Some library failed in this call at a name that the run asks for, that of a file or that of a

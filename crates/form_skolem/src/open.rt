@@ -1,11 +1,13 @@
 //! The model in which each relation parameter of the command's predicate is a field.
 
 ghost use Rattle.std.specs.Prelude.{◌≡◌, length, IfOk};
+ghost use Rattle.resolve_check.specs.Kept.{IsModelButTypes};
 
 use crate::fields::add_field;
 use crate::formula::run_formula;
 use crate::ground::{Known, known_of};
 use core_tree::{BodyList, CommandList, FieldList, Formula, Model, Multiplicity, Parameter, Sig};
+use resolve_check::keeps_model;
 use resolve_types::{Columns, model_rows, static_type};
 use std::alloc::{AllocError, Global};
 
@@ -156,8 +158,12 @@ fn opened(
 
 /// The model in which each relation parameter of the command's predicate is a static field without
 /// owner, and the command asks the predicate's body of these fields. Without such parameters, or
-/// without such a command, the model comes back as it was.
-pub fn open_params(alloc: Global, model: Model, command: u32) -> Result<Model, AllocError> {
+/// without such a command, the model comes back as it was. A model with new fields is tested for
+/// what each model keeps; none is known that fails, and the answer to one would be want of memory.
+pub fn open_params(alloc: Global, model: Model, command: u32) -> Result<Model, AllocError>
+    requires { IsModelButTypes model }
+    ensures { IfOk result IsModelButTypes }
+{
     let body = match body_of(&model, command) {
         None => return Ok(model),
         Some(body) => body,
@@ -166,5 +172,11 @@ pub fn open_params(alloc: Global, model: Model, command: u32) -> Result<Model, A
     if !has_relation(&model.bodies, body as usize, types.as_slice()) {
         return Ok(model);
     }
-    opened(alloc, model, command, body, types.as_slice())
+    let changed = opened(alloc, model, command, body, types.as_slice())?;
+    let is_kept = keeps_model(alloc, &changed)?;
+    if is_kept {
+        Ok(changed)
+    } else {
+        Err(AllocError)
+    }
 }

@@ -6,9 +6,8 @@ use bench_gates::{among, gate_values};
 use bmc_encoder::{Encoded, encode};
 use bound_uppers::{Bounds, decode, layout};
 use core_meaning::{Lasso, Scopes, Target};
-use core_tree::Model;
+use core_tree::{Formula, Model};
 use eval_trace::{declared, holds, keeps};
-use form_target::PartList;
 use gate_store::CircuitStore;
 use gate_trait::{Gates, Node};
 use std::alloc::{AllocError, Global};
@@ -20,12 +19,12 @@ const MOST_VARIABLES: u64 = 16;
 #[derive(Clone, Copy)]
 pub struct Question<'a> {
     pub model: &'a Model,
+    /// The number of the command.
+    pub command: u32,
     pub scopes: &'a Scopes,
     pub bounds: &'a Bounds,
     pub target: &'a Target,
-    /// The facts and the command as they were resolved.
-    pub parts: &'a PartList,
-    /// How many formulas of the target say what the declarations do; those of the parts follow.
+    /// How many formulas of the target say what the declarations do; those of the facts and the command follow.
     pub first_fact: u32,
 }
 
@@ -71,7 +70,21 @@ fn all_true(values: &[bool], roots: &[Node], first: usize, end: usize) -> bool {
     true
 }
 
-/// Takes in what is judged of the parts, whose roots stand from this place on. The answer is whether all hold.
+/// Takes in what is judged of a formula at the first position, and what its root says. The answer is whether it holds.
+fn add_formula(
+    alloc: Global,
+    asked: &Question,
+    lasso: &Lasso,
+    formula: &Formula,
+    root: bool,
+    tally: &mut Tally,
+) -> Result<bool, AllocError> {
+    let truth = holds(alloc, asked.model, asked.scopes, lasso, formula, 0)?;
+    Ok(tally.add(truth, root))
+}
+
+/// Takes in what is judged of the facts and the command, whose roots stand behind those of the declarations. The answer is
+/// whether all hold.
 fn add_parts(
     alloc: Global,
     asked: &Question,
@@ -82,14 +95,19 @@ fn add_parts(
 ) -> Result<bool, AllocError> {
     let mut all_hold = true;
     let mut place = (asked.first_fact as usize).saturating_add(1);
-    for part in asked.parts.as_slice() {
-        let truth = holds(alloc, asked.model, asked.scopes, lasso, &part.formula, 0)?;
-        let part_holds = tally.add(truth, root_value(values, roots, place));
-        all_hold = all_hold && part_holds;
+    for fact in asked.model.facts.as_slice() {
+        let root = root_value(values, roots, place);
+        let fact_holds = add_formula(alloc, asked, lasso, &fact.formula, root, tally)?;
+        all_hold = all_hold && fact_holds;
         place = place.saturating_add(1);
     }
-    tally.add(true, place == roots.len());
-    Ok(all_hold)
+    let Some(command) = asked.model.commands.as_slice().get(asked.command as usize) else {
+        return Err(AllocError);
+    };
+    let root = root_value(values, roots, place);
+    let command_holds = add_formula(alloc, asked, lasso, &command.formula, root, tally)?;
+    tally.add(true, place.saturating_add(1) == roots.len());
+    Ok(all_hold && command_holds)
 }
 
 /// Takes in what is judged of one lasso. The first root says that the scopes are kept, the next ones that the declarations hold,

@@ -1,31 +1,9 @@
-use Rattle.std.proofs.Common.{◌≡◌, Option, Some, arith, subst}
-use Rattle.std.specs.Prelude.{All, IfSome}
-use Rattle.bound_scopes.specs.Numbers.{IsListed}
-use Rattle.core_tree.specs.declared.model.Command.{Command}
+use Rattle.std.proofs.Common.{ap, ◌∙◌}
+use Rattle.answer_analysis.specs.declared.ready.Ready.{Ready}
 use Rattle.answer_analysis.proofs.ready.prepare_loaded.Goals as goal
 
-of_chosen : (o : Option Command) (command : Command) (P : Command → Type 0) → o ≡ Some command → IfSome o P → P command
-of_chosen o command P is held = subst (λ (x : Option Command). IfSome x P) is held
+pub returns-clause-prepared : goal.returns-clause-prepared
+returns-clause-prepared c = c.in_ok-prepared.ensures.prepared c.args.command c.in_ok-ready.ensures.ready
 
-pub returns-clause-ready : goal.returns-clause-ready
-returns-clause-ready c = record {
-  kept = c.in_ok-model.ensures.kept;
-  plain = c.in_ok-model.ensures.plain;
-  command = c.get-chosen.result.now;
-  chosen = c.get-chosen.ensures;
-  parts_are = c.in_ok-parts.ensures;
-  target_is = c.in_ok-target.ensures.target;
-  scoped = c.in_ok-target.ensures.scopes;
-  counted = c.in_ok-labels.ensures.counted;
-  scopes_are = c.in_ok-scopes.ensures.scopes;
-  scoped_by = of_chosen _ _ _ c.get-chosen.ensures c.in_ok-scopes.ensures.by;
-  listed = subst (λ (o : Option Command). IfSome o (λ d. All (IsListed c.in_ok-scopes.scopes.numbers) d.scope)) c.get-chosen.ensures c.in_ok-scopes.ensures.listed;
-  table = c.in_ok-bounds.ensures.table;
-  bounds_are = record { most = c.in_ok-bounds.ensures.most; origins = c.in_ok-bounds.ensures.origins; uppers = c.in_ok-bounds.ensures.uppers; fixed = c.in_ok-bounds.ensures.fixed };
-  states = (let some = c.in_ok-scopes.ensures.scopes.states.0 in c.in_ok-bounds.ensures.states (omega (arith, some)));
-  relations_are = c.in_ok-labels.ensures.relations;
-  labels_are = c.in_ok-labels.ensures.labels;
-  atoms_are = c.in_ok-labels.ensures.atoms;
-  read = c.in_ok-labels.ensures.read;
-  universe = c.in_ok-labels.ensures.universe;
-}
+pub returns-clause-loaded : goal.returns-clause-loaded
+returns-clause-loaded c = ap (λ (r : Ready). r.loaded) c.in_ok-prepared.ensures.same ∙ c.in_ok-ready.ensures.loaded

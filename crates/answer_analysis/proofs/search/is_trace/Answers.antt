@@ -1,11 +1,9 @@
-use Rattle.std.proofs.Common.{◌∙◌, sym}
 use Rattle.answer_analysis.proofs.search.is_trace.Goals as goal
 
 pub returns-clause-trace : goal.returns-clause-trace
 returns-clause-trace c t = record {
-  facts = c.in-Some.field-0-1.now;
-  command = c.in-Some.command.now;
-  parts_are = sym c.as_slice.ensures ∙ c.in-Some.ensures.cases.0;
+  command = c.get-command.result.now;
+  chosen = c.get-command.ensures;
   satisfies = c.in_ok-holds.ensures.0 t;
 }
 

@@ -1,4 +1,3 @@
-use Rattle.std.proofs.Common.{◌≡◌, Some, length}
 use Rattle.answer_certificates.proofs.certificate.spent_shown.Goals as goal
 
 pub returns : goal.returns

@@ -1,3 +1,5 @@
+use Rattle.std.proofs.Common.{ℕ, subst}
+use Rattle.answer_certificates.specs.Certificate.{RowsOver}
 use Rattle.answer_certificates.proofs.least.above_shown.Goals as goal
 
 pub returns : goal.returns
@@ -14,6 +16,6 @@ returns c budget fresh = record {
   says = c.requires.says;
   refutes = c.requires.refutes;
   fresh = fresh;
-  lined = c.in_ok-rows.ensures;
+  lined = subst (λ (n : ℕ). RowsOver c.args.prepared.now n c.in_ok-rows.rows) c.requires.counted c.in_ok-rows.ensures;
   text_is = cc (c.from_vec-shown.ensures, c.in_ok-text.ensures, c.in_ok-trace.ensures);
 }

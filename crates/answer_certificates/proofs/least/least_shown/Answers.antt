@@ -10,5 +10,8 @@ returns-in_ok-text-in-Some c budget fresh = inr (c.in_ok-text-in-Some.ensures bu
 pub above_shown-requires-clause-none : goal.above_shown-requires-clause-none
 above_shown-requires-clause-none c = (c.requires.some c.in-Some.proof c.in-Some.is).2
 
+pub above_shown-requires-clause-counted : goal.above_shown-requires-clause-counted
+above_shown-requires-clause-counted c = c.requires.counted c.in-Some.proof c.in-Some.is
+
 pub above_shown-requires-clause-says : goal.above_shown-requires-clause-says
 above_shown-requires-clause-says c = c.requires.says c.in-Some.proof c.in-Some.is

@@ -1,4 +1,4 @@
 use Rattle.answer_judge.proofs.judge.judged_fact.Goals as goal
 
 pub returns : goal.returns
-returns c = (c.in_ok-fact.ensures, c.in_ok-holds.ensures)
+returns c = (c.in_ok-name.ensures, c.in_ok-holds.ensures)

@@ -10,5 +10,5 @@ returns c = record {
   right = c.in_ok-judgement.ensures;
   text_is = cc (c.from_vec-shown.ensures, c.in_ok-text.ensures);
   all_hold = c.is_satisfied-satisfied.ensures;
-  satisfies = satisfied_is c.args.prepared.now c.args.lasso.now c.in_ok-judgement.judgement c.in_ok-judgement.ensures c.is_satisfied-satisfied.result c.is_satisfied-satisfied.ensures;
+  satisfies = satisfied_is c.args.ready.now c.args.lasso.now c.in_ok-judgement.judgement c.in_ok-judgement.ensures c.is_satisfied-satisfied.result c.is_satisfied-satisfied.ensures;
 }

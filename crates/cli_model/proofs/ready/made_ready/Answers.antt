@@ -5,5 +5,5 @@ pub returns-clause-made : goal.returns-clause-made
 returns-clause-made c = record {
   loaded_is = refl;
   placed = c.in_ok-is_of_texts.ensures c.if-not-is_of_texts.false;
-  ready = c.in_ok-prepared.ensures.ready;
+  ready = c.in_ok-ready.ensures.ready;
 }

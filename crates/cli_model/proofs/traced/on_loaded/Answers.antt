@@ -8,8 +8,8 @@ pub returns-in-Ok-clause-after : goal.returns-in-Ok-clause-after
 returns-in-Ok-clause-after g c =
     let told = g.L.Libraries.told c.args.libraries.now in
     let before = g.L.Libraries.counts c.args.libraries.now in
-    let now = g.L.Libraries.counts c.on_prepared.new.libraries in
-    subst (λ m. IfOk c.on_prepared.result (IsAfter m c.args.settings.now told before now)) c.in-Ok.ensures.loaded c.on_prepared.ensures.after
+    let now = g.L.Libraries.counts c.on_ready.new.libraries in
+    subst (λ m. IfOk c.on_ready.result (IsAfter m c.args.settings.now told before now)) c.in-Ok.ensures.loaded c.on_ready.ensures.after
 
 pub returns-in-Err-clause-after : goal.returns-in-Err-clause-after
 returns-in-Err-clause-after g c =

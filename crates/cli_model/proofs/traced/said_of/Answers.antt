@@ -1,19 +1,19 @@
 use Rattle.std.proofs.lemmas.Result.{IfOk-weaker}
 use Rattle.core_tree.specs.Trees.{Term, term_of}
-use Rattle.answer_analysis.specs.declared.ready.Prepared.{Prepared}
+use Rattle.answer_analysis.specs.declared.ready.Ready.{Ready}
 use Rattle.answer_judge.specs.Judged.{IsJudgement, IsValue}
 use Rattle.cli_model.specs.Model.{OfModel}
 use Rattle.cli_model.proofs.traced.said_of.Goals as goal
 
 pub returns-in-Replay : goal.returns-in-Replay
 returns-in-Replay c =
-    rw c.in-Replay.is (IfOk-weaker c.judge_trace.result (IsJudgement c.args.prepared.now c.args.trace.now) (λ said. OfModel c.args.prepared.now.loaded c.args.settings.now.command (λ (p : Prepared). IsJudgement p c.args.trace.now said))
-    (λ said judged. (c.args.prepared.now, c.requires.made, judged)) c.judge_trace.ensures)
+    rw c.in-Replay.is (IfOk-weaker c.judge_trace.result (IsJudgement c.args.ready.now c.args.trace.now) (λ said. OfModel c.args.ready.now.loaded c.args.settings.now.command (λ (p : Ready). IsJudgement p c.args.trace.now said))
+    (λ said judged. (c.args.ready.now, c.requires.made, judged)) c.judge_trace.ensures)
 
 pub returns-in-Some : goal.returns-in-Some
 returns-in-Some c =
-    rw c.in-Eval.is (IfOk-weaker c.value_on_trace.result (IsValue c.args.prepared.now (term_of c.in-Some.value.now) c.args.settings.now.position c.args.trace.now) (λ said. OfModel c.args.prepared.now.loaded c.args.settings.now.command (λ (p : Prepared). (value : Term) × IsValue p value c.args.settings.now.position c.args.trace.now said))
-    (λ said valued. (c.args.prepared.now, c.requires.made, (term_of c.in-Some.value.now, valued))) c.value_on_trace.ensures)
+    rw c.in-Eval.is (IfOk-weaker c.value_on_trace.result (IsValue c.args.ready.now (term_of c.in-Some.value.now) c.args.settings.now.position c.args.trace.now) (λ said. OfModel c.args.ready.now.loaded c.args.settings.now.command (λ (p : Ready). (value : Term) × IsValue p value c.args.settings.now.position c.args.trace.now said))
+    (λ said valued. (c.args.ready.now, c.requires.made, (term_of c.in-Some.value.now, valued))) c.value_on_trace.ensures)
 
 pub judge_trace-requires : goal.judge_trace-requires
 judge_trace-requires c = c.requires.made.ready.read

@@ -6,8 +6,8 @@ use Rattle.cli_model.proofs.traced.value_asked.Goals as goal
 pub returns-in-Refused : goal.returns-in-Refused
 returns-in-Refused c refusal is =
     let same : c.in-Refused.refusal ≡ refusal = cc is in
-    subst (BreaksExpression c.args.prepared.now.loaded c.args.expression.now) same
-    (breaks_of c.args.prepared.now.loaded c.args.expression.now c.as_bytes-text.result.now (length c.args.prepared.now.loaded.texts) c.in-Refused.refusal
+    subst (BreaksExpression c.args.ready.now.loaded c.args.expression.now) same
+    (breaks_of c.args.ready.now.loaded c.args.expression.now c.as_bytes-text.result.now (length c.args.ready.now.loaded.texts) c.in-Refused.refusal
     (c.as_bytes-text.ensures.value ∙ c.text.ensures) refl
     (λ over. cc (c.in_ok-value.ensures.large over, c.in-Refused.is, c.len-count.ensures))
     (λ broken short cuts. cc (c.in_ok-value.ensures.cut broken short (cc (cuts, c.len-count.ensures)), c.in-Refused.is)))

@@ -1,0 +1,29 @@
+use Rattle.std.proofs.Common.{◌≡◌, Option, Some, arith, refl, subst}
+use Rattle.std.specs.Prelude.{All, IfSome}
+use Rattle.bound_scopes.specs.Numbers.{IsListed}
+use Rattle.core_tree.specs.declared.model.Command.{Command}
+use Rattle.answer_analysis.proofs.ready.ready_loaded.Goals as goal
+
+of_chosen : (o : Option Command) (command : Command) (P : Command → Type 0) → o ≡ Some command → IfSome o P → P command
+of_chosen o command P is held = subst (λ (x : Option Command). IfSome x P) is held
+
+pub returns-clause-ready : goal.returns-clause-ready
+returns-clause-ready c = record {
+  kept = c.in_ok-model.ensures.kept;
+  plain = c.in_ok-model.ensures.plain;
+  command = c.get-chosen.result.now;
+  asked = refl;
+  chosen = c.get-chosen.ensures;
+  counted = c.in_ok-labels.ensures.counted;
+  scopes_are = c.in_ok-scopes.ensures.scopes;
+  scoped_by = of_chosen _ _ _ c.get-chosen.ensures c.in_ok-scopes.ensures.by;
+  listed = subst (λ (o : Option Command). IfSome o (λ d. All (IsListed c.in_ok-scopes.scopes.numbers) d.scope)) c.get-chosen.ensures c.in_ok-scopes.ensures.listed;
+  table = c.in_ok-bounds.ensures.table;
+  bounds_are = record { most = c.in_ok-bounds.ensures.most; origins = c.in_ok-bounds.ensures.origins; uppers = c.in_ok-bounds.ensures.uppers; fixed = c.in_ok-bounds.ensures.fixed };
+  states = (let some = c.in_ok-scopes.ensures.scopes.states.0 in c.in_ok-bounds.ensures.states (omega (arith, some)));
+  relations_are = c.in_ok-labels.ensures.relations;
+  labels_are = c.in_ok-labels.ensures.labels;
+  atoms_are = c.in_ok-labels.ensures.atoms;
+  read = c.in_ok-labels.ensures.read;
+  universe = c.in_ok-labels.ensures.universe;
+}
