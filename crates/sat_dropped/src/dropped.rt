@@ -30,7 +30,9 @@ fn shortest(numbers: &[NumberList], literals: &[i32]) -> usize
 {
     let mut best = 0;
     for place in 1..literals.len() {
-        if len_at(numbers, literal_at(literals, place)) < len_at(numbers, literal_at(literals, best)) {
+        if len_at(numbers, literal_at(literals, place))
+            < len_at(numbers, literal_at(literals, best))
+        {
             best = place;
         }
     }
