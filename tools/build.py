@@ -8,7 +8,7 @@ and the first of the longest chain gets two where that chain is longer than an e
 bench/RESULTS.md measured of a crate's proof, seconds and memory, is what it is taken to need.
 
 A crate that an earlier start built of the same text over the same libraries is left as it is, and one that `rt ci` passed
-on this machine is taken from what it kept, as `rt ci` later takes what is built here.
+on this machine is taken from what it kept, as `rt ci` later takes what is built here, where it would let the text pass.
 
 What is made lies in crates/NAME/out: of a library out/rlib, of a program out/NAME; the log is out/build.log. Standard
 error says which crate it is at. It ends with 0 once all are built, and else with 1; a new start goes on behind the crates
@@ -82,6 +82,13 @@ def is_built(rt, crate, seen):
     return os.path.isfile(made_of(crate)) and rt.rtlib.text_of(stamp_file(crate)) == stamp_of(rt, crate, seen)
 
 
+def is_in_order(rt, crate):
+    """Whether a crate's text is as `rt ci` wants it, whatever its proof says: laid out, and without what is never allowed."""
+    code = rt.rtlib.code_of(crate.folder)
+    words = [rt.RENAMES, rt.IGNORED, *[reach for it, reach in rt.REACHES.items() if it not in crate.allowed]]
+    return not any(re.search(it, code) for it in words) and rt.rtlib.fmt(crate.folder, "--check", sys.stdout) == 0
+
+
 def build_one(name, jobs):
     """Proves and builds one crate over those below it, which are built. This is a process of its own, which writes to the log."""
     rt = load_kit()
@@ -98,7 +105,8 @@ def build_one(name, jobs):
     with kept.in_turn(crate, False, key):
         if not kept.give(crate, False, key):
             status = crate.ci(["--jobs", jobs], tests=False)
-            if not status:
+            # (what is kept, `rt ci` takes unseen)
+            if not status and is_in_order(rt, crate):
                 kept.keep(crate, False, key)
     # (a text that changed meanwhile is built by the next start)
     if not status and text == rt.stamp_of(crate, {}):
