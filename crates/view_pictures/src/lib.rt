@@ -21,6 +21,3 @@ pub use dot::write_dot;
 pub use html::write_html;
 pub use json::write_json;
 pub use xml::write_xml;
-
-#[cfg(test)]
-mod tests;

@@ -15,6 +15,3 @@ pub use fault::TraceFault;
 pub use names::{Names, integer_of, owner_of};
 pub use read::read_trace;
 pub use trace::{Kind, Relation, State, Table, Trace, gone, kind_of, width_of};
-
-#[cfg(test)]
-mod tests;

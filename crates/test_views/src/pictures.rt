@@ -1,8 +1,8 @@
-// What the writers give for one trace with every kind of change and name. Expected values are from docs/FORMATS.md; what
-// Graphviz and a browser make of them, tools/check-views tries.
-use super::*;
+//! What the writers give for one trace with every kind of change and name. Expected values are from docs/FORMATS.md; what
+//! Graphviz and a browser make of them, tools/check-views tries.
 use std::alloc::Global;
 use std::test::Fail;
+use view_pictures::{write_dot, write_html, write_json, write_xml};
 use view_trace::{Trace, read_trace};
 
 const TRACE: &[u8] = b"trace states 2 loop 1

@@ -1,7 +1,7 @@
-// What no clause says: which texts are read, what is read, and the line of a fault. Expected values are from docs/FORMATS.md.
-use super::*;
+//! What no clause says: which texts are read, what is read, and the line of a fault. Expected values are from docs/FORMATS.md.
 use std::alloc::Global;
 use std::test::Fail;
+use view_trace::{Kind, Names, Trace, TraceFault, read_trace};
 
 const TRACE: &[u8] = b"trace states 2 loop 1
 state 0
