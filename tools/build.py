@@ -30,7 +30,7 @@ TOP = os.path.dirname(os.path.dirname(os.path.abspath(__file__)))
 # further one adds a part of that.
 MOST, EACH, JOB = 8_000_000_000, 1_600_000_000, 0.6
 # What a crate is taken to need in seconds that is too short for a row of its own in bench/RESULTS.md.
-SHORT = 38
+SHORT = 98
 
 
 def load_kit():
