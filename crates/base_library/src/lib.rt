@@ -7,6 +7,3 @@ mod embedded;
 mod texts;
 
 pub use embedded::EmbeddedLibrary;
-
-#[cfg(test)]
-mod tests;

@@ -6,6 +6,3 @@ mod items;
 
 pub use boxed::Boxed;
 pub use items::Items;
-
-#[cfg(test)]
-mod tests;

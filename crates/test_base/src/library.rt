@@ -1,5 +1,6 @@
-// The texts by their lengths, lines and sums of bytes, which were taken from the documents and not from the code.
-use super::*;
+//! The texts by their lengths, lines and sums of bytes, which were taken from the documents and not from the code.
+
+use base_library::EmbeddedLibrary;
 use base_types::{Fetch, Library};
 use std::alloc::Global;
 use std::test::Fail;

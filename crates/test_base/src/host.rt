@@ -1,5 +1,6 @@
-// What the two types do with real files and with the real standard output, of which no contract can speak.
-use super::*;
+//! What the two types do with real files and with the real standard output, of which no contract can speak.
+
+use base_host::{FolderLibrary, StdSink};
 use base_types::{Fetch, FetchFault, Library, Sink};
 use std::alloc::Global;
 use std::fs;

@@ -1,4 +1,6 @@
-use crate::Items;
+//! Lists that are made of others.
+
+use base_lists::Items;
 use std::test::Fail;
 
 #[test]
