@@ -18,6 +18,3 @@ mod trail;
 mod watches;
 
 pub use trail::Trail;
-
-#[cfg(test)]
-mod tests;

@@ -10,6 +10,3 @@ mod scan;
 mod search;
 
 pub use search::split;
-
-#[cfg(test)]
-mod tests;

@@ -1,4 +1,5 @@
-use crate::split;
+//! The fast search beside the plain one, and the search that drops each lemma at once.
+
 use sat_checker::{Checker, Step};
 use sat_decide::FirstFree;
 use sat_dimacs::{Cnf, read_cnf, satisfies};
@@ -6,6 +7,7 @@ use sat_lrat::Outcome;
 use sat_solver::{Dropping, solve_dropping, solve_with};
 use std::alloc::{AllocError, Global};
 use std::test::Fail;
+use test_dpll::split;
 
 /// The clauses of a text.
 fn cnf_of(alloc: Global, text: &[u8]) -> Result<Cnf, Fail> {

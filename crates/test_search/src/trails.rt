@@ -1,7 +1,9 @@
+//! What is forced where clauses leave the watches and come back.
+
 ghost use Rattle.std.specs.Prelude.{◌≡◌, ◌<◌, ◌≤◌, IfOk, length};
 
-use crate::Trail;
 use sat_dimacs::{Clause, ClauseList, Cnf};
+use sat_trail::Trail;
 use std::alloc::{AllocError, Global};
 use std::test::Fail;
 

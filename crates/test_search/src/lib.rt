@@ -1,0 +1,9 @@
+//! Tests of the search: its lists of nodes, its trail, and its answers beside those of the plain search.
+#![tactic(auto)]
+
+#[cfg(test)]
+mod nodes;
+#[cfg(test)]
+mod searches;
+#[cfg(test)]
+mod trails;
