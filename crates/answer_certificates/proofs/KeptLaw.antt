@@ -20,9 +20,7 @@ use Rattle.core_meaning.specs.Meaning.{no_names, Holds}
 use Rattle.core_meaning.specs.Sequence.{LassoValue}
 use Rattle.core_meaning.specs.World.{World}
 use Rattle.bound_uppers.specs.Candidates.{IsCandidate}
-use Rattle.bound_uppers.specs.Table.{IsTable}
-use Rattle.bound_uppers.specs.Uppers.{AreUppers}
-use Rattle.bound_laws.specs.Satisfying.{AreBoundsOf, IsLassoOver, SatisfyingAreCandidates}
+use Rattle.bound_laws.specs.Satisfying.{IsLassoOver, SatisfyingAreCandidates}
 use Rattle.form_target.specs.Targets.{IsWrittenOut, Adds, none_added, one_added, fact_claims, always_claims}
 use Rattle.core_tree.specs.Past.{no_depths, past_of}
 use Rattle.bmc_leaves.specs.Shown.{none_nested}
@@ -144,7 +142,7 @@ not_less : (a b : ℕ) → b ≤ a → nat_lt a b ≡ false
 not_less a b low = false_from_ne_true (nat_lt a b) (λ e. let less = ltb-true a b e in omega (arith, low, less))
 
 module _ (number : ℕ) (prepared : Prepared) (kept : List ℕ) (clauses : List (List ℤ)) (made : IsPrepared number prepared)
-    (out : RuleOut prepared.ready.model prepared.target prepared.first_fact (length prepared.ready.model.facts) kept clauses) (lasso : LassoValue) (keeps : KeepsFacts prepared.ready kept lasso) where
+    (out : RuleOut prepared.target prepared.first_fact (length prepared.ready.model.facts) prepared.ready.bounds kept clauses) (lasso : LassoValue) (keeps : KeepsFacts prepared.ready kept lasso) where
   abbrev ready : IsReady number prepared.ready
   ready = made.ready
 
@@ -239,30 +237,19 @@ part_covered target first dropped part is covered =
     (subst (All IsCoveredClaim) (sym is.formulas) (stay_holds IsCoveredClaim (stays first dropped) target.formulas 0 (λ k m f at there e. at_place IsCovered target.formulas k f covered there)))
 
 module _ (number : ℕ) (prepared : Prepared) (kept : List ℕ) (clauses : List (List ℤ)) (made : IsPrepared number prepared)
-    (out : RuleOut prepared.ready.model prepared.target prepared.first_fact (length prepared.ready.model.facts) kept clauses) where
-  no_candidate : All IsCovered prepared.target.formulas → (lasso : LassoValue) → IsCandidate out.limits lasso → KeepsFacts prepared.ready kept lasso → ⊥
+    (out : RuleOut prepared.target prepared.first_fact (length prepared.ready.model.facts) prepared.ready.bounds kept clauses) where
+  no_candidate : All IsCovered prepared.target.formulas → (lasso : LassoValue) → IsCandidate prepared.ready.bounds lasso → KeepsFacts prepared.ready kept lasso → ⊥
   no_candidate covered lasso candidate keeps =
-      let some = made.ready.scopes_are.states.0 in
-      let more : 0 < out.limits.states = omega (arith, some, out.states, ap (λ (s : Scopes). s.states) made.scoped) in
-      let table : IsTable out.limits = out.limits_are.table out.limits.states more in
       let part = out.refuted in
       let plain = part_covered prepared.target prepared.first_fact out.dropped part.part part.is_part covered in
-      part.ruled table plain lasso candidate (part_meets number prepared kept clauses made out lasso keeps)
-
-  limits_are : AreBoundsOf prepared.ready.model prepared.ready.scopes out.limits
-  limits_are = record {
-    most = made.ready.bounds_are.most;
-    origins = made.ready.bounds_are.origins;
-    uppers = subst (λ (scopes : Scopes). AreUppers prepared.ready.model scopes out.limits.relations) made.scoped out.limits_are.uppers;
-    fixed = out.limits_are.fixed;
-  }
+      part.ruled made.ready.table plain lasso candidate (part_meets number prepared kept clauses made out lasso keeps)
 
   -- a lasso that keeps the facts has a renaming that is a candidate and keeps them too
   no_lasso : SatisfyingAreCandidates → All IsCovered prepared.target.formulas → IsUsual prepared.ready.model →
-      (lasso : LassoValue) → IsLassoOver prepared.ready.model prepared.ready.scopes lasso → length lasso.states ≤ out.limits.states → KeepsFacts prepared.ready kept lasso → ⊥
+      (lasso : LassoValue) → IsLassoOver prepared.ready.model prepared.ready.scopes lasso → length lasso.states ≤ prepared.ready.bounds.states → KeepsFacts prepared.ready kept lasso → ⊥
   no_lasso law covered usual lasso over few keeps =
       let right = right_of number prepared.ready made.ready usual in
-      let (r, other, renaming, renamed, candidate, satisfied) = law prepared.ready.model prepared.ready.scopes out.limits lasso (facts_at prepared.ready.model.facts kept) (claim_of keeps.command.formula) right limits_are over few keeps.satisfies in
+      let (r, other, renaming, renamed, candidate, satisfied) = law prepared.ready.model prepared.ready.scopes prepared.ready.bounds lasso (facts_at prepared.ready.model.facts kept) (claim_of keeps.command.formula) right made.ready.bounds_are over few keeps.satisfies in
       let also : KeepsFacts prepared.ready kept other = record { command = keeps.command; chosen = keeps.chosen; satisfies = satisfied } in
       no_candidate covered other candidate also
 

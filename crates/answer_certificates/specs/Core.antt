@@ -2,15 +2,13 @@
 use Rattle.std.specs.Prelude.{◌≡◌, ◌<◌, ◌≤◌, ℕ, Bool, List, length, Option}
 use Rattle.std.specs.List.{All}
 use Rattle.std.specs.List.Sorted.{IsStrictlyIncreasing}
-use Rattle.core_tree.specs.declared.model.Model.{Model}
 use Rattle.core_meaning.specs.declared.target.Target.{Target}
 use Rattle.bound_uppers.specs.declared.table.Bounds.{Bounds}
 use Rattle.bound_uppers.specs.Shortest.{HasFewestStates, IsSameSequence}
-use Rattle.bound_uppers.specs.Table.{IsTable}
+use Rattle.bound_uppers.specs.Table.{IsTable, IsLaidOut}
 use Rattle.core_meaning.specs.Sequence.{LassoValue}
 use Rattle.answer_search.specs.Clauses.{MeetsWithin}
 use Rattle.answer_search.specs.Found.{IsRefuted, IsSpent}
-use Rattle.answer_search.specs.Limits.{AreLimitsOf}
 use Rattle.answer_search.specs.declared.found.Found.{Found}
 use Rattle.answer_search.specs.declared.found.Found.TheVariants as found
 use Rattle.answer_certificates.specs.declared.facts.Core.{Core}
@@ -24,40 +22,43 @@ use Rattle.answer_certificates.specs.Parts.{AreSaidFor, AreRefutedFor, AreLeftOu
 abbrev pub AreKept : ℕ → List ℕ → Type 0
 AreKept facts kept = IsStrictlyIncreasing kept × All (λ fact. fact < facts) kept
 
--- a lasso shows the sequence of one of as many states as the scopes say, within the bounds of the model, that meets the target,
--- as far as it is covered
-pub record ShowsMeeting (model : Model) (target : Target) (lasso : LassoValue) : Type 0 where
-  pub limits : Bounds
-  pub states : limits.states ≡ target.scopes.states
-  pub limits_are : AreLimitsOf model target.scopes limits
-  pub meets : IsTable limits → (other : LassoValue) × MeetsWithin target limits other × IsSameSequence other lasso
+-- a lasso shows the sequence of one of as many states as the limits have, within them, that meets the target, as far as it is
+-- covered
+abbrev pub ShowsMeeting : Target → Bounds → LassoValue → Type 0
+ShowsMeeting target limits lasso = IsTable limits → (other : LassoValue) × MeetsWithin target limits other × IsSameSequence other lasso
 
--- Under the target's scopes: a lasso of at most so many states, the fewest that show its sequence, which meets the target; or
+-- Within limits: a lasso of at most as many states as they have, the fewest that show its sequence, which meets the target; or
 -- facts by their numbers, with lines within the budget that refute clauses over so many, which say what the target does with
--- these facts alone; or a budget that is spent on clauses that say it with some of them.
-abbrev pub IsCore : Model → Target → ℕ → ℕ → Option ℕ → Core → Type 0
-IsCore model target first facts budget (Trace lasso) = (length lasso.states ≤ target.scopes.states) × HasFewestStates lasso × ShowsMeeting model target lasso
-IsCore model target first facts budget (Refuted kept proof) = AreKept facts kept × IsRefuted target.scopes.states budget proof × RuleOut model target first facts kept proof.cnf.clauses
-IsCore model target first facts budget (Unknown proof) = IsSpent target.scopes.states budget proof × SayPart model target first facts proof.cnf.clauses
+-- these facts alone; or a budget that is spent on clauses that say it with some of them. The layout beside the clauses has the
+-- numbers of their variables.
+abbrev pub IsCore : Target → ℕ → ℕ → Bounds → Option ℕ → Core → Type 0
+IsCore target first facts limits budget (Trace lasso) = (length lasso.states ≤ limits.states) × HasFewestStates lasso × ShowsMeeting target limits lasso
+IsCore target first facts limits budget (Refuted kept proof) = AreKept facts kept × IsRefuted limits.states budget proof × RuleOut target first facts limits kept proof.cnf.clauses × IsLaidOut limits proof.layout
+IsCore target first facts limits budget (Unknown proof) = IsSpent limits.states budget proof × SayPart target first facts limits proof.cnf.clauses × IsLaidOut limits proof.layout
 
 -- what a search without the formulas of the facts that are left out shows
 abbrev pub IsSearchedFor : Target → ℕ → Bounds → List Bool → Found → Type 0
 IsSearchedFor target first limits dropped (found.Trace lasso) = Unit {0}
-IsSearchedFor target first limits dropped (found.Refuted proof) = AreRefutedFor target first limits dropped proof.cnf.clauses
-IsSearchedFor target first limits dropped (found.Unknown proof) = AreSaidFor target first limits dropped proof.cnf.clauses
+IsSearchedFor target first limits dropped (found.Refuted proof) = AreRefutedFor target first limits dropped proof.cnf.clauses × IsLaidOut limits proof.layout
+IsSearchedFor target first limits dropped (found.Unknown proof) = AreSaidFor target first limits dropped proof.cnf.clauses × IsLaidOut limits proof.layout
 
 -- clauses that are refuted for a target without the facts that are left out
 abbrev pub IsLeft : Target → ℕ → ℕ → Bounds → Option ℕ → Left → Type 0
-IsLeft target first facts limits budget left = (length left.dropped.items ≡ facts) × IsRefuted limits.states budget left.proof × AreRefutedFor target first limits left.dropped.items left.proof.cnf.clauses
+IsLeft target first facts limits budget left =
+    (length left.dropped.items ≡ facts) × IsRefuted limits.states budget left.proof
+    × AreRefutedFor target first limits left.dropped.items left.proof.cnf.clauses × IsLaidOut limits left.proof.layout
 
 -- what one more search may leave
 abbrev pub IsTried : Target → ℕ → ℕ → Bounds → Option ℕ → Tried → Type 0
 IsTried target first facts limits budget (tried.Left left) = IsLeft target first facts limits budget left
-IsTried target first facts limits budget (tried.Unknown proof) = IsSpent limits.states budget proof × (dropped : List Bool) × AreSaidFor target first limits dropped proof.cnf.clauses × (length dropped ≡ facts)
+IsTried target first facts limits budget (tried.Unknown proof) =
+    IsSpent limits.states budget proof × IsLaidOut limits proof.layout × (dropped : List Bool) × AreSaidFor target first limits dropped proof.cnf.clauses × (length dropped ≡ facts)
 
 -- what all of them may leave
 abbrev pub IsShrunk : Target → ℕ → ℕ → Bounds → Option ℕ → Core → Type 0
 IsShrunk target first facts limits budget (Trace lasso) = ⊥
 IsShrunk target first facts limits budget (Refuted kept proof) =
-    AreKept facts kept × IsRefuted limits.states budget proof × (dropped : List Bool) × AreLeftOut facts kept dropped × AreRefutedFor target first limits dropped proof.cnf.clauses
-IsShrunk target first facts limits budget (Unknown proof) = IsSpent limits.states budget proof × (dropped : List Bool) × AreSaidFor target first limits dropped proof.cnf.clauses × (length dropped ≡ facts)
+    AreKept facts kept × IsRefuted limits.states budget proof × IsLaidOut limits proof.layout
+    × (dropped : List Bool) × AreLeftOut facts kept dropped × AreRefutedFor target first limits dropped proof.cnf.clauses
+IsShrunk target first facts limits budget (Unknown proof) =
+    IsSpent limits.states budget proof × IsLaidOut limits proof.layout × (dropped : List Bool) × AreSaidFor target first limits dropped proof.cnf.clauses × (length dropped ≡ facts)

@@ -5,7 +5,6 @@ use Rattle.core_tree.specs.declared.model.Fact.{Fact}
 use Rattle.core_tree.specs.Trees.{claim_of}
 use Rattle.core_meaning.specs.Satisfied.{SatisfiesWith}
 use Rattle.core_meaning.specs.Sequence.{LassoValue}
-use Rattle.bound_uppers.specs.declared.table.Bounds.{Bounds}
 use Rattle.bound_uppers.specs.Candidates.{IsCandidate}
 use Rattle.bound_laws.specs.Satisfying.{IsLassoOver}
 use Rattle.answer_search.specs.Clauses.{IsCovered}
@@ -30,16 +29,16 @@ pub record KeepsFacts (ready : Ready) (kept : List ℕ) (lasso : LassoValue) : T
   pub satisfies : SatisfiesWith ready.model ready.scopes lasso (facts_at ready.model.facts kept) (claim_of command.formula)
 
 -- where all formulas that are searched have plain forms
-pub record NoneKeeps (prepared : Prepared) (bounds : Bounds) (kept : List ℕ) : Type 0 where
+pub record NoneKeeps (prepared : Prepared) (kept : List ℕ) : Type 0 where
   -- no lasso within the bounds does, of as many states as they have
-  pub candidates : All IsCovered prepared.target.formulas → (lasso : LassoValue) → IsCandidate bounds lasso → KeepsFacts prepared.ready kept lasso → ⊥
+  pub candidates : All IsCovered prepared.target.formulas → (lasso : LassoValue) → IsCandidate prepared.ready.bounds lasso → KeepsFacts prepared.ready kept lasso → ⊥
   -- and none at all of at most as many states, where the model is usual
   pub lassos :
       All IsCovered prepared.target.formulas → IsUsual prepared.ready.model →
-      (lasso : LassoValue) → IsLassoOver prepared.ready.model prepared.ready.scopes lasso → length lasso.states ≤ bounds.states →
+      (lasso : LassoValue) → IsLassoOver prepared.ready.model prepared.ready.scopes lasso → length lasso.states ≤ prepared.ready.bounds.states →
       KeepsFacts prepared.ready kept lasso → ⊥
 
 -- what clauses rule out with some facts alone
 abbrev pub KeptFactsRuleOut : Type 0
 KeptFactsRuleOut = (number : ℕ) (prepared : Prepared) (kept : List ℕ) (clauses : List (List ℤ)) → IsPrepared number prepared
-    → (out : RuleOut prepared.ready.model prepared.target prepared.first_fact (length prepared.ready.model.facts) kept clauses) → NoneKeeps prepared out.limits kept
+    → RuleOut prepared.target prepared.first_fact (length prepared.ready.model.facts) prepared.ready.bounds kept clauses → NoneKeeps prepared kept

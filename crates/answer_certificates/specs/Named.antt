@@ -1,13 +1,9 @@
 -- How facts are named by their numbers.
 use Rattle.std.specs.Prelude.{◌≡◌, ℕ, List, map, Some, option_map, slice_get}
 use Rattle.syntax_tree.specs.declared.loaded.Loaded.{Loaded}
-use Rattle.answer_texts.specs.Facts.{fact_name}
+use Rattle.answer_texts.specs.Facts.{name_in}
 use Rattle.answer_texts.specs.declared.fact.FactName.{FactName}
 use Rattle.core_tree.specs.declared.model.Fact.{Fact}
-
--- how a fact is named in loaded modules
-abbrev pub name_in : Loaded → Fact → FactName
-name_in loaded fact = fact_name loaded.texts loaded.instances fact.instance fact.place fact.name
 
 -- these are the names of the facts of these numbers
 abbrev pub AreNamed : Loaded → List Fact → List ℕ → List FactName → Type 0

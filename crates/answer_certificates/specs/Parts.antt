@@ -1,13 +1,11 @@
 -- A target without the formulas of some facts.
 use Rattle.std.specs.Prelude.{◌≡◌, ◌<◌, ◌≤◌, ◌-◌, ℕ, ◌+◌, ℤ, Bool, false, not, ◌||◌, nat_lt, if◌then◌else◌, List, [], ◌∷◌, map, length, slice_index_or}
 use Rattle.std.specs.List.{Contains}
-use Rattle.core_tree.specs.declared.model.Model.{Model}
 use Rattle.core_tree.specs.declared.tree.Formula.{Formula}
 use Rattle.core_tree.specs.Trees.{Claim, claim_of}
 use Rattle.core_meaning.specs.declared.target.Target.{Target}
 use Rattle.bound_uppers.specs.declared.table.Bounds.{Bounds}
 use Rattle.answer_search.specs.Clauses.{SayTarget, IsRuledOut}
-use Rattle.answer_search.specs.Limits.{AreLimitsOf}
 
 -- whether a fact is left out
 abbrev pub is_out : List Bool → ℕ → Bool
@@ -41,14 +39,10 @@ pub record AreRefutedFor (target : Target) (first : ℕ) (limits : Bounds) (drop
   pub says : SayTarget part limits clauses
   pub ruled : IsRuledOut part limits
 
--- clauses say what a target does without the formulas of some of its so many facts, within the bounds of the model, over as many
--- states as the scopes say
-pub record SayPart (model : Model) (target : Target) (first facts : ℕ) (clauses : List (List ℤ)) : Type 0 where
+-- clauses say what a target does without the formulas of some of its so many facts, within the limits
+pub record SayPart (target : Target) (first facts : ℕ) (limits : Bounds) (clauses : List (List ℤ)) : Type 0 where
   pub dropped : List Bool
   pub few : length dropped ≤ facts
-  pub limits : Bounds
-  pub states : limits.states ≡ target.scopes.states
-  pub limits_are : AreLimitsOf model target.scopes limits
   pub said : AreSaidFor target first limits dropped clauses
 
 -- of so many facts those are left out whose numbers aren't kept
@@ -56,12 +50,9 @@ pub record AreLeftOut (facts : ℕ) (kept : List ℕ) (dropped : List Bool) : Ty
   pub count : length dropped ≡ facts
   pub each : (fact : ℕ) → fact < facts → (Contains kept fact → is_out dropped fact ≡ false) × (is_out dropped fact ≡ false → Contains kept fact)
 
--- Clauses say what a target does with the kept facts alone, and rule that out: no lasso within the bounds of the model, of as
--- many states as the scopes say, keeps these facts and meets the target's other formulas, where all are of plain forms.
-pub record RuleOut (model : Model) (target : Target) (first facts : ℕ) (kept : List ℕ) (clauses : List (List ℤ)) : Type 0 where
+-- Clauses say what a target does with the kept facts alone, and rule that out: no lasso within the limits, of as many states as
+-- they have, keeps these facts and meets the target's other formulas, where all are of plain forms.
+pub record RuleOut (target : Target) (first facts : ℕ) (limits : Bounds) (kept : List ℕ) (clauses : List (List ℤ)) : Type 0 where
   pub dropped : List Bool
   pub left_out : AreLeftOut facts kept dropped
-  pub limits : Bounds
-  pub states : limits.states ≡ target.scopes.states
-  pub limits_are : AreLimitsOf model target.scopes limits
   pub refuted : AreRefutedFor target first limits dropped clauses

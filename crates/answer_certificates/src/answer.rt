@@ -1,7 +1,7 @@
 //! The answers of the searches with one state, with two, and on.
 
+use answer_search::Proof;
 use core_meaning::Lasso;
-use sat_lrat::Proof;
 
 /// What the searches with one state, with two, and on come to.
 #[derive(Drop)]

@@ -3,19 +3,21 @@
 ghost use Rattle.std.specs.Prelude.{◌≡◌, IfOk};
 ghost use Rattle.answer_analysis.specs.Found.{IsTraceOf};
 ghost use Rattle.answer_analysis.specs.declared.ready.Prepared.{Prepared as PreparedOf};
+ghost use Rattle.bound_uppers.specs.Table.{IsLaidOut};
 ghost use Rattle.answer_search.specs.Found.{Spends};
 ghost use Rattle.answer_trace.specs.Text.{trace_text};
 ghost use Rattle.answer_laws.specs.Form.{IsLassoOf};
 ghost use Rattle.answer_texts.specs.Certified.{trace_part};
-ghost use Rattle.answer_certificates.specs.Certificate.{IsShort, RowsOver, ShowsTrace, IsSpentText};
+ghost use Rattle.answer_texts.specs.Table.{IsTableOf};
+ghost use Rattle.answer_certificates.specs.Certificate.{IsShort, ShowsTrace, IsSpentText};
 
 use answer_analysis::{Prepared, Ready, is_trace, table};
+use answer_search::Proof;
 use answer_texts::{trace_part, unknown_text};
 use answer_trace::{Labels, print_trace};
 use base_types::Bytes;
 use cli_words::Part;
 use core_meaning::Lasso;
-use sat_lrat::Proof;
 use std::alloc::{AllocError, Global};
 
 /// The text of what a search comes to.
@@ -62,20 +64,19 @@ pub(crate) fn lasso_part(
 /// The text of a budget that is spent.
 pub(crate) fn spent_shown(
     alloc: Global,
-    prepared: &mut Prepared,
-    proof: Proof,
+    ready: &Ready,
+    proof: &Proof,
     budget: Option<u64>,
 ) -> Result<Bytes, AllocError>
-    requires { Spends budget proof }
-    ensures { IfOk result (λ text. IsSpentText (RowsOver prepared.old proof.states) proof.cnf budget
-        text) }
+    requires spends { Spends budget proof.now }
+    requires laid { IsLaidOut ready.now.bounds proof.now.layout }
+    ensures { IfOk result (IsSpentText (IsTableOf ready.now.labels ready.now.bounds) proof.now.cnf
+        budget) }
 {
-    prepared.ready.bounds.states = proof.states;
     let Some(conflicts) = budget else {
         unreachable!();
     };
-    let ready = &prepared.ready;
-    let rows = table(alloc, &ready.labels, &ready.bounds)?;
+    let rows = table(alloc, &ready.labels, &ready.bounds, &proof.layout)?;
     let text = unknown_text(alloc, conflicts, &rows, &proof.cnf, &proof.lines)?;
     let shown = Bytes::from_vec(text);
     Ok(shown)

@@ -1,8 +1,8 @@
 //! The answers of the search for facts: those that rule out every lasso, or a lasso.
 
+use answer_search::Proof;
 use core_meaning::Lasso;
 use core_tree::ItemList;
-use sat_lrat::Proof;
 
 /// Numbers of facts, each less than the next.
 pub type NumberList = ItemList<u32>;

@@ -2,19 +2,21 @@
 
 ghost use Rattle.std.specs.Prelude.{◌≡◌, ℕ, length, Option, IfOk};
 ghost use Rattle.sat_lrat.specs.Step.{Refutes};
+ghost use Rattle.bound_uppers.specs.Table.{IsLaidOut};
 ghost use Rattle.answer_search.specs.Found.{AreNewWithin};
-ghost use Rattle.answer_certificates.specs.Certificate.{IsCoreText, RowsOver, ShowsFacts};
+ghost use Rattle.answer_texts.specs.Table.{IsTableOf};
+ghost use Rattle.answer_certificates.specs.Certificate.{IsCoreText, ShowsFacts};
 ghost use Rattle.answer_certificates.specs.Named.{AreNamed};
 
 use crate::certificate::{Certificate, found_shown, spent_shown};
 use crate::{Core, NumberList, find_core, kept_facts_rule_out};
-use answer_analysis::{Prepared, table};
+use answer_analysis::{Prepared, Ready, table};
+use answer_search::Proof;
 use answer_texts::{FactNameList, core_part, fact_name};
 use base_types::Bytes;
 use cli_words::Part;
 use core_tree::FactList;
 use sat_decide::Chooser;
-use sat_lrat::Proof;
 use std::alloc::{AllocError, Global};
 use syntax_tree::Loaded;
 
@@ -24,44 +26,51 @@ use syntax_tree::Loaded;
 /// those that stay is needed. The budget counts for each search.
 pub fn core_certificate<C: Chooser>(
     alloc: Global,
-    mut prepared: Prepared,
+    prepared: Prepared,
     chooser: &mut C,
     part: Part,
     budget: Option<u64>,
 ) -> Result<Certificate, AllocError>
     ensures { IfOk result (IsCoreText prepared part budget) }
 {
-    core_in(alloc, &mut prepared, chooser, part, budget)
+    core_in(alloc, &prepared, chooser, part, budget)
 }
 
-/// The same in a prepared model that is lent: the number of states of its bounds becomes that of the clauses.
+/// The same in a prepared model that is lent.
 fn core_in<C: Chooser>(
     alloc: Global,
-    prepared: &mut Prepared,
+    prepared: &Prepared,
     chooser: &mut C,
     part: Part,
     budget: Option<u64>,
 ) -> Result<Certificate, AllocError>
-    ensures { IfOk result (IsCoreText prepared.old part budget) }
+    ensures { IfOk result (IsCoreText prepared.now part budget) }
 {
-    let first_fact = prepared.first_fact;
-    let model = &prepared.ready.model;
-    let facts = fact_count(&model.facts)?;
+    let ready = &prepared.ready;
     let target = &prepared.target;
-    match find_core(alloc, model, target, first_fact, facts, chooser, budget)? {
+    let first_fact = prepared.first_fact;
+    let facts = fact_count(&ready.model.facts)?;
+    match find_core(
+        alloc,
+        target,
+        &ready.bounds,
+        first_fact,
+        facts,
+        chooser,
+        budget,
+    )? {
         Core::Trace(lasso) => {
-            let text = found_shown(alloc, &*prepared, &lasso, part)?;
+            let text = found_shown(alloc, prepared, &lasso, part)?;
             Ok(Certificate::Trace(text))
         }
         Core::Refuted { kept, proof } => {
             kept_facts_rule_out();
-            let ready = &prepared.ready;
             let names = kept_names(alloc, &ready.loaded, &ready.model.facts, &kept)?;
-            let text = core_shown(alloc, prepared, &names, proof, part)?;
+            let text = core_shown(alloc, ready, &names, &proof, part)?;
             Ok(Certificate::Refuted(text))
         }
         Core::Unknown(proof) => {
-            let text = spent_shown(alloc, prepared, proof, budget)?;
+            let text = spent_shown(alloc, ready, &proof, budget)?;
             Ok(Certificate::Unknown(text))
         }
     }
@@ -102,19 +111,18 @@ fn kept_names(
 /// The part that is asked for of these facts, and of clauses with lines that refute them.
 fn core_shown(
     alloc: Global,
-    prepared: &mut Prepared,
+    ready: &Ready,
     facts: &FactNameList,
-    proof: Proof,
+    proof: &Proof,
     part: Part,
 ) -> Result<Bytes, AllocError>
-    requires { Refutes proof.cnf.clauses proof.lines }
-    ensures { (budget : Option ℕ) → AreNewWithin budget proof.cnf.clauses proof.lines →
-        IfOk result (λ text. ShowsFacts (RowsOver prepared.old proof.states) proof.cnf
-        proof.states budget part facts.now text) }
+    requires refutes { Refutes proof.now.cnf.clauses proof.now.lines }
+    requires laid { IsLaidOut ready.now.bounds proof.now.layout }
+    ensures { (budget : Option ℕ) → AreNewWithin budget proof.now.cnf.clauses proof.now.lines →
+        IfOk result (ShowsFacts (IsTableOf ready.now.labels ready.now.bounds) proof.now.cnf
+        proof.now.states budget part facts.now) }
 {
-    prepared.ready.bounds.states = proof.states;
-    let ready = &prepared.ready;
-    let rows = table(alloc, &ready.labels, &ready.bounds)?;
+    let rows = table(alloc, &ready.labels, &ready.bounds, &proof.layout)?;
     let names = facts.as_slice();
     let states = proof.states;
     let text = core_part(alloc, part, states, names, &rows, &proof.cnf, &proof.lines)?;

@@ -3,7 +3,8 @@
 ghost use Rattle.std.specs.Prelude.{◌≡◌, length};
 
 use crate::part::{drop_fact, is_dropped};
-use sat_lrat::{Line, Proof};
+use answer_search::Proof;
+use sat_lrat::Line;
 use std::alloc::{AllocError, Global};
 
 /// Marks a number, where it is in range.

@@ -1,19 +1,17 @@
 //! The deletion of facts: each that the others do without is left out, one after the other.
 
 ghost use Rattle.std.specs.Prelude.{◌≡◌, length, IfOk};
-ghost use Rattle.answer_search.specs.Clauses.{SayTarget, IsRuledOut};
+ghost use Rattle.answer_search.specs.Clauses.{IsProofOf, IsRuledOut};
 ghost use Rattle.answer_search.specs.Found.{IsRefuted, IsFoundWithin};
 ghost use Rattle.answer_certificates.specs.Core.{IsCore, IsLeft, IsSearchedFor, IsShrunk, IsTried};
 
 use crate::facts::Core;
 use crate::part::{drop_fact, is_dropped, kept_facts, part_of};
 use crate::reach::drop_unreached;
-use answer_search::{Found, limits_of, search_target};
+use answer_search::{Found, Proof, search_target};
 use bound_uppers::Bounds;
 use core_meaning::Target;
-use core_tree::Model;
 use sat_decide::Chooser;
-use sat_lrat::Proof;
 use std::alloc::{AllocError, Global};
 
 /// What is searched, but for the facts.
@@ -60,7 +58,7 @@ enum Tried {
 /// What is left where no fact is left out.
 fn all_kept(alloc: Global, question: &Question, proof: Proof) -> Result<Left, AllocError>
     requires refuted { IsRefuted question.now.limits.now.states question.now.budget proof }
-    requires says { SayTarget question.now.target.now question.now.limits.now proof.cnf.clauses }
+    requires says { IsProofOf question.now.target.now question.now.limits.now proof }
     requires ruled { IsRuledOut question.now.target.now question.now.limits.now }
     ensures { IfOk result (IsLeft question.now.target.now question.now.first question.now.facts
         question.now.limits.now question.now.budget) }
@@ -77,7 +75,7 @@ fn trim<C: Chooser>(
     chooser: &mut C,
 ) -> Result<Tried, AllocError>
     requires refuted { IsRefuted question.now.limits.now.states question.now.budget proof }
-    requires says { SayTarget question.now.target.now question.now.limits.now proof.cnf.clauses }
+    requires says { IsProofOf question.now.target.now question.now.limits.now proof }
     requires ruled { IsRuledOut question.now.target.now question.now.limits.now }
     ensures { IfOk result (IsTried question.now.target.now question.now.first question.now.facts
         question.now.limits.now question.now.budget) }
@@ -175,31 +173,30 @@ fn shrink<C: Chooser>(
 /// Facts of the target, whose formulas are `facts` ones from `first_fact` on, that rule out every lasso together with its
 /// other formulas, where each of them is tried in order and left out if it can be; or a lasso that keeps all.
 ///
-/// The last formula of the target is the command's and stands behind those of the facts, and the bounds' builder doesn't
-/// refuse the target's scopes. The budget counts for each search. The only error is want of memory.
+/// The last formula of the target is the command's and stands behind those of the facts. The bounds are those of the model,
+/// and each search is within them. The budget counts for each search. The only error is want of memory.
 ///
-/// A lasso shows the sequence of one within the model's bounds that meets the target, as far as its formulas have only the plain
+/// A lasso shows the sequence of one within the bounds that meets the target, as far as its formulas have only the plain
 /// forms. The lemmas of a refutation are new, and at most as many as the budget.
 pub fn find_core<C: Chooser>(
     alloc: Global,
-    model: &Model,
     target: &Target,
+    bounds: &Bounds,
     first_fact: u32,
     facts: u32,
     chooser: &mut C,
     budget: Option<u64>,
 ) -> Result<Core, AllocError>
-    ensures { IfOk result (IsCore model.now target.now first_fact facts budget) }
+    ensures { IfOk result (IsCore target.now first_fact facts bounds.now budget) }
 {
-    let limits = limits_of(alloc, model, &target.scopes)?;
     let question = Question {
         target,
         first: first_fact as usize,
         facts,
-        limits: &limits,
+        limits: bounds,
         budget,
     };
-    match search_target(alloc, target, &limits, chooser, budget)? {
+    match search_target(alloc, target, bounds, chooser, budget)? {
         Found::Trace(lasso) => Ok(Core::Trace(lasso)),
         Found::Unknown(proof) => Ok(Core::Unknown(proof)),
         Found::Refuted(proof) => {

@@ -12,7 +12,7 @@ use Rattle.gate_tseitin.specs.Named.{input_count}
 use Rattle.gate_tseitin.specs.Written.{Agree, AreNumbered, IsWritten}
 use Rattle.bound_uppers.specs.declared.places.Layout.{Layout}
 use Rattle.bound_uppers.specs.declared.table.Bounds.{Bounds}
-use Rattle.bound_uppers.specs.Table.{IsTable, variables}
+use Rattle.bound_uppers.specs.Table.{IsTable, IsLaidOut, variables}
 use Rattle.bound_uppers.specs.Candidates.{HasSets}
 use Rattle.bound_naming.specs.declared.neighbours.TheConstants.{NAMED_PAIRS}
 use Rattle.bound_naming.specs.declared.pairs.Pair.{Pair}
@@ -42,12 +42,9 @@ reaches : (m size most inputs : ℕ) → m ≤ size → size ≡ most → most �
 reaches m size most inputs low same room = omega (arith, low, same, room)
 
 -- The clauses are those of a circuit of the target, which has an input for each variable of the table.
-module _ (target : Target) (bounds : Bounds) (gates : List Gate) (sure : Node) (all_roots : List Node) (n : ℕ) (clauses : List (List ℤ)) (written : IsWritten gates sure all_roots n clauses) (numbered : AreNumbered gates) (room : IsTable bounds → variables bounds ≤ input_count gates) (circuit : IsCircuit target bounds (value_in gates) sure all_roots) (sets : HasSets bounds) (decided : NamingIsDecided) where
+module _ (target : Target) (bounds : Bounds) (table : Layout) (gates : List Gate) (sure : Node) (all_roots : List Node) (n : ℕ) (clauses : List (List ℤ)) (written : IsWritten gates sure all_roots n clauses) (numbered : AreNumbered gates) (room : IsTable bounds → variables bounds ≤ input_count gates) (laid : IsLaidOut bounds table) (circuit : IsCircuit target bounds table (value_in gates) sure all_roots) (sets : HasSets bounds) (decided : NamingIsDecided) where
   abbrev all : List (List Pair)
   all = circuit.all
-
-  abbrev table : Layout
-  table = circuit.table
 
   abbrev name : Node
   name = circuit.name
@@ -68,12 +65,12 @@ module _ (target : Target) (bounds : Bounds) (gates : List Gate) (sure : Node) (
   named = circuit.named
 
   paired : IsTable bounds → AreAllPairs bounds (atom_count target.scopes.numbers) NAMED_PAIRS all
-  paired = circuit.paired
+  paired is = circuit.paired is (laid is)
 
   -- the naming's node is true just where the lasso is canonical
   canonical : (v : ℕ → Bool) (lasso : LassoValue) → IsTable bounds → Decodes bounds table v lasso → (value_in gates v name ≡ true) ↔ IsCanonical bounds all lasso
   canonical v lasso is decodes =
-      let both = decided bounds (atom_count target.scopes.numbers) NAMED_PAIRS all v lasso (paired is) (decoded_tells bounds table (encoded.laid is) sets v lasso decodes) in
+      let both = decided bounds (atom_count target.scopes.numbers) NAMED_PAIRS all v lasso (paired is) (decoded_tells bounds table (laid is) sets v lasso decodes) in
       (λ on. both.0 (sym (named v) ∙ on), λ names. named v ∙ both.1 names)
 
   stands : (v : ℕ → Bool) → Satisfies v clauses → (lasso : LassoValue) × Decodes bounds table v lasso
@@ -111,13 +108,13 @@ module _ (target : Target) (bounds : Bounds) (gates : List Gate) (sure : Node) (
   complete : (x : ℕ → Bool) (lasso : LassoValue) → IsTable bounds → Decodes bounds table x lasso → All IsCovered target.formulas → Meets target lasso → IsCanonical bounds all lasso → (v : ℕ → Bool) × Satisfies v clauses × Agree table.variables v x
   complete x lasso is decodes covered meets names =
       let (v, true_in, same) = clauses_told gates sure (name ∷ roots) n clauses w numbered x ((encoded.lassos x).1 (lasso, decodes)) (each_holds x lasso is decodes covered meets names) in
-      (v, true_in, λ m some low. same m some (reaches m table.variables (variables bounds) (input_count gates) low (encoded.laid is).count (room is)))
+      (v, true_in, λ m some low. same m some (reaches m table.variables (variables bounds) (input_count gates) low (laid is).count (room is)))
 
   pub say_target : SayTarget target bounds clauses
   say_target = record {
     table = table;
     all = all;
-    laid = encoded.laid;
+    laid = laid;
     paired = paired;
     stands = stands;
     sound = sound;

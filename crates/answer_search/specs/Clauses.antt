@@ -12,7 +12,7 @@ use Rattle.core_meaning.specs.Called.{no_bodies}
 use Rattle.sat_dimacs.specs.Literal.{Satisfies}
 use Rattle.bound_uppers.specs.declared.places.Layout.{Layout}
 use Rattle.bound_uppers.specs.declared.table.Bounds.{Bounds}
-use Rattle.bound_uppers.specs.Table.{IsTable, IsLayout}
+use Rattle.bound_uppers.specs.Table.{IsTable, IsLaidOut}
 use Rattle.bound_uppers.specs.Candidates.{IsCandidate}
 use Rattle.bound_uppers.specs.Shortest.{IsSameSequence}
 use Rattle.bound_naming.specs.declared.neighbours.TheConstants.{NAMED_PAIRS}
@@ -22,6 +22,7 @@ use Rattle.gate_tseitin.specs.Written.{Agree}
 use Rattle.bmc_leaves.specs.Shown.{none_nested}
 use Rattle.bmc_leaves.specs.Table.{Decodes}
 use Rattle.bmc_translate.specs.Forms.{IsPlain}
+use Rattle.answer_search.specs.declared.found.Proof.{Proof}
 use Rattle.answer_search.specs.declared.found.Found.{Found}
 use Rattle.answer_search.specs.declared.found.Found.TheVariants.{Trace, Refuted, Unknown}
 
@@ -51,7 +52,7 @@ MeetsWithin target bounds lasso = IsCandidate bounds lasso × MeetsCovered targe
 pub record SayTarget (target : Target) (bounds : Bounds) (clauses : List (List ℤ)) : Type 0 where
   pub table : Layout
   pub all : List (List Pair)
-  pub laid : IsTable bounds → IsLayout bounds table
+  pub laid : IsLaidOut bounds table
   pub paired : IsTable bounds → AreAllPairs bounds (atom_count target.scopes.numbers) NAMED_PAIRS all
   -- an assignment that satisfies them stands for a lasso
   pub stands : (v : ℕ → Bool) → Satisfies v clauses → (lasso : LassoValue) × Decodes bounds table v lasso
@@ -65,18 +66,22 @@ pub record SayTarget (target : Target) (bounds : Bounds) (clauses : List (List �
 abbrev pub IsRuledOut : Target → Bounds → Type 0
 IsRuledOut target bounds = IsTable bounds → All IsCovered target.formulas → (lasso : LassoValue) → IsCandidate bounds lasso → Meets target lasso → ⊥
 
+-- clauses say what the target does within the bounds, and the layout beside them has the numbers of their variables
+abbrev pub IsProofOf : Target → Bounds → Proof → Type 0
+IsProofOf target bounds proof = SayTarget target bounds proof.cnf.clauses × IsLaidOut bounds proof.layout
+
 -- a lasso that is found lies within the bounds, if these have a table, and meets the target; the clauses of what is refuted, or
 -- left open, say what the target does
 abbrev pub SaysTarget : Target → Bounds → Found → Type 0
 SaysTarget target bounds (Trace lasso) = IsTable bounds → MeetsWithin target bounds lasso
-SaysTarget target bounds (Refuted proof) = SayTarget target bounds proof.cnf.clauses
-SaysTarget target bounds (Unknown proof) = SayTarget target bounds proof.cnf.clauses
+SaysTarget target bounds (Refuted proof) = IsProofOf target bounds proof
+SaysTarget target bounds (Unknown proof) = IsProofOf target bounds proof
 
 -- the same, where the lasso may have fewer states: it shows the sequence of one that lies within the bounds
 abbrev pub SaysTargetWithin : Target → Bounds → Found → Type 0
 SaysTargetWithin target bounds (Trace lasso) = IsTable bounds → (other : LassoValue) × MeetsWithin target bounds other × IsSameSequence other lasso
-SaysTargetWithin target bounds (Refuted proof) = SayTarget target bounds proof.cnf.clauses
-SaysTargetWithin target bounds (Unknown proof) = SayTarget target bounds proof.cnf.clauses
+SaysTargetWithin target bounds (Refuted proof) = IsProofOf target bounds proof
+SaysTargetWithin target bounds (Unknown proof) = IsProofOf target bounds proof
 
 -- what is refuted rules the target out
 abbrev pub RulesOut : Target → Bounds → Found → Type 0

@@ -3,10 +3,10 @@ use Rattle.std.specs.Prelude.{◌≡◌, ◌≤◌, ◌<◌, ◌^◌, ℕ, ℤ, 
 use Rattle.sat_lrat.specs.Step.{Refutes}
 use Rattle.sat_lrat.specs.Spent as spent
 use Rattle.sat_lrat.specs.declared.line.Line.{Line}
-use Rattle.sat_lrat.specs.declared.line.Proof.{Proof}
 use Rattle.sat_solver.specs.News.{AreNew}
 use Rattle.sat_solver.specs.Turn.{AreWithin}
 use Rattle.bound_uppers.specs.Shortest.{HasFewestStates}
+use Rattle.answer_search.specs.declared.found.Proof.{Proof}
 use Rattle.answer_search.specs.declared.found.Found.{Found}
 use Rattle.answer_search.specs.declared.found.Found.TheVariants.{Trace, Refuted, Unknown}
 

@@ -1,4 +1,3 @@
 pub mod Circuit
 pub mod Clauses
 pub mod Found
-pub mod Limits

@@ -1,6 +1,6 @@
 //! The circuit of a target: that of its naming, and then that of its scopes and formulas.
 
-ghost use Rattle.std.specs.Prelude.{◌≡◌, ◌∷◌, ◌++◌, IfOk};
+ghost use Rattle.std.specs.Prelude.{◌≡◌, ◌∷◌, IfOk};
 ghost use Rattle.core_meaning.specs.Kept.{atom_count};
 ghost use Rattle.bound_uppers.specs.Table.{IsTable, IsLayout};
 ghost use Rattle.bound_naming.specs.Naming.{AreAllPairs};
@@ -12,7 +12,7 @@ use bmc_encoder::{Encoded, encode};
 use bmc_naming::naming;
 use bound_naming::{NAMED_PAIRS, PairList, all_pairs};
 use bound_uppers::numbers::spans_of;
-use bound_uppers::{Bounds, Layout, layout};
+use bound_uppers::{Bounds, Layout};
 use core_meaning::{Scopes, Target};
 use gate_store::CircuitStore;
 use gate_trait::{Gates, Node, NodeList};
@@ -56,23 +56,23 @@ fn with_first(alloc: Global, first: Node, rest: &NodeList) -> Result<NodeList, A
     Ok(nodes)
 }
 
-/// Adds the circuit of a target to a store. Its first root says whether a lasso is canonical; the others are those of the
-/// target's encoder. The only error is want of memory.
+/// Adds the circuit of a target to a store, over the table of its bounds, whose variables have these numbers. Its first root
+/// says whether a lasso is canonical; the others are those of the target's encoder. The only error is want of memory.
 pub fn circuit_of(
     alloc: Global,
     target: &Target,
     bounds: &Bounds,
+    table: &Layout,
     store: &mut CircuitStore,
 ) -> Result<Encoded, AllocError>
     ensures sure { IfOk result (λ e. BelongsTo store.new e.sure) }
     ensures roots { IfOk result (λ e. AllIn (BelongsTo store.new) e.roots) }
-    ensures says { IfOk result (λ e. IsCircuit target.now bounds.now (value_in store.new) e.sure
-        e.roots) }
+    ensures says { IfOk result (λ e. IsCircuit target.now bounds.now table.now (value_in store.new)
+        e.sure e.roots) }
 {
-    let table = layout(alloc, bounds)?;
-    let all = scope_pairs(alloc, &target.scopes, bounds, &table)?;
+    let all = scope_pairs(alloc, &target.scopes, bounds, table)?;
     let name = naming(store, &all)?;
-    let encoded = encode(alloc, target, bounds, store)?;
+    let encoded = encode(alloc, target, bounds, table, store)?;
     let roots = with_first(alloc, name, &encoded.roots)?;
     Ok(Encoded {
         sure: encoded.sure,

@@ -3,13 +3,10 @@
 
 mod circuit;
 mod found;
-mod limits;
 mod search;
 mod written;
 
 pub use circuit::{circuit_of, table_store};
-pub use found::Found;
-pub use limits::limits_of;
-pub use sat_lrat::Proof;
+pub use found::{Found, Proof};
 pub use search::{search_lasso, search_target};
 pub use written::clauses_of;

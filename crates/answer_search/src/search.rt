@@ -1,22 +1,22 @@
 //! The search of a target's clauses for a lasso, and its decoding.
 
 ghost use Rattle.std.specs.Prelude.{◌≡◌, IfOk, length};
-ghost use Rattle.bound_uppers.specs.Table.{IsTable};
+ghost use Rattle.bound_uppers.specs.Table.{IsLayout};
 ghost use Rattle.bound_uppers.specs.Candidates.{IsCandidate, Agrees, HasOneLoop};
 ghost use Rattle.answer_search.specs.Clauses.{RulesOut, SaysTarget, SaysTargetWithin};
 ghost use Rattle.answer_search.specs.Found.{IsFound, IsFoundWithin};
 
-use crate::found::Found;
+use crate::found::{Found, Proof};
 use crate::written::clauses_of;
 use base_types::Assignment;
 use bmc_laws::{candidates_are_told, values_tell};
 use bound_laws::candidates_have_canonical;
 use bound_naming::have_sets;
-use bound_uppers::{Bounds, decode, shortest};
+use bound_uppers::{Bounds, Layout, decode, layout, shortest};
 use core_meaning::{Lasso, Target};
 use sat_decide::Chooser;
 use sat_lemmas::trim;
-use sat_lrat::{Outcome, Proof, refutation_is_sound};
+use sat_lrat::{Outcome, refutation_is_sound};
 use sat_solver::solve_with;
 use std::alloc::{AllocError, Global};
 
@@ -26,7 +26,7 @@ use std::alloc::{AllocError, Global};
 /// A lasso lies within the bounds and meets the target, as far as its formulas have only the plain forms. Where the lines refute
 /// the clauses, no lasso within the bounds of so many states meets the target, if all formulas have only these. The clauses ask
 /// for a canonical lasso; where there is any, there is one. The lemmas of a refutation are new, and at most as many as the
-/// budget.
+/// budget. The numbers of the variables are made once, and stay beside the clauses.
 pub fn search_lasso<C: Chooser>(
     alloc: Global,
     target: &Target,
@@ -39,11 +39,12 @@ pub fn search_lasso<C: Chooser>(
     ensures none { IfOk result (RulesOut target.now bounds.now) }
 {
     let states = bounds.states;
-    let cnf = clauses_of(alloc, target, bounds)?;
+    let layout = layout(alloc, bounds)?;
+    let cnf = clauses_of(alloc, target, bounds, &layout)?;
     match solve_with(alloc, &cnf, chooser, budget)? {
         Outcome::Assignment(assignment) => {
             values_tell();
-            let lasso = lasso_of(alloc, bounds, &assignment)?;
+            let lasso = lasso_of(alloc, bounds, &layout, &assignment)?;
             Ok(Found::Trace(lasso))
         }
         Outcome::Refutation(lines) => {
@@ -54,11 +55,17 @@ pub fn search_lasso<C: Chooser>(
             let rest = trim(alloc, &cnf, lines)?;
             Ok(Found::Refuted(Proof {
                 states,
+                layout,
                 cnf,
                 lines: rest,
             }))
         }
-        Outcome::Spent(lines) => Ok(Found::Unknown(Proof { states, cnf, lines })),
+        Outcome::Spent(lines) => Ok(Found::Unknown(Proof {
+            states,
+            layout,
+            cnf,
+            lines,
+        })),
     }
 }
 
@@ -86,15 +93,20 @@ pub fn search_target<C: Chooser>(
 }
 
 /// The lasso for which an assignment of the table's variables stands.
-fn lasso_of(alloc: Global, bounds: &Bounds, assignment: &Assignment) -> Result<Lasso, AllocError>
+fn lasso_of(
+    alloc: Global,
+    bounds: &Bounds,
+    table: &Layout,
+    assignment: &Assignment,
+) -> Result<Lasso, AllocError>
     ensures count { IfOk result (λ lasso. length lasso.states ≡ bounds.now.states) }
-    ensures candidate { IsTable bounds.now → IfOk result (IsCandidate bounds.now) }
-    ensures agrees { IsTable bounds.now → HasOneLoop bounds.now assignment.now →
+    ensures candidate { IsLayout bounds.now table.now → IfOk result (IsCandidate bounds.now) }
+    ensures agrees { IsLayout bounds.now table.now → HasOneLoop bounds.now assignment.now →
         IfOk result (Agrees bounds.now assignment.now) }
 {
     if bounds.states == 0 {
         // Bounds have at least one state.
         return Err(AllocError);
     }
-    decode(alloc, bounds, assignment)
+    decode(alloc, bounds, table, assignment)
 }

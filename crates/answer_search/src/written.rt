@@ -1,13 +1,14 @@
 //! The clauses of a target: its circuit over the table, written by the encoding of Tseitin.
 
 ghost use Rattle.std.specs.Prelude.{◌<◌, ◌≤◌, IfOk, IsTrue, length};
+ghost use Rattle.bound_uppers.specs.Table.{IsLaidOut};
 ghost use Rattle.gate_tseitin.specs.Named.{input_count};
 ghost use Rattle.sat_solver.specs.News.{AreAllFilled};
 ghost use Rattle.answer_search.specs.Clauses.{SayTarget};
 
 use crate::circuit::{circuit_of, table_store};
 use bound_naming::{have_sets, naming_is_decided};
-use bound_uppers::{Bounds, layout};
+use bound_uppers::{Bounds, Layout};
 use core_meaning::Target;
 use gate_store::CircuitStore;
 use gate_tseitin::{are_numbered, count_inputs, write_clauses};
@@ -45,14 +46,19 @@ fn are_filled(clauses: &[Clause]) -> bool
 /// units: one that says that the lasso is canonical, one that it keeps the numbers of the scopes, and one for each formula
 /// of the target. None is empty.
 ///
-/// The variables of the table come first, under their own numbers. The only error is want of memory.
-pub fn clauses_of(alloc: Global, target: &Target, bounds: &Bounds) -> Result<Cnf, AllocError>
-    ensures says { IfOk result (λ cnf. SayTarget target.now bounds.now cnf.clauses) }
+/// The variables of the table come first, under their own numbers, which are lent. The only error is want of memory.
+pub fn clauses_of(
+    alloc: Global,
+    target: &Target,
+    bounds: &Bounds,
+    table: &Layout,
+) -> Result<Cnf, AllocError>
+    ensures says { IsLaidOut bounds.now table.now →
+        IfOk result (λ cnf. SayTarget target.now bounds.now cnf.clauses) }
     ensures filled { IfOk result (λ cnf. AreAllFilled cnf.clauses) }
 {
-    let table = layout(alloc, bounds)?;
     let mut store = table_store(alloc, table.variables)?;
-    let circuit = circuit_of(alloc, target, bounds, &mut store)?;
+    let circuit = circuit_of(alloc, target, bounds, table, &mut store)?;
     let numbered = are_numbered(&store);
     if !numbered {
         // The circuit asks for no input but those of the table, so this is never met.

@@ -3,6 +3,8 @@ use Rattle.std.specs.Prelude.{ℕ, List, [], ◌∷◌, ◌++◌, codes, decimal
 use Rattle.base_types.specs.declared.place.Position.{Position}
 use Rattle.syntax_tree.specs.declared.instance.Text.{Text}
 use Rattle.syntax_tree.specs.declared.instance.Instance.{Instance}
+use Rattle.syntax_tree.specs.declared.loaded.Loaded.{Loaded}
+use Rattle.core_tree.specs.declared.model.Fact.{Fact}
 use Rattle.answer_texts.specs.declared.fact.FactName.{FactName}
 
 abbrev pub place_words : Position → List ℕ
@@ -43,3 +45,7 @@ fact_name texts instances instance place name = record {
   name = name;
   label = instance_label (slice_get instances instance);
 }
+
+-- how a fact of loaded modules is named
+abbrev pub name_in : Loaded → Fact → FactName
+name_in loaded fact = fact_name loaded.texts loaded.instances fact.instance fact.place fact.name

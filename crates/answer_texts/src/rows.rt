@@ -2,14 +2,14 @@
 
 ghost use Rattle.std.specs.Prelude.{◌≡◌, ◌∷◌, ◌++◌, ◌+◌, [], false, flat_map, IfOk, OnOk, slice_get};
 ghost use Rattle.sat_dimacs.specs.Text.{has_feed};
-ghost use Rattle.bound_uppers.specs.Table.{cell_at};
+ghost use Rattle.bound_uppers.specs.Table.{cell_at, IsLaidOut};
 ghost use Rattle.answer_texts.specs.Table.{AreLines, IsTableOf, one_line, tuple_row, tuple_rows, bound_rows, relation_rows, rows_before, loop_row, loop_rows, loops_after};
 ghost use Rattle.answer_texts.specs.Kept.{first_in, kept_first};
 
 use crate::write::push_decimal;
 use answer_trace::{Labels, RelationLabel, TextList, push_tuple};
 use bound_uppers::sums::{added, multiplied};
-use bound_uppers::{Bound, Bounds, Cells, Layout, layout};
+use bound_uppers::{Bound, Bounds, Cells, Layout};
 use core_tuples::Keyed;
 use sat_dimacs::{Row, Table, has_feed};
 use std::alloc::{AllocError, Global};
@@ -289,16 +289,20 @@ fn are_lines(table: &Table)
     rows_are_lines(table.rows());
 }
 
-/// What the variables stand for: for each state and each relation in order, a relation that isn't `var` at state 0 alone, a
-/// row for each tuple that it may have; then, where there are several states, a row for each loop index. The rows have the
-/// numbers of the variables, and each is one line.
-pub fn table(alloc: Global, labels: &Labels, bounds: &Bounds) -> Result<Table, AllocError>
-    ensures { IfOk result (IsTableOf labels.now bounds.now) }
+/// What the variables stand for, whose numbers are lent: for each state and each relation in order, a relation that isn't `var`
+/// at state 0 alone, a row for each tuple that it may have; then, where there are several states, a row for each loop index.
+/// The rows have the numbers of the variables, and each is one line.
+pub fn table(
+    alloc: Global,
+    labels: &Labels,
+    bounds: &Bounds,
+    layout: &Layout,
+) -> Result<Table, AllocError>
+    ensures { IsLaidOut bounds.now layout.now → IfOk result (IsTableOf labels.now bounds.now) }
 {
-    let kept = layout(alloc, bounds)?;
     let mut rows = Table::new(alloc);
-    push_states(alloc, &mut rows, labels, bounds, &kept)?;
-    push_loops(alloc, &mut rows, kept.loops, bounds.states)?;
+    push_states(alloc, &mut rows, labels, bounds, layout)?;
+    push_loops(alloc, &mut rows, layout.loops, bounds.states)?;
     are_lines(&rows);
     Ok(rows)
 }

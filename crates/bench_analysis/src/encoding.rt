@@ -22,6 +22,7 @@ use answer_analysis::{Prepared, prepare_loaded};
 use answer_search::clauses_of;
 use anyhow::Result;
 use base_library::EmbeddedLibrary;
+use bound_uppers::{Layout, layout};
 use comparing::{Question, Tally, compare};
 use load_modules::load_text;
 use sizes::sizes_of;
@@ -46,7 +47,11 @@ fn ready(rt: &(impl Files + AllocGlobal), name: &str, command: u32) -> Result<Op
 
 /// What is counted of a command; none where its table has too many variables. Where there are two states or more, the clauses are
 /// to have more variables than the table, since one more says that just one loop is chosen.
-fn tally_of(alloc: Global, prepared: &Prepared) -> Result<Option<Tally>, AllocError> {
+fn tally_of(
+    alloc: Global,
+    prepared: &Prepared,
+    table: &Layout,
+) -> Result<Option<Tally>, AllocError> {
     let ready = &prepared.ready;
     let found = compare(
         alloc,
@@ -55,6 +60,7 @@ fn tally_of(alloc: Global, prepared: &Prepared) -> Result<Option<Tally>, AllocEr
             command: ready.command,
             scopes: &ready.scopes,
             bounds: &ready.bounds,
+            table,
             target: &prepared.target,
             first_fact: prepared.first_fact,
         },
@@ -62,7 +68,7 @@ fn tally_of(alloc: Global, prepared: &Prepared) -> Result<Option<Tally>, AllocEr
     let Some(mut tally) = found else {
         return Ok(None);
     };
-    let clauses = clauses_of(alloc, &prepared.target, &ready.bounds)?;
+    let clauses = clauses_of(alloc, &prepared.target, &ready.bounds, table)?;
     if ready.bounds.states > 1 && clauses.variables <= tally.variables {
         tally.different = tally.different.saturating_add(1);
     }
@@ -87,8 +93,10 @@ fn print_sizes(
     name: &str,
     command: u32,
     prepared: &Prepared,
+    table: &Layout,
 ) -> Result<u8> {
-    let found = sizes_of(rt.alloc(), &prepared.target, &prepared.ready.bounds)?;
+    let bounds = &prepared.ready.bounds;
+    let found = sizes_of(rt.alloc(), &prepared.target, bounds, table)?;
     if found.shared >= found.plain {
         println!(rt; "{name} {command}: no fewer gates in the store")?;
         return Ok(1);
@@ -104,8 +112,9 @@ fn compare_prepared(
     command: u32,
     prepared: &Prepared,
 ) -> Result<u8> {
-    let Some(tally) = tally_of(rt.alloc(), prepared)? else {
-        return print_sizes(rt, name, command, prepared);
+    let table = layout(rt.alloc(), &prepared.ready.bounds)?;
+    let Some(tally) = tally_of(rt.alloc(), prepared, &table)? else {
+        return print_sizes(rt, name, command, prepared, &table);
     };
     print_tally(rt, name, command, tally)?;
     Ok(if tally.different == 0 { 0 } else { 1 })

@@ -60,7 +60,7 @@ fn run_stages(
     let prepared = millis(rt)?;
     let table = layout(alloc, bounds)?;
     let mut store = table_store(alloc, table.variables)?;
-    let circuit = circuit_of(alloc, target, bounds, &mut store)?;
+    let circuit = circuit_of(alloc, target, bounds, &table, &mut store)?;
     let built = millis(rt)?;
     if !are_numbered(&store) {
         return Ok(None);

@@ -6,15 +6,13 @@ use Rattle.core_meaning.specs.Sequence.{LassoValue}
 use Rattle.core_meaning.specs.Kept.{KeepsNumbers}
 use Rattle.bound_uppers.specs.declared.places.Layout.{Layout}
 use Rattle.bound_uppers.specs.declared.table.Bounds.{Bounds}
-use Rattle.bound_uppers.specs.Table.{IsTable, IsLayout}
 use Rattle.core_tree.specs.declared.tree.Formula.{Formula}
 use Rattle.bmc_leaves.specs.Table.{Decodes}
 use Rattle.bmc_encoder.specs.Firsts.{SaysRoot}
 
--- The table is that of the bounds; `sure` is true just of the assignments that stand for a lasso; the first root where that lasso
--- keeps the numbers of the scopes; and the others, in order, where the formulas hold, as far as these are plain
+-- `sure` is true just of the assignments of the table's variables that stand for a lasso; the first root where that lasso keeps
+-- the numbers of the scopes; and the others, in order, where the formulas hold, as far as these are plain
 pub record IsEncoded (bounds : Bounds) (scopes : Scopes) (formulas : List Formula) (table : Layout) (value : (ℕ → Bool) → Node → Bool) (sure : Node) (roots : List Node) : Type 0 where
-  pub laid : IsTable bounds → IsLayout bounds table
   pub lassos : (x : ℕ → Bool) → (value x sure ≡ true) ↔ ((lasso : LassoValue) × Decodes bounds table x lasso)
   pub numbers : (n : Node) → slice_get roots 0 ≡ Some n → (x : ℕ → Bool) (lasso : LassoValue) → Decodes bounds table x lasso → (value x n ≡ true) ↔ KeepsNumbers scopes lasso
   pub holds : (k : ℕ) (f : Formula) (n : Node) → slice_get formulas k ≡ Some f → slice_get roots (k + 1) ≡ Some n → SaysRoot value bounds table scopes f n

@@ -7,7 +7,6 @@ ghost use Rattle.gate_temporal.specs.Rows.{row_value, IsOnly};
 ghost use Rattle.bmc_encoder.specs.Firsts.{AreFirsts, SaysRoot};
 ghost use Rattle.gate_trait.specs.Built.{Keeps, AllIn};
 ghost use Rattle.gate_trait.specs.declared.node.Node.{Node as CircuitNode};
-ghost use Rattle.bound_uppers.specs.declared.places.Layout.{Layout as VariableTable};
 ghost use Rattle.bmc_leaves.specs.Loops.{AreChoices};
 ghost use Rattle.bmc_leaves.specs.Shown.{IsUniverseOf};
 ghost use Rattle.bmc_encoder.specs.Encodes.{IsEncoded};
@@ -19,7 +18,7 @@ use bmc_stack::{empty_store, node_or_false, pop_row};
 use bmc_translate::running::push_formula;
 use bmc_windows::{Frame, Stretch, frame_of};
 use bound_uppers::numbers::spans_of;
-use bound_uppers::{Bounds, Layout, layout};
+use bound_uppers::{Bounds, Layout};
 use core_meaning::{Scopes, Target};
 use core_tree::Formula;
 use core_tuples::Universe;
@@ -214,29 +213,29 @@ fn add_roots<G: Gates>(
     Ok(())
 }
 
-/// The circuit of a target over the table of its bounds. Its only error is want of memory.
+/// The circuit of a target over the table of its bounds, whose variables have these numbers. Its only
+/// error is want of memory.
 pub fn encode<G: Gates>(
     alloc: Global,
     target: &Target,
     bounds: &Bounds,
+    table: &Layout,
     gates: &mut G,
 ) -> Result<Encoded, AllocError>
     ensures keeps { Keeps G.belongs G.node_value gates.old gates.new }
     ensures belongs { IfOk result (λ e. G.belongs gates.new e.sure) }
     ensures roots { IfOk result (λ e. AllIn (G.belongs gates.new) e.roots) }
     ensures count { IfOk result (λ e. length e.roots ≡ length target.now.formulas + 1) }
-    ensures table { IfOk result (λ e. (table : VariableTable)
-        × IsEncoded bounds.now target.now.scopes target.now.formulas table (G.node_value gates.new)
-        e.sure e.roots) }
+    ensures says { IfOk result (λ e. IsEncoded bounds.now target.now.scopes target.now.formulas
+        table.now (G.node_value gates.new) e.sure e.roots) }
 {
-    let table = layout(alloc, bounds)?;
     let choices = loop_choices(alloc, gates, bounds.states, table.loops)?;
-    let first = keeps_numbers(alloc, gates, bounds, &table, &target.scopes)?;
+    let first = keeps_numbers(alloc, gates, bounds, table, &target.scopes)?;
     let mut roots = NodeList::new(alloc);
     roots.push(first)?;
     let universe = universe_of(alloc, &target.scopes)?;
     add_roots(
-        alloc, gates, &choices, target, bounds, &table, universe, &mut roots,
+        alloc, gates, &choices, target, bounds, table, universe, &mut roots,
     )?;
     let sure = only_one(gates, &choices)?;
     Ok(Encoded { sure, roots })

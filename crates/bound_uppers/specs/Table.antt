@@ -103,6 +103,14 @@ pub record IsLayout (bounds : Bounds) (kept : Layout) : Type 0 where
   pub loops : kept.loops ≡ loop_variable bounds 0
   pub count : kept.variables ≡ variables bounds
 
+-- the same, of bounds that have a table
+abbrev pub IsLaidOut : Bounds → Layout → Type 0
+IsLaidOut bounds kept = IsTable bounds → IsLayout bounds kept
+
+-- the bounds of these relations over so many states
+abbrev pub bounds_over : List Bound → ℕ → Bounds
+bounds_over relations states = record { relations = relations; states = states }
+
 -- ---- the lasso of an assignment
 
 -- the value of a variable: they are numbered from 1, and one without a value is false

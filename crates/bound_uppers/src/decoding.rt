@@ -1,16 +1,15 @@
 //! The lasso for which an assignment of the table's variables stands.
 
-ghost use Rattle.std.specs.Prelude.{◌≡◌, ◌<◌, ◌≤◌, ◌^◌, ◌+◌, ◌++◌, ℕ, true, [], List, length, slice_get, Some, IfOk, OnOk, map};
+ghost use Rattle.std.specs.Prelude.{◌≡◌, ◌<◌, ◌^◌, ◌+◌, ◌++◌, ℕ, true, [], List, length, slice_get, Some, IfOk, OnOk, map};
 ghost use Rattle.std.specs.List.{range_with_len};
 ghost use Rattle.std.specs.List.Sorted.{IsStrictlySortedBy};
 ghost use Rattle.core_tuples.specs.Sets.{tuple_cmp, IsTupleSet};
 ghost use Rattle.bound_uppers.specs.declared.table.Bound.{Bound};
 ghost use Rattle.bound_uppers.specs.declared.places.Cells.{Cells};
-ghost use Rattle.bound_uppers.specs.Table.{IsTable, truth, keep, chosen, least, cell_at, decoded_state, decoded};
+ghost use Rattle.bound_uppers.specs.Table.{IsLayout, truth, keep, chosen, least, cell_at, decoded_state, decoded};
 ghost use Rattle.bound_uppers.specs.Numbers.{HasFirsts};
 ghost use Rattle.bound_uppers.specs.Candidates.{IsCandidate, HasOneLoop, Agrees};
 
-use crate::numbering::layout;
 use crate::places::Layout;
 use crate::table::{Bound, Bounds};
 use base_types::Assignment;
@@ -199,18 +198,24 @@ fn upper_sets(relations: &[Bound])
 
 /// The lasso of as many states as the bounds have whose relations have at each state just the
 /// tuples whose variables are true, and whose loop begins where the one true loop variable says. It
-/// lies within the upper bounds, and what isn't `var` is the same in all states.
-pub fn decode(alloc: Global, bounds: &Bounds, assignment: &Assignment) -> Result<Lasso, AllocError>
+/// lies within the upper bounds, and what isn't `var` is the same in all states. The table has the
+/// numbers of the variables of these bounds.
+pub fn decode(
+    alloc: Global,
+    bounds: &Bounds,
+    table: &Layout,
+    assignment: &Assignment,
+) -> Result<Lasso, AllocError>
     requires { 0 < bounds.now.states }
     ensures count { IfOk result (λ l. length l.states ≡ bounds.now.states) }
-    ensures exact { IsTable bounds.now → IfOk result (λ l. l ≡ decoded bounds.now assignment.now) }
-    ensures candidate { IsTable bounds.now → IfOk result (IsCandidate bounds.now) }
-    ensures agrees { IsTable bounds.now → HasOneLoop bounds.now assignment.now →
+    ensures exact { IsLayout bounds.now table.now →
+        IfOk result (λ l. l ≡ decoded bounds.now assignment.now) }
+    ensures candidate { IsLayout bounds.now table.now → IfOk result (IsCandidate bounds.now) }
+    ensures agrees { IsLayout bounds.now table.now → HasOneLoop bounds.now assignment.now →
         IfOk result (Agrees bounds.now assignment.now) }
 {
     upper_sets(bounds.relations.as_slice());
-    let table = layout(alloc, bounds)?;
-    let states = states_of(alloc, bounds, &table, assignment)?;
+    let states = states_of(alloc, bounds, table, assignment)?;
     let start = loop_of(bounds.states, table.loops, assignment);
     lasso_of(states, start)
 }

@@ -21,7 +21,6 @@ use Rattle.core_window.proofs.SameLemmas.{same_trans, not_same}
 use Rattle.form_inline.specs.CallFree.{IsCallFree}
 use Rattle.form_inline.specs.Written.{atoms}
 use Rattle.form_kernel.specs.Left.{IsLeft}
-use Rattle.form_target.specs.declared.target.Part.{Part}
 use Rattle.form_target.specs.Targets.{IsWrittenOut, Adds, none_added, one_added, fact_claims, always_claims, HoldsWith, SayDeclared, IsTargetOf}
 
 -- where a formula without calls holds, so does its kernel
@@ -151,11 +150,3 @@ target_is model scopes command declared target first same count early adds = rec
 
 pub target_left : (model : Model) (declared now : List Formula) (olds : List Claim) → ((asked : List Formula) × Adds model.bodies [] declared (always_claims asked) × SayDeclared model asked) → Adds model.bodies declared now olds → All (λ f. IsLeft (claim_of f)) now
 target_left model declared now olds early adds = added_left model.bodies declared now olds adds (added_left model.bodies [] declared (always_claims early.0) early.1 (All-nil (λ f. IsLeft (claim_of f))))
-
--- the parts' formulas are those of the facts
-pub parts_next : (parts new : List Part) (facts : List Fact) (k next : ℕ) (fact : Fact) (part : Part) → new ≡ parts ++ part ∷ [] → next ≡ k + 1 → k < length facts → fact ≡ get_or facts k fact → map (λ (p : Part). claim_of p.formula) parts ≡ fact_claims (take k facts) → claim_of part.formula ≡ claim_of fact.formula → map (λ (p : Part). claim_of p.formula) new ≡ fact_claims (take next facts)
-parts_next parts new facts k next fact part one two low is front last =
-    ap (map (λ (p : Part). claim_of p.formula)) one ∙ map-append (λ (p : Part). claim_of p.formula) parts (part ∷ []) ∙ ap (λ z. z ++ claim_of part.formula ∷ []) front ∙ ap (λ z. fact_claims (take k facts) ++ z ∷ []) last ∙ sym (listed (λ (f : Fact). claim_of f.formula) facts k next fact two low is)
-
-pub parts_last : (parts new : List Part) (claims : List Claim) (part : Part) (command : Claim) → new ≡ parts ++ part ∷ [] → map (λ (p : Part). claim_of p.formula) parts ≡ claims → claim_of part.formula ≡ command → map (λ (p : Part). claim_of p.formula) new ≡ claims ++ command ∷ []
-parts_last parts new claims part command one front last = ap (map (λ (p : Part). claim_of p.formula)) one ∙ map-append (λ (p : Part). claim_of p.formula) parts (part ∷ []) ∙ ap (λ z. z ++ claim_of part.formula ∷ []) front ∙ ap (λ z. claims ++ z ∷ []) last

@@ -16,4 +16,4 @@ pub use declarations::implied;
 
 mod target;
 
-pub use target::{Part, PartList, parts_of, target_of};
+pub use target::target_of;

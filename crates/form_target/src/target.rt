@@ -1,35 +1,18 @@
 //! The target of a command: the formulas that a lasso is to satisfy, in order.
 
-ghost use Rattle.std.specs.Prelude.{◌≡◌, List, [], ◌∷◌, ◌++◌, map, All, IfOk};
+ghost use Rattle.std.specs.Prelude.{◌≡◌, List, [], ◌∷◌, ◌++◌, All, IfOk};
 ghost use Rattle.core_tree.specs.declared.operators.TemporalUnary.TheVariants.{Always as AlwaysOf};
 ghost use Rattle.core_tree.specs.Trees.{claim_of, temporal};
 ghost use Rattle.form_kernel.specs.Left.{IsLeft};
 ghost use Rattle.form_target.specs.Targets.{IsWrittenOut, Adds, fact_claims, always_claims, SayDeclared, IsTargetOf};
 ghost use Rattle.core_tree.specs.declared.tree.Formula.{Formula};
-ghost use Rattle.form_target.specs.declared.target.Part.{Part as PartOf};
 
 use crate::implied;
-use base_types::{Name, Position};
 use core_meaning::{Scopes, Target};
-use core_tree::{Command, Fact, Formula, FormulaList, ItemList, Model, TemporalUnary};
+use core_tree::{Command, Fact, Formula, FormulaList, Model, TemporalUnary};
 use form_inline::inline;
 use form_kernel::kernel;
 use std::alloc::{AllocError, Global};
-
-/// A fact of the model, or its command.
-#[derive(Drop)]
-pub struct Part {
-    /// The instance that has it.
-    pub instance: u32,
-    /// Where its keyword stands.
-    pub place: Position,
-    pub name: Option<Name>,
-    /// What it says of position 0.
-    pub formula: Formula,
-}
-
-/// The facts in load order and then text order, and last the command.
-pub type PartList = ItemList<Part>;
 
 /// The formula with no call, no `let` and no derived operator.
 #[tactic(auto, using(crate::proofs::Targets::written))]
@@ -137,54 +120,4 @@ pub fn target_of(
         scopes: scopes.copy(alloc)?,
     };
     Ok((target, first_fact))
-}
-
-/// An equal name, where there is one.
-fn name_copy(alloc: Global, name: &Option<Name>) -> Result<Option<Name>, AllocError> {
-    match name {
-        Some(name) => Ok(Some(Name::copy(alloc, name.text())?)),
-        None => Ok(None),
-    }
-}
-
-/// The part that a fact is.
-fn fact_part(alloc: Global, fact: &Fact) -> Result<Part, AllocError>
-    ensures { IfOk result (λ p. claim_of p.formula ≡ claim_of fact.now.formula) }
-{
-    Ok(Part {
-        instance: fact.instance,
-        place: fact.place,
-        name: name_copy(alloc, &fact.name)?,
-        formula: fact.formula.copy(alloc)?,
-    })
-}
-
-/// The parts that facts are.
-#[tactic(auto, using(crate::proofs::Targets::parts_next))]
-fn fact_parts(alloc: Global, facts: &[Fact]) -> Result<PartList, AllocError>
-    ensures { IfOk result (λ parts. map (λ (p : PartOf). claim_of p.formula) parts
-        ≡ fact_claims facts.now) }
-{
-    let mut parts = PartList::new(alloc);
-    for fact in facts {
-        let part = fact_part(alloc, fact)?;
-        parts.push(part)?;
-    }
-    Ok(parts)
-}
-
-/// The facts of the model, and last the command.
-#[tactic(auto, using(crate::proofs::Targets::parts_last))]
-pub fn parts_of(alloc: Global, model: &Model, command: &Command) -> Result<PartList, AllocError>
-    ensures { IfOk result (λ parts. map (λ (p : PartOf). claim_of p.formula) parts
-        ≡ fact_claims model.now.facts ++ claim_of command.now.formula ∷ []) }
-{
-    let mut parts = fact_parts(alloc, model.facts.as_slice())?;
-    parts.push(Part {
-        instance: 0,
-        place: command.keyword,
-        name: name_copy(alloc, &command.label)?,
-        formula: command.formula.copy(alloc)?,
-    })?;
-    Ok(parts)
 }

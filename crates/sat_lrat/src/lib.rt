@@ -17,7 +17,7 @@ pub use laws::{
     lemmas_are_read_again, numbers_are_read_again, refutation_is_sound, start_is_sound,
     step_is_sound,
 };
-pub use line::{Hints, Line, LineList, Proof, Rest};
+pub use line::{Hints, Line, LineList, Rest};
 pub use outcome::Outcome;
 pub use print::{print_lines, push_lines};
 pub use read::{LratFault, ReadLine, read_line};

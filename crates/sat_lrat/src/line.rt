@@ -2,7 +2,7 @@
 
 ghost use Rattle.std.specs.Prelude.{◌≡◌, ◌==◌, ◌<◌, ◌++◌, ◌∷◌, [], length, reverse, slice_get, take, is_ok, if◌then◌else◌, IfNone, IfSome, Some};
 
-use sat_dimacs::{Clause, Cnf};
+use sat_dimacs::Clause;
 use smallvec::SmallVec;
 use std::alloc::{AllocError, Global};
 use std::marker::Model;
@@ -172,13 +172,4 @@ impl LineList {
     {
         &self.lines
     }
-}
-
-/// Clauses with lines about them, such as lines that refute them.
-#[derive(Debug, Drop)]
-pub struct Proof {
-    /// The number of states of the traces of which the clauses speak.
-    pub states: u32,
-    pub cnf: Cnf,
-    pub lines: LineList,
 }

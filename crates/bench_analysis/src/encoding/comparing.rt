@@ -4,7 +4,7 @@ use crate::encoding::values::low_bits;
 use base_types::Assignment;
 use bench_gates::{among, gate_values};
 use bmc_encoder::{Encoded, encode};
-use bound_uppers::{Bounds, decode, layout};
+use bound_uppers::{Bounds, Layout, decode};
 use core_meaning::{Lasso, Scopes, Target};
 use core_tree::{Formula, Model};
 use eval_trace::{declared, holds, keeps};
@@ -23,6 +23,8 @@ pub struct Question<'a> {
     pub command: u32,
     pub scopes: &'a Scopes,
     pub bounds: &'a Bounds,
+    /// The numbers of the variables.
+    pub table: &'a Layout,
     pub target: &'a Target,
     /// How many formulas of the target say what the declarations do; those of the facts and the command follow.
     pub first_fact: u32,
@@ -149,7 +151,7 @@ fn add_assignment(
     tally.lassos = tally.lassos.saturating_add(1);
     let inputs = low_bits(alloc, number, tally.variables)?;
     let assignment = Assignment::new(alloc, &inputs)?;
-    let lasso = decode(alloc, asked.bounds, &assignment)?;
+    let lasso = decode(alloc, asked.bounds, asked.table, &assignment)?;
     let roots = encoded.roots.as_slice();
     add_lasso(alloc, asked, &lasso, &values, roots, tally)
 }
@@ -165,20 +167,20 @@ fn store_of(alloc: Global, variables: u64) -> Result<CircuitStore, AllocError> {
 
 /// Compares the circuit of a command with what the model means, under all assignments; none where there are too many.
 pub fn compare(alloc: Global, asked: &Question) -> Result<Option<Tally>, AllocError> {
-    let table = layout(alloc, asked.bounds)?;
-    if table.variables > MOST_VARIABLES {
+    let variables = asked.table.variables;
+    if variables > MOST_VARIABLES {
         return Ok(None);
     }
-    let mut store = store_of(alloc, table.variables)?;
-    let encoded = encode(alloc, asked.target, asked.bounds, &mut store)?;
+    let mut store = store_of(alloc, variables)?;
+    let encoded = encode(alloc, asked.target, asked.bounds, asked.table, &mut store)?;
     let mut tally = Tally {
-        variables: table.variables,
+        variables,
         assignments: 0,
         lassos: 0,
         satisfied: 0,
         different: 0,
     };
-    let count = 1u64 << (table.variables % 64);
+    let count = 1u64 << (variables % 64);
     for number in 0..count {
         add_assignment(alloc, asked, &store, &encoded, number, &mut tally)?;
     }

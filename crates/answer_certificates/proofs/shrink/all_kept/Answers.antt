@@ -12,7 +12,8 @@ returns c =
       record {
         part = target;
         is_part = whole_part target c.args.question.now.first c.args.question.now.facts c.in_ok-dropped.dropped.items flags;
-        says = c.requires.says;
+        says = c.requires.says.0;
         ruled = c.requires.ruled;
       },
+      c.requires.says.1,
     )

@@ -9,4 +9,4 @@ returns-in-Unknown g c =
     let flags = c.deref-3.result.now in
     let found = subst (IsFoundWithin question.limits.now.states question.budget) c.in-Unknown.is c.in_ok-proof.ensures.found in
     let part = subst (IsSearchedFor question.target.now question.first question.limits.now flags) c.in-Unknown.is c.in_ok-proof.ensures.part in
-    (found, flags, part, ap length c.deref-3.ensures.value ∙ (c.in_ok-dropped.ensures ∙ (ap length c.deref-2.ensures.value ∙ c.requires.0)))
+    (found, part.1, flags, part.0, ap length c.deref-3.ensures.value ∙ (c.in_ok-dropped.ensures ∙ (ap length c.deref-2.ensures.value ∙ c.requires.0)))

@@ -10,4 +10,4 @@ returns-in-Unknown g c =
     let found = subst (IsFoundWithin question.limits.now.states question.budget) c.in-Unknown.is c.in_ok-smaller.ensures.found in
     let part = subst (IsSearchedFor question.target.now question.first question.limits.now flags) c.in-Unknown.is c.in_ok-smaller.ensures.part in
     let count : length c.deref.result.now ≡ c.args.question.now.facts = search rules in
-    (found, flags, part, count)
+    (found, part.1, flags, part.0, count)

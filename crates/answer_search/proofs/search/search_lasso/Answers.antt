@@ -19,17 +19,17 @@ returns-in-Spent-clause-found g c =
     let same : spends.0 ≡ length lines = cc in (refl, (lemmas.0, subst (λ (n : ℕ). Spends cnf.clauses n lines) same spends.2, few))
 
 pub returns-in-Spent-clause-says : goal.returns-in-Spent-clause-says
-returns-in-Spent-clause-says g c = c.in_ok-cnf.ensures.says
+returns-in-Spent-clause-says g c = (c.in_ok-cnf.ensures.says c.in_ok-layout.ensures.exact, c.in_ok-layout.ensures.exact)
 
 pub returns-in_ok-lasso-in-Assignment-clause-says : goal.returns-in_ok-lasso-in-Assignment-clause-says
 returns-in_ok-lasso-in-Assignment-clause-says g c = λ is.
     let cnf = c.in_ok-cnf.cnf in
     let solution = subst (IsAnswer cnf.variables cnf.clauses c.args.budget) c.in-Assignment.is c.in_ok-assignment.ensures.answer in
     let found = c.in_ok-lasso-in-Assignment.ensures in
-    solution_meets c.args.target.now c.args.bounds.now cnf.variables cnf.clauses c.in-Assignment.assignment c.in_ok-lasso-in-Assignment.lasso c.values_tell.ensures.one_loop c.values_tell.ensures.decoded c.in_ok-cnf.ensures.says solution is (found.candidate is) (found.agrees is)
+    solution_meets c.args.target.now c.args.bounds.now cnf.variables cnf.clauses c.in-Assignment.assignment c.in_ok-lasso-in-Assignment.lasso c.values_tell.ensures.one_loop c.values_tell.ensures.decoded (c.in_ok-cnf.ensures.says c.in_ok-layout.ensures.exact) solution is (found.candidate (c.in_ok-layout.ensures.exact is)) (found.agrees (c.in_ok-layout.ensures.exact is))
 
 pub returns-in_ok-rest-in-Refutation-clause-says : goal.returns-in_ok-rest-in-Refutation-clause-says
-returns-in_ok-rest-in-Refutation-clause-says g c = c.in_ok-cnf.ensures.says
+returns-in_ok-rest-in-Refutation-clause-says g c = (c.in_ok-cnf.ensures.says c.in_ok-layout.ensures.exact, c.in_ok-layout.ensures.exact)
 
 pub returns-in_ok-rest-in-Refutation-clause-found : goal.returns-in_ok-rest-in-Refutation-clause-found
 returns-in_ok-rest-in-Refutation-clause-found g c =
@@ -45,4 +45,4 @@ returns-in_ok-rest-in-Refutation-clause-found g c =
 pub returns-in_ok-rest-in-Refutation-clause-none : goal.returns-in_ok-rest-in-Refutation-clause-none
 returns-in_ok-rest-in-Refutation-clause-none g c =
     let refutes = subst (IsAnswer c.in_ok-cnf.cnf.variables c.in_ok-cnf.cnf.clauses c.args.budget) c.in-Refutation.is c.in_ok-assignment.ensures.answer in
-    ruled_out c.args.target.now c.args.bounds.now c.in_ok-cnf.cnf.clauses c.in-Refutation.lines c.refutation_is_sound.ensures c.candidates_are_told.ensures c.candidates_have_canonical.ensures c.have_sets.ensures c.in_ok-cnf.ensures.says refutes
+    ruled_out c.args.target.now c.args.bounds.now c.in_ok-cnf.cnf.clauses c.in-Refutation.lines c.refutation_is_sound.ensures c.candidates_are_told.ensures c.candidates_have_canonical.ensures c.have_sets.ensures (c.in_ok-cnf.ensures.says c.in_ok-layout.ensures.exact) refutes
