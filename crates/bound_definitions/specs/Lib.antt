@@ -1,5 +1,7 @@
 pub mod Numbers
+pub mod Places
 pub mod Rules
-pub mod Parts
+pub mod Mentions
 pub mod Depth
 pub mod Trees
+pub mod Refusals

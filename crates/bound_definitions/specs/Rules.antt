@@ -1,81 +1,102 @@
--- The rules on scopes, each with the places at which it is broken.
-use Rattle.std.specs.Prelude.{◌≡◌, ◌⊎◌, ℕ, ◌<◌, true, List, Some, slice_get}
+-- The rules on what a command lists and on how many atoms it has, each with the places at which it is broken.
+use Rattle.std.specs.Prelude.{ℕ, ◌==◌, nat_lt, Bool, true, false, not, ◌&&◌, ◌||◌, if◌then◌else◌, List, [], ◌∷◌, ◌++◌, Option, Some, None, slice_get}
+use Rattle.std.specs.List.{list_any}
 use Rattle.base_types.specs.declared.place.Position.{Position}
-use Rattle.base_types.specs.declared.place.Rule.{Rule}
-use Rattle.base_types.specs.declared.place.Rule.TheVariants as rule
-use Rattle.core_tree.specs.declared.model.Model.{Model}
 use Rattle.core_tree.specs.declared.model.Origin.{Origin}
 use Rattle.core_tree.specs.declared.model.Sig.{Sig}
-use Rattle.core_tree.specs.declared.model.SigKind.TheVariants.{Subset}
-use Rattle.core_tree.specs.declared.model.Command.{Command}
+use Rattle.core_tree.specs.declared.model.SigKind.{SigKind}
+use Rattle.core_tree.specs.declared.model.SigKind.TheVariants.{Top, Extends, Subset}
 use Rattle.core_tree.specs.declared.model.ScopeEntry.{ScopeEntry}
 use Rattle.core_tree.specs.declared.model.ScopeSubject.{ScopeSubject}
 use Rattle.core_tree.specs.declared.model.ScopeSubject.TheVariants as subject
-use Rattle.core_meaning.specs.declared.scopes.Scopes.{Scopes}
-use Rattle.core_meaning.specs.Kept.{universe_size}
-use Rattle.bound_definitions.specs.Numbers.{is_static_one, is_static_lone, AreScopesBy}
+use Rattle.bound_definitions.specs.Numbers.{is_static_one, is_static_lone, lists, is_int, is_steps}
+use Rattle.bound_definitions.specs.Places.{place_if, some_place_if, each, each_behind}
 
 abbrev pub in_root : Position → Origin
 in_root place = record { instance = 0; place = place }
 
-abbrev pub IsSubset : List Sig → ℕ → Type 0
-IsSubset sigs s = (d : Sig) × (slice_get sigs s ≡ Some d) × ((ps : _) × (d.kind ≡ Subset ps))
+abbrev pub is_subset : SigKind → Bool
+is_subset Top = false
+is_subset (Extends p) = false
+is_subset (Subset ps) = true
 
-module _ (model : Model) (command : Command) where
-  -- the entry of number j says a number of this
-  abbrev pub Says : ℕ → ScopeEntry → ScopeSubject → Type 0
-  Says j e what = (slice_get command.scope j ≡ Some e) × (e.subject ≡ what)
+-- both say a number of one sig, of the bitwidth, or of the states
+abbrev pub says_of : ScopeSubject → ScopeSubject → Bool
+says_of (subject.Sig s) other = lists other s
+says_of subject.Int other = is_int other
+says_of subject.Steps other = is_steps other
+says_of subject.Overall other = false
+says_of subject.Unknown other = false
 
-  -- it says the same as an earlier one
-  abbrev pub IsRepeated : ℕ → ScopeSubject → Type 0
-  IsRepeated j what = (i : ℕ) × (e : ScopeEntry) × (i < j) × Says i e what
+-- an entry says a number of what one of these does
+abbrev pub is_repeated : List ScopeEntry → ScopeSubject → Bool
+is_repeated before what = list_any (λ (e : ScopeEntry). says_of what e.subject) before
 
-  abbrev pub IsNumberOf : ScopeSubject → Type 0
-  IsNumberOf what = (what ≡ subject.Int) ⊎ (what ≡ subject.Steps)
+abbrev pub is_there_and : (Sig → Bool) → Option Sig → Bool
+is_there_and test None = false
+is_there_and test (Some d) = test d
 
-  -- S61: an entry's name isn't one sig, or is a subset sig, or is listed before; `exactly` stands
-  -- before `Int` or `steps`; or a subset sig is the argument of an `exactly` parameter
-  abbrev pub BadScopeAt : Origin → Type 0
-  BadScopeAt at =
-      ((j : ℕ) × (e : ScopeEntry) × Says j e subject.Unknown × (at ≡ in_root e.name_place)) ⊎
-      ((j : ℕ) × (e : ScopeEntry) × (s : ℕ) × Says j e (subject.Sig s) × (IsSubset model.sigs s ⊎ IsRepeated j (subject.Sig s)) × (at ≡ in_root e.name_place)) ⊎
-      ((j : ℕ) × (e : ScopeEntry) × (what : ScopeSubject) × Says j e what × IsNumberOf what × (IsRepeated j what ⊎ (e.exactly ≡ true)) × (at ≡ in_root e.name_place)) ⊎
-      ((s : ℕ) × (d : Sig) × IsSubset model.sigs s × (slice_get model.sigs s ≡ Some d) × (d.exactly ≡ Some at))
+-- the entry is for a sig that passes a test
+abbrev pub is_for : (Sig → Bool) → List Sig → ScopeSubject → Bool
+is_for test sigs (subject.Sig s) = is_there_and test (slice_get sigs s)
+is_for test sigs _ = false
 
-  -- S62: a `var` sig has just a number, by an entry or by an `exactly` parameter
-  abbrev pub ExactVarAt : Origin → Type 0
-  ExactVarAt at =
-      (s : ℕ) × (d : Sig) × (slice_get model.sigs s ≡ Some d) × (d.is_var ≡ true) ×
-      (((j : ℕ) × (e : ScopeEntry) × Says j e (subject.Sig s) × (e.exactly ≡ true) × (at ≡ in_root e.name_place)) ⊎ (d.exactly ≡ Some at))
+-- a name may not be listed that isn't one sig or is a subset sig, nor anything twice; and `exactly` may not stand
+-- before `Int` or `steps`
+abbrev pub may_not_stand : List Sig → (repeated exactly : Bool) → ScopeSubject → Bool
+may_not_stand sigs repeated exactly (subject.Sig s) = not (is_there_and (λ d. not (is_subset d.kind)) (slice_get sigs s)) || repeated
+may_not_stand sigs repeated exactly subject.Int = exactly || repeated
+may_not_stand sigs repeated exactly subject.Steps = exactly || repeated
+may_not_stand sigs repeated exactly subject.Overall = false
+may_not_stand sigs repeated exactly subject.Unknown = true
 
-  -- S63: a static `one sig` is listed with another number than 1, a static `lone sig` with more
-  abbrev pub ScopeConflictAt : Origin → Type 0
-  ScopeConflictAt at =
-      (j : ℕ) × (e : ScopeEntry) × (s : ℕ) × (d : Sig) × Says j e (subject.Sig s) × (slice_get model.sigs s ≡ Some d) ×
-      (((is_static_one d ≡ true) × (e.number ≡ 1 → ⊥)) ⊎ ((is_static_lone d ≡ true) × (1 < e.number))) × (at ≡ in_root e.name_place)
+abbrev pub bad_entry : List Sig → List ScopeEntry → ScopeEntry → List Origin
+bad_entry sigs before e = place_if (may_not_stand sigs (is_repeated before e.subject) e.exactly e.subject) (in_root e.name_place)
 
-  -- the first entry of a kind has a number outside 1 to a limit
-  abbrev pub IsOutside : ScopeSubject → ℕ → Origin → Type 0
-  IsOutside what limit at =
-      (j : ℕ) × (e : ScopeEntry) × Says j e what × (IsRepeated j what → ⊥) × ((e.number < 1) ⊎ (limit < e.number)) × (at ≡ in_root e.number_place)
+-- the open that gives a sig to an `exactly` parameter, where the sig passes a test
+abbrev pub open_of : (Sig → Bool) → Sig → List Origin
+open_of test d = some_place_if (test d) d.exactly
 
-  -- S64: the bitwidth, and S65: the states
-  abbrev pub BitwidthAt : Origin → Type 0
-  BitwidthAt at = IsOutside subject.Int 12 at
+-- S61: the names of entries that may not stand, and the opens that give a subset sig to an `exactly` parameter
+abbrev pub bad_scopes : List Sig → List ScopeEntry → List Origin
+bad_scopes sigs entries = each_behind (bad_entry sigs) [] entries ++ each (open_of (λ d. is_subset d.kind)) sigs
 
-  abbrev pub StepsAt : Origin → Type 0
-  StepsAt at = IsOutside subject.Steps 32 at
+abbrev pub exact_var_entry : List Sig → ScopeEntry → List Origin
+exact_var_entry sigs e = place_if (e.exactly && is_for (λ d. d.is_var) sigs e.subject) (in_root e.name_place)
 
-  -- S66: the universe has over 16,384 atoms and integers
-  abbrev pub AtomsAt : Origin → Type 0
-  AtomsAt at = (scopes : Scopes) × AreScopesBy model command scopes × (16384 < universe_size scopes) × (at ≡ in_root command.keyword)
+-- S62: the names of entries that give a `var` sig just a number, and the opens that do
+abbrev pub exact_vars : List Sig → List ScopeEntry → List Origin
+exact_vars sigs entries = each (exact_var_entry sigs) entries ++ each (open_of (λ d. d.is_var)) sigs
 
-  -- the rule on the scope is broken at a place
-  abbrev pub IsBroken : Rule → Origin → Type 0
-  IsBroken rule.BadScope at = BadScopeAt at
-  IsBroken rule.ExactVar at = ExactVarAt at
-  IsBroken rule.ScopeConflict at = ScopeConflictAt at
-  IsBroken rule.Bitwidth at = BitwidthAt at
-  IsBroken rule.Steps at = StepsAt at
-  IsBroken rule.Atoms at = AtomsAt at
-  IsBroken _ at = ⊥
+-- a static `one sig` has another number than 1, or a static `lone sig` more
+abbrev pub contradicts : ℕ → Sig → Bool
+contradicts n d = (is_static_one d && not (n == 1)) || (is_static_lone d && nat_lt 1 n)
+
+abbrev pub conflicting_entry : List Sig → ScopeEntry → List Origin
+conflicting_entry sigs e = place_if (is_for (contradicts e.number) sigs e.subject) (in_root e.name_place)
+
+-- S63: the names of entries whose number contradicts the word before the sig
+abbrev pub conflicts : List Sig → List ScopeEntry → List Origin
+conflicts sigs entries = each (conflicting_entry sigs) entries
+
+-- the first entry of a kind
+abbrev pub first_entry : (ScopeSubject → Bool) → List ScopeEntry → Option ScopeEntry
+first_entry is_kind [] = None
+first_entry is_kind (e ∷ es) = if is_kind e.subject then Some e else first_entry is_kind es
+
+-- its number, where it is outside 1 to a limit
+abbrev pub outside : ℕ → Option ScopeEntry → List Origin
+outside limit None = []
+outside limit (Some e) = place_if (nat_lt e.number 1 || nat_lt limit e.number) (in_root e.number_place)
+
+-- S64: the number of the bitwidth
+abbrev pub bad_bitwidth : List ScopeEntry → List Origin
+bad_bitwidth entries = outside 12 (first_entry is_int entries)
+
+-- S65: the number of the states
+abbrev pub bad_steps : List ScopeEntry → List Origin
+bad_steps entries = outside 32 (first_entry is_steps entries)
+
+-- S66: the keyword of a command whose universe has over 16,384 atoms and integers
+abbrev pub too_many_atoms : ℕ → Position → List Origin
+too_many_atoms universe keyword = place_if (nat_lt 16384 universe) (in_root keyword)

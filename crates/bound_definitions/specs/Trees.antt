@@ -1,9 +1,7 @@
--- The rules on scopes that look into formulas, each with the places at which it is broken.
--- The formulas are those that count for a command.
-use Rattle.std.specs.Prelude.{◌≡◌, ◌⊎◌, ℕ, ℤ, ◌<◌, Some, slice_get}
+-- The rules on scopes that look into trees, each with the places at which it is broken.
+-- The trees are those that count for a command, or the value that is asked for.
+use Rattle.std.specs.Prelude.{◌≡◌, ℕ, ℤ, pos, negsuc, ◌-◌, ◌^◌, nat_lt, nat_le, Bool, true, List, [], ◌∷◌, ◌++◌, Contains, Option, Some, None, slice_get}
 use Rattle.base_types.specs.declared.place.Position.{Position}
-use Rattle.base_types.specs.declared.place.Rule.{Rule}
-use Rattle.base_types.specs.declared.place.Rule.TheVariants as rule
 use Rattle.core_tree.specs.declared.model.Model.{Model}
 use Rattle.core_tree.specs.declared.model.Origin.{Origin}
 use Rattle.core_tree.specs.declared.model.Sig.{Sig}
@@ -11,73 +9,117 @@ use Rattle.core_tree.specs.declared.model.Field.{Field}
 use Rattle.core_tree.specs.declared.model.FieldBound.{FieldBound}
 use Rattle.core_tree.specs.declared.model.Fact.{Fact}
 use Rattle.core_tree.specs.declared.model.Body.{Body}
-use Rattle.core_tree.specs.declared.model.BodyForm.{BodyForm}
-use Rattle.core_tree.specs.declared.model.BodyForm.TheVariants.{Test, Term as Value}
 use Rattle.core_tree.specs.declared.model.Command.{Command}
 use Rattle.core_tree.specs.declared.tree.Formula.{Formula}
 use Rattle.core_tree.specs.Trees.{Term, Claim, term_of, claim_of}
 use Rattle.core_tree.specs.Past.{no_depths, past_in, past_of, body_depths}
-use Rattle.core_meaning.specs.Integers.{wrap}
-use Rattle.bound_definitions.specs.Parts.{NumberIn, NumberOf, CallIn, CallOf}
+use Rattle.bound_definitions.specs.declared.mention.Mention.{Mention}
+use Rattle.bound_definitions.specs.declared.mention.Mention.TheVariants as mention
+use Rattle.bound_definitions.specs.Mentions.{mentions_in, mentions_of, mentions_of_body}
 use Rattle.bound_definitions.specs.Depth.{depth_in, depth_of, inlined_depths}
+use Rattle.bound_definitions.specs.Places.{place_if, each}
 use Rattle.bound_definitions.specs.Rules.{in_root}
 
--- the integer is one of the bitwidth
-abbrev pub IsInBits : ℕ → ℤ → Type 0
-IsInBits bits n = wrap bits n ≡ n
+-- a formula or an expression
+pub data Tree : Type 0 where
+  formula : Claim → Tree
+  expression : Term → Tree
 
-abbrev pub NumberOfForm : ℤ → Position → BodyForm → Type 0
-NumberOfForm n p (Test f) = NumberOf n p (claim_of f)
-NumberOfForm n p (Value e bound) = NumberIn n p (term_of e)
+-- a tree that counts, with the beginning of its paragraph
+pub record Counted : Type 0 where
+  pub at : Origin
+  pub tree : Tree
 
-abbrev pub CallOfForm : ℕ → BodyForm → Type 0
-CallOfForm b (Test f) = CallOf b (claim_of f)
-CallOfForm b (Value e bound) = CallIn b (term_of e)
+abbrev pub counted_at : Option Origin → Option Tree → List Counted
+counted_at (Some at) (Some tree) = record { at = at; tree = tree } ∷ []
+counted_at _ _ = []
 
-module _ (model : Model) (command : Command) where
-  -- A formula that counts, with the beginning of its paragraph: an appended fact, a fact, or the
-  -- command's formula.
-  abbrev pub Counts : Origin → Claim → Type 0
-  Counts at f =
-      ((s : ℕ) × (d : Sig) × (g : Formula) × (slice_get model.sigs s ≡ Some d) × (d.origin ≡ Some at) × (d.appended ≡ Some g) × (f ≡ claim_of g)) ⊎
-      ((k : ℕ) × (d : Fact) × (slice_get model.facts k ≡ Some d) × (at ≡ record { instance = d.instance; place = d.place }) × (f ≡ claim_of d.formula)) ⊎
-      ((at ≡ in_root command.first) × (f ≡ claim_of command.formula))
+abbrev pub appended_tree : Option Formula → Option Tree
+appended_tree None = None
+appended_tree (Some f) = Some (formula (claim_of f))
 
-  -- a field's bound, with the beginning of its sig's paragraph
-  abbrev pub CountsBound : Origin → Term → Type 0
-  CountsBound at e =
-      (k s : ℕ) × (f : Field) × (b : FieldBound) × (d : Sig) × (slice_get model.fields k ≡ Some f) × (f.declared ≡ Some b) × (f.owner ≡ Some s) ×
-      (slice_get model.sigs s ≡ Some d) × (d.origin ≡ Some at) × (e ≡ term_of b.bound.expr)
+-- a sig's appended fact
+abbrev pub counted_sig : Sig → List Counted
+counted_sig d = counted_at d.origin (appended_tree d.appended)
 
-  -- a body that one of these calls, directly or not
-  pub data IsCalled : ℕ → Type 0 where
-    by_formula : {b : ℕ} (at : Origin) (f : Claim) → Counts at f → CallOf b f → IsCalled b
-    by_bound : {b : ℕ} (at : Origin) (e : Term) → CountsBound at e → CallIn b e → IsCalled b
-    further : {a b : ℕ} (body : Body) → IsCalled a → slice_get model.bodies a ≡ Some body → CallOfForm b body.form → IsCalled b
+abbrev pub origin_there : Option Sig → Option Origin
+origin_there None = None
+origin_there (Some d) = d.origin
 
-  -- S46: a number outside the bitwidth
-  abbrev pub LiteralAt : ℕ → Origin → Type 0
-  LiteralAt bits at =
-      (n : ℤ) × (IsInBits bits n → ⊥) ×
-      (((from : Origin) × (f : Claim) × Counts from f × NumberOf n at.place f × (at.instance ≡ from.instance)) ⊎
-      ((from : Origin) × (e : Term) × CountsBound from e × NumberIn n at.place e × (at.instance ≡ from.instance)) ⊎
-      ((b : ℕ) × (body : Body) × IsCalled b × (slice_get model.bodies b ≡ Some body) × NumberOfForm n at.place body.form × (at.instance ≡ body.instance)))
+-- where the paragraph of a field's sig begins
+abbrev pub origin_of : List Sig → Option ℕ → Option Origin
+origin_of sigs None = None
+origin_of sigs (Some s) = origin_there (slice_get sigs s)
 
-  -- S48: over 8 past operators are nested
-  abbrev pub PastDepthAt : Origin → Type 0
-  PastDepthAt at =
-      ((f : Claim) × Counts at f × (8 < past_of (body_depths model.bodies) f no_depths)) ⊎
-      ((e : Term) × CountsBound at e × (8 < past_in (body_depths model.bodies) e no_depths))
+abbrev pub bound_tree : Option FieldBound → Option Tree
+bound_tree None = None
+bound_tree (Some b) = Some (expression (term_of b.bound.expr))
 
-  -- S49: the depth is over 2,000 once calls are written out
-  abbrev pub DeepCallsAt : Origin → Type 0
-  DeepCallsAt at =
-      ((f : Claim) × Counts at f × (2000 < depth_of (inlined_depths model.bodies) f no_depths)) ⊎
-      ((e : Term) × CountsBound at e × (2000 < depth_in (inlined_depths model.bodies) e no_depths))
+-- a field's bound
+abbrev pub counted_field : List Sig → Field → List Counted
+counted_field sigs f = counted_at (origin_of sigs f.owner) (bound_tree f.declared)
 
-  -- the rule is broken at a place, under this bitwidth
-  abbrev pub IsBrokenBy : ℕ → Rule → Origin → Type 0
-  IsBrokenBy bits rule.Literal at = LiteralAt bits at
-  IsBrokenBy bits rule.PastDepth at = PastDepthAt at
-  IsBrokenBy bits rule.DeepCalls at = DeepCallsAt at
-  IsBrokenBy bits _ at = ⊥
+abbrev pub counted_fact : Fact → List Counted
+counted_fact d = record { at = record { instance = d.instance; place = d.place }; tree = formula (claim_of d.formula) } ∷ []
+
+abbrev pub counted_command : Command → List Counted
+counted_command c = record { at = in_root c.first; tree = formula (claim_of c.formula) } ∷ []
+
+-- the trees that count for a command: appended facts, the bounds of fields, facts, and the command's formula
+abbrev pub counted : Model → Command → List Counted
+counted model command = each counted_sig model.sigs ++ (each (counted_field model.sigs) model.fields ++ (each counted_fact model.facts ++ counted_command command))
+
+-- the instance of a value, which comes after all others
+abbrev pub value_instance : ℕ
+value_instance = 4294967295
+
+-- a value that is asked for, with its first token
+abbrev pub counted_value : Term → Position → List Counted
+counted_value value first = record { at = record { instance = value_instance; place = first }; tree = expression value } ∷ []
+
+abbrev pub mentions_by : ℕ → Tree → List Mention
+mentions_by instance (formula f) = mentions_of instance f
+mentions_by instance (expression e) = mentions_in instance e
+
+abbrev pub mentions_of_tree : Counted → List Mention
+mentions_of_tree c = mentions_by c.at.instance c.tree
+
+-- how far a number is from 0, or from -1 where it is negative
+abbrev pub distance : ℤ → ℕ
+distance (pos n) = n
+distance (negsuc n) = n
+
+-- a number is outside -half to half - 1
+abbrev pub is_outside : ℕ → ℤ → Bool
+is_outside half n = nat_le half (distance n)
+
+-- it isn't one of the bitwidth
+abbrev pub is_wide : ℕ → ℤ → Bool
+is_wide bits n = is_outside (2 ^ (bits - 1)) n
+
+-- what the trees mention, and what each body does that is itself mentioned as called
+pub data IsMentioned (bodies : List Body) (trees : List Counted) : Mention → Type 0 where
+  in_tree : {m : Mention} (c : Counted) → Contains trees c → Contains (mentions_of_tree c) m → IsMentioned bodies trees m
+  in_body : {m : Mention} (b : ℕ) (body : Body) → IsMentioned bodies trees (mention.Call b) → slice_get bodies b ≡ Some body → Contains (mentions_of_body body) m → IsMentioned bodies trees m
+
+-- how many past operators a tree nests, and how deep it is, once calls are written out
+abbrev pub past_of_tree : List Body → Tree → ℕ
+past_of_tree bodies (formula f) = past_of (body_depths bodies) f no_depths
+past_of_tree bodies (expression e) = past_in (body_depths bodies) e no_depths
+
+abbrev pub depth_of_tree : List Body → Tree → ℕ
+depth_of_tree bodies (formula f) = depth_of (inlined_depths bodies) f no_depths
+depth_of_tree bodies (expression e) = depth_in (inlined_depths bodies) e no_depths
+
+module _ (bodies : List Body) (trees : List Counted) where
+  -- S46: a number outside the bitwidth is mentioned
+  abbrev pub IsWideAt : ℕ → Origin → Type 0
+  IsWideAt bits at = (n : ℤ) × IsMentioned bodies trees (mention.Number n at) × (is_wide bits n ≡ true)
+
+  -- S48: where trees begin that nest over 8 past operators
+  abbrev pub deep_past : List Origin
+  deep_past = each (λ (c : Counted). place_if (nat_lt 8 (past_of_tree bodies c.tree)) c.at) trees
+
+  -- S49: where trees begin whose depth is over 2,000 once calls are written out
+  abbrev pub deep_calls : List Origin
+  deep_calls = each (λ (c : Counted). place_if (nat_lt 2000 (depth_of_tree bodies c.tree)) c.at) trees

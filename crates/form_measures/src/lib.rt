@@ -3,11 +3,18 @@
 #![tactic(auto)]
 
 mod bodies;
-mod literal;
+mod forms;
+mod levels;
 mod measure;
+mod mentions;
+mod scope;
 mod spot;
+mod weight;
 
-pub use bodies::summaries;
-pub use literal::Reach;
-pub use measure::{Measure, Summary, expr_depth, formula_depth};
-pub use spot::earliest;
+pub use bodies::{Summaries, is_expr_over, is_formula_over, summaries};
+pub use forms::Measure;
+pub use measure::Summary;
+pub use mentions::{add_body, add_expr, add_formula};
+pub use scope::Named;
+pub use spot::{earliest, with_place, with_some_place};
+pub use weight::{Use, Weight};

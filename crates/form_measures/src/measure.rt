@@ -2,468 +2,407 @@
 //! Nothing is written out for it: a body is measured once, with how deep each of its parameters is
 //! used. A `let` name counts as what it stands for.
 
-ghost use Rattle.std.specs.Prelude.{◌<◌, length, IfSome};
+ghost use Rattle.std.specs.Prelude.{◌≡◌, ◌≤◌, ℕ, nat_lt, if◌then◌else◌, max, map, length, slice_get, Some, IfOk, IfSome};
+ghost use Rattle.core_tree.specs.Past.{Depths, BodyDepths};
+ghost use Rattle.core_tree.specs.Trees.{term_of, claim_of, variable_of, term_list, claim_list, variable_list};
+ghost use Rattle.form_measures.specs.Measured.{up_to, over_parts, measured_in, measured_of, measured_each, measured_arguments, measured_form, under};
+ghost use Rattle.form_measures.specs.Weights.{weight_at, arguments_at, named, Counts, Agrees, Weighs, AreWeighed, IsUnder};
 
-use core_tree::{
-    Body, BodyForm, Connective, Expr, Formula, RelationOp, TemporalBinary, TemporalUnary, Variable,
+use crate::forms::{
+    Levels, Measure, both, over_binary, over_let, over_parts, over_row, over_three, over_two,
+    over_unary,
 };
+use crate::levels::{binary_level, connective_level, expr_level, formula_level, relation_level};
+use crate::scope::{Named, copied, enter, look_up, with_name};
+use crate::weight::{Weight, called, nothing, of_parameter};
+use core_tree::{BodyForm, Expr, Formula, Variable};
 use std::alloc::{AllocError, Global};
-
-/// What is counted on the way from a formula to its leaves.
-#[derive(Clone, Copy, Debug, PartialEq, Eq, Drop)]
-pub enum Measure {
-    /// Past operators.
-    Past,
-    /// Every part.
-    Depth,
-}
-
-/// A name in scope, and the greatest depth at which it is used.
-#[derive(Clone, Copy, Debug, PartialEq, Eq, Drop)]
-struct Use {
-    name: u32,
-    deepest: Option<u32>,
-}
 
 /// What a body measures.
 #[derive(Drop)]
 pub struct Summary {
-    /// Its own depth, with parameters of depth 0.
-    own: u32,
-    /// How deep each parameter is used, if it is.
-    parameters: Vec<Option<u32>>,
+    /// How many parameters it has.
+    pub count: u64,
+    pub weight: Weight,
 }
 
-/// A walk over one tree.
+/// What the bounds of variables measure, and the names that are in scope under them.
 #[derive(Drop)]
-struct Walk {
-    /// The greatest depth so far.
-    deepest: u32,
-    /// The names in scope, the innermost last.
-    names: Vec<Use>,
+struct Inner {
+    bounds: Weight,
+    names: Vec<Named>,
 }
 
-/// The greater one.
-fn greater(a: u32, b: u32) -> u32 {
-    if a < b { b } else { a }
-}
-
-/// The depth of the parts of a part that is no past operator.
-fn inside(measure: Measure, depth: u32) -> u32 {
-    match measure {
-        Measure::Past => depth,
-        Measure::Depth => depth.saturating_add(1),
-    }
-}
-
-/// The depth of the operand of a temporal operator on one formula.
-fn inside_unary(measure: Measure, op: TemporalUnary, depth: u32) -> u32 {
-    match op {
-        TemporalUnary::Before | TemporalUnary::Historically | TemporalUnary::Once => {
-            depth.saturating_add(1)
-        }
-        _ => inside(measure, depth),
-    }
-}
-
-/// The depth of the operands of a temporal operator on two formulas.
-fn inside_pair(measure: Measure, op: TemporalBinary, depth: u32) -> u32 {
-    match op {
-        TemporalBinary::Since | TemporalBinary::Triggered => depth.saturating_add(1),
-        _ => inside(measure, depth),
-    }
-}
-
-/// The depth at which the first operand of an operator stands: in a row of one level that of the row,
-/// else that of the others. Past operators nest in a row too.
-fn first_inside(measure: Measure, is_row: bool, depth: u32, others: u32) -> u32 {
-    match measure {
-        Measure::Past => others,
-        Measure::Depth => { if is_row { depth } else { others } }
-    }
-}
-
-/// The level of the operator of an expression, where operators of that level group to the left, and
-/// else 0.
-fn expr_level(expr: &Expr) -> u32 {
-    match expr {
-        Expr::Combine(op, _, _) => relation_level(*op),
-        Expr::Arithmetic(_, _, _) => 10,
-        Expr::Product(_, _, _, _) => 14,
-        _ => 0,
-    }
-}
-
-/// The level of an operator between relations.
-fn relation_level(op: RelationOp) -> u32 {
-    match op {
-        RelationOp::Union | RelationOp::Difference => 10,
-        RelationOp::Override => 12,
-        RelationOp::Intersection => 13,
-        RelationOp::LeftRestrict | RelationOp::RightRestrict => 15,
-        RelationOp::Join => 16,
-    }
-}
-
-/// The level of the operator of a formula, where operators of that level group to the left, and
-/// else 0. A row of conjunctions, as it is written, is one list already.
-fn formula_level(formula: &Formula) -> u32 {
-    match formula {
-        Formula::Connect(Connective::Or, _, _) => 2,
-        Formula::Connect(Connective::Iff, _, _) => 3,
-        Formula::TemporalPair(TemporalBinary::Then, _, _) => 0,
-        Formula::TemporalPair(_, _, _) => 6,
-        _ => 0,
-    }
-}
-
-/// Whether an expression with an operator goes on the row of its first operand.
-fn is_expr_row(expr: &Expr, first: &Expr) -> bool {
-    let level = expr_level(expr);
-    level > 0 && level == expr_level(first)
-}
-
-/// Whether a formula with an operator goes on the row of its first operand.
-fn is_formula_row(formula: &Formula, first: &Formula) -> bool {
-    let level = formula_level(formula);
-    level > 0 && level == formula_level(first)
-}
-
-/// The greater one of a depth, if any, and a further one.
-fn deeper(known: Option<u32>, depth: u32) -> Option<u32> {
-    match known {
-        None => Some(depth),
-        Some(other) => Some(greater(other, depth)),
-    }
-}
-
-/// Where the innermost name of this number stands among the names.
-fn innermost(names: &[Use], name: u32) -> Option<usize>
-    ensures { IfSome result (λ k. k < length names.now) }
-{
-    for place in (0..names.len()).rev() {
-        if names[place].name == name {
-            return Some(place);
-        }
-    }
-    None
-}
-
-impl Walk {
-    /// A leaf, or a part without parts.
-    fn touch(&mut self, depth: u32) {
-        self.deepest = greater(self.deepest, depth);
-    }
-
-    /// A use of a name.
-    fn touch_name(&mut self, name: u32, depth: u32) {
-        self.touch(depth);
-        if let Some(place) = innermost(self.names.as_slice(), name) {
-            self.names[place].deepest = deeper(self.names[place].deepest, depth);
-        }
-    }
-
-    /// Takes a name into scope.
-    fn enter(&mut self, name: u32) -> Result<(), AllocError> {
-        self.names.push(Use {
-            name,
-            deepest: None,
-        })?;
-        Ok(())
-    }
-
-    /// Takes the innermost name out of scope, and says how deep it was used.
-    fn leave(&mut self) -> Option<u32> {
-        match self.names.pop() {
-            None => None,
-            Some(last) => last.deepest,
-        }
-    }
-
-    /// Takes the innermost names out of scope.
-    fn leave_all(&mut self, count: usize) {
-        for _ in 0..count {
-            let _used = self.leave();
-        }
-    }
-}
-
-/// A formula at a depth. A row of operators of one level counts once, however long it is.
-#[cycle(walk)]
-fn walk_formula(
+/// A part that is no past operator, over the bounds of its variables and what stands under these.
+fn over_bounds(
+    alloc: Global,
     measure: Measure,
-    bodies: &[Summary],
-    walk: &mut Walk,
+    inner: Inner,
+    part: Weight,
+) -> Result<Weight, AllocError>
+    ensures { IfOk result (λ w. (d : Depths) → weight_at d w
+        ≡ over_parts measure (max (weight_at d inner.bounds) (weight_at d part))) }
+{
+    let Inner { bounds, names: _ } = inner;
+    let whole = over_two(alloc, measure, bounds, part)?;
+    Ok(whole)
+}
+
+/// What a formula measures under the names in scope.
+#[cycle(walk)]
+pub(crate) fn of_formula(
+    alloc: Global,
+    measure: Measure,
+    bodies: &[Option<Summary>],
+    names: &[Named],
     formula: &Formula,
-    depth: u32,
-) -> Result<(), AllocError> {
-    let next = inside(measure, depth);
+) -> Result<Weight, AllocError>
+    ensures { IfOk result (λ w. Weighs bodies.now names.now w
+        (λ all d. measured_of measure all (claim_of formula.now) d)) }
+{
     match formula {
-        Formula::Inside(a, b) | Formula::Equal(a, b) => {
-            walk_expr(measure, bodies, walk, a, next)?;
-            walk_expr(measure, bodies, walk, b, next)
+        Formula::Inside(a, b) => {
+            let first = of_expr(alloc, measure, bodies, names, a)?;
+            let second = of_expr(alloc, measure, bodies, names, b)?;
+            let whole = over_two(alloc, measure, first, second)?;
+            Ok(whole)
+        }
+        Formula::Equal(a, b) => {
+            let first = of_expr(alloc, measure, bodies, names, a)?;
+            let second = of_expr(alloc, measure, bodies, names, b)?;
+            let whole = over_two(alloc, measure, first, second)?;
+            Ok(whole)
         }
         Formula::Within(a, _, b) => {
-            walk_expr(measure, bodies, walk, a, next)?;
-            walk_expr(measure, bodies, walk, b, next)
+            let first = of_expr(alloc, measure, bodies, names, a)?;
+            let second = of_expr(alloc, measure, bodies, names, b)?;
+            let whole = over_two(alloc, measure, first, second)?;
+            Ok(whole)
+        }
+        Formula::Test(_, a) => {
+            let part = of_expr(alloc, measure, bodies, names, a)?;
+            let whole = over_parts(alloc, measure, part)?;
+            Ok(whole)
         }
         Formula::Compare(_, a, b) => {
-            walk_expr(measure, bodies, walk, a, next)?;
-            walk_expr(measure, bodies, walk, b, next)
+            let first = of_expr(alloc, measure, bodies, names, a)?;
+            let second = of_expr(alloc, measure, bodies, names, b)?;
+            let whole = over_two(alloc, measure, first, second)?;
+            Ok(whole)
         }
-        Formula::Test(_, a) => walk_expr(measure, bodies, walk, a, next),
-        Formula::Not(f) => walk_formula(measure, bodies, walk, f, next),
-        Formula::Every(list) => walk_every(measure, bodies, walk, list.as_slice(), depth),
-        Formula::Connect(_, f, g) => {
-            let first = first_inside(measure, is_formula_row(formula, f), depth, next);
-            walk_formula(measure, bodies, walk, f, first)?;
-            walk_formula(measure, bodies, walk, g, next)
+        Formula::Not(f) => {
+            let part = of_formula(alloc, measure, bodies, names, f)?;
+            let whole = over_parts(alloc, measure, part)?;
+            Ok(whole)
+        }
+        Formula::Every(list) => {
+            let whole = of_each(alloc, measure, bodies, names, list)?;
+            Ok(whole)
+        }
+        Formula::Connect(op, f, g) => {
+            let first = of_formula(alloc, measure, bodies, names, f)?;
+            let second = of_formula(alloc, measure, bodies, names, g)?;
+            let own = formula_level(f);
+            let whole = over_row(alloc, measure, connective_level(*op), own, first, second)?;
+            Ok(whole)
         }
         Formula::Choose(f, g, h) => {
-            walk_formula(measure, bodies, walk, f, next)?;
-            walk_formula(measure, bodies, walk, g, next)?;
-            walk_formula(measure, bodies, walk, h, next)
+            let first = of_formula(alloc, measure, bodies, names, f)?;
+            let second = of_formula(alloc, measure, bodies, names, g)?;
+            let third = of_formula(alloc, measure, bodies, names, h)?;
+            let whole = over_three(alloc, measure, first, second, third)?;
+            Ok(whole)
         }
-        Formula::ForAll(list, f) | Formula::Counted(_, list, f) => {
-            walk_variables(measure, bodies, walk, list.as_slice(), next)?;
-            walk_formula(measure, bodies, walk, f, next)?;
-            walk.leave_all(list.len());
-            Ok(())
+        Formula::ForAll(list, f) => {
+            let inner = under(alloc, measure, bodies, names, list)?;
+            let part = of_formula(alloc, measure, bodies, inner.names.as_slice(), f)?;
+            let whole = over_bounds(alloc, measure, inner, part)?;
+            Ok(whole)
         }
-        Formula::Temporal(op, f) => walk_formula(
-            measure,
-            bodies,
-            walk,
-            f,
-            inside_unary(measure, *op, depth),
-        ),
+        Formula::Counted(_, list, f) => {
+            let inner = under(alloc, measure, bodies, names, list)?;
+            let part = of_formula(alloc, measure, bodies, inner.names.as_slice(), f)?;
+            let whole = over_bounds(alloc, measure, inner, part)?;
+            Ok(whole)
+        }
+        Formula::Temporal(op, f) => {
+            let part = of_formula(alloc, measure, bodies, names, f)?;
+            let whole = over_unary(alloc, measure, *op, part)?;
+            Ok(whole)
+        }
         Formula::TemporalPair(op, f, g) => {
-            let inner = inside_pair(measure, *op, depth);
-            let first = first_inside(measure, is_formula_row(formula, f), depth, inner);
-            walk_formula(measure, bodies, walk, f, first)?;
-            walk_formula(measure, bodies, walk, g, inner)
+            let first = of_formula(alloc, measure, bodies, names, f)?;
+            let second = of_formula(alloc, measure, bodies, names, g)?;
+            let own = formula_level(f);
+            let row = binary_level(*op);
+            let whole = over_binary(
+                alloc,
+                measure,
+                *op,
+                Levels { row, first: own },
+                first,
+                second,
+            )?;
+            Ok(whole)
         }
         Formula::Let(name, value, f) => {
-            walk.enter(*name)?;
-            walk_formula(measure, bodies, walk, f, next)?;
-            let used = walk.leave();
-            walk_value(measure, bodies, walk, value, used, next)
+            let value = of_expr(alloc, measure, bodies, names, value)?;
+            let inner = with_name(alloc, names, *name, &value)?;
+            let part = of_formula(alloc, measure, bodies, inner.as_slice(), f)?;
+            let whole = over_let(alloc, measure, value, part)?;
+            Ok(whole)
         }
-        Formula::Call(body, list) => walk_call(measure, bodies, walk, *body, list.as_slice(), next),
+        Formula::Call(body, list) => {
+            let arguments = of_arguments(alloc, measure, bodies, names, list)?;
+            let inner = of_call(alloc, bodies, *body, arguments.as_slice())?;
+            let whole = over_parts(alloc, measure, inner)?;
+            Ok(whole)
+        }
     }
 }
 
-/// An expression at a depth. A row of operators of one level counts once, however long it is.
+/// What an expression measures under the names in scope.
 #[cycle(walk)]
-fn walk_expr(
+pub(crate) fn of_expr(
+    alloc: Global,
     measure: Measure,
-    bodies: &[Summary],
-    walk: &mut Walk,
+    bodies: &[Option<Summary>],
+    names: &[Named],
     expr: &Expr,
-    depth: u32,
-) -> Result<(), AllocError> {
-    let next = inside(measure, depth);
+) -> Result<Weight, AllocError>
+    ensures { IfOk result (λ w. Weighs bodies.now names.now w
+        (λ all d. measured_in measure all (term_of expr.now) d)) }
+{
     match expr {
+        Expr::Sig(_) => Ok(nothing(alloc)),
+        Expr::Field(_) => Ok(nothing(alloc)),
         Expr::Name(name) => {
-            walk.touch_name(*name, depth);
-            Ok(())
+            let whole = look_up(alloc, names, *name)?;
+            Ok(whole)
         }
-        Expr::Combine(_, a, b) => {
-            let first = first_inside(measure, is_expr_row(expr, a), depth, next);
-            walk_expr(measure, bodies, walk, a, first)?;
-            walk_expr(measure, bodies, walk, b, next)
+        Expr::Univ => Ok(nothing(alloc)),
+        Expr::Iden => Ok(nothing(alloc)),
+        Expr::Empty => Ok(nothing(alloc)),
+        Expr::Int => Ok(nothing(alloc)),
+        Expr::Combine(op, a, b) => {
+            let first = of_expr(alloc, measure, bodies, names, a)?;
+            let second = of_expr(alloc, measure, bodies, names, b)?;
+            let own = expr_level(a);
+            let whole = over_row(alloc, measure, relation_level(*op), own, first, second)?;
+            Ok(whole)
         }
         Expr::Product(a, _, _, b) => {
-            let first = first_inside(measure, is_expr_row(expr, a), depth, next);
-            walk_expr(measure, bodies, walk, a, first)?;
-            walk_expr(measure, bodies, walk, b, next)
+            let first = of_expr(alloc, measure, bodies, names, a)?;
+            let second = of_expr(alloc, measure, bodies, names, b)?;
+            let own = expr_level(a);
+            let whole = over_row(alloc, measure, 14, own, first, second)?;
+            Ok(whole)
         }
-        Expr::Arithmetic(_, a, b) => {
-            let first = first_inside(measure, is_expr_row(expr, a), depth, next);
-            walk_expr(measure, bodies, walk, a, first)?;
-            walk_expr(measure, bodies, walk, b, next)
+        Expr::Unary(_, a) => {
+            let part = of_expr(alloc, measure, bodies, names, a)?;
+            let whole = over_parts(alloc, measure, part)?;
+            Ok(whole)
         }
-        Expr::Unary(_, a) => walk_expr(measure, bodies, walk, a, next),
-        Expr::Prime(a) => walk_expr(measure, bodies, walk, a, next),
-        Expr::Count(a) => walk_expr(measure, bodies, walk, a, next),
+        Expr::Prime(a) => {
+            let part = of_expr(alloc, measure, bodies, names, a)?;
+            let whole = over_parts(alloc, measure, part)?;
+            Ok(whole)
+        }
         Expr::Choose(f, a, b) => {
-            walk_formula(measure, bodies, walk, f, next)?;
-            walk_expr(measure, bodies, walk, a, next)?;
-            walk_expr(measure, bodies, walk, b, next)
+            let first = of_formula(alloc, measure, bodies, names, f)?;
+            let second = of_expr(alloc, measure, bodies, names, a)?;
+            let third = of_expr(alloc, measure, bodies, names, b)?;
+            let whole = over_three(alloc, measure, first, second, third)?;
+            Ok(whole)
         }
         Expr::Comprehension(list, f) => {
-            walk_variables(measure, bodies, walk, list.as_slice(), next)?;
-            walk_formula(measure, bodies, walk, f, next)?;
-            walk.leave_all(list.len());
-            Ok(())
+            let inner = under(alloc, measure, bodies, names, list)?;
+            let part = of_formula(alloc, measure, bodies, inner.names.as_slice(), f)?;
+            let whole = over_bounds(alloc, measure, inner, part)?;
+            Ok(whole)
+        }
+        Expr::Number(_, _) => Ok(nothing(alloc)),
+        Expr::Count(a) => {
+            let part = of_expr(alloc, measure, bodies, names, a)?;
+            let whole = over_parts(alloc, measure, part)?;
+            Ok(whole)
+        }
+        Expr::Arithmetic(_, a, b) => {
+            let first = of_expr(alloc, measure, bodies, names, a)?;
+            let second = of_expr(alloc, measure, bodies, names, b)?;
+            let own = expr_level(a);
+            let whole = over_row(alloc, measure, 10, own, first, second)?;
+            Ok(whole)
         }
         Expr::Sum(list, a) => {
-            walk_variables(measure, bodies, walk, list.as_slice(), next)?;
-            walk_expr(measure, bodies, walk, a, next)?;
-            walk.leave_all(list.len());
-            Ok(())
+            let inner = under(alloc, measure, bodies, names, list)?;
+            let part = of_expr(alloc, measure, bodies, inner.names.as_slice(), a)?;
+            let whole = over_bounds(alloc, measure, inner, part)?;
+            Ok(whole)
         }
         Expr::Let(name, value, a) => {
-            walk.enter(*name)?;
-            walk_expr(measure, bodies, walk, a, next)?;
-            let used = walk.leave();
-            walk_value(measure, bodies, walk, value, used, next)
+            let value = of_expr(alloc, measure, bodies, names, value)?;
+            let inner = with_name(alloc, names, *name, &value)?;
+            let part = of_expr(alloc, measure, bodies, inner.as_slice(), a)?;
+            let whole = over_let(alloc, measure, value, part)?;
+            Ok(whole)
         }
-        Expr::Call(body, list) => walk_call(measure, bodies, walk, *body, list.as_slice(), next),
-        _ => {
-            walk.touch(depth);
-            Ok(())
+        Expr::Call(body, list) => {
+            let arguments = of_arguments(alloc, measure, bodies, names, list)?;
+            let inner = of_call(alloc, bodies, *body, arguments.as_slice())?;
+            let whole = over_parts(alloc, measure, inner)?;
+            Ok(whole)
         }
     }
 }
 
-/// A conjunction at a depth; the empty one has no parts.
+/// What a conjunction measures; the empty one has no parts.
 #[cycle(walk)]
-fn walk_every(
+fn of_each(
+    alloc: Global,
     measure: Measure,
-    bodies: &[Summary],
-    walk: &mut Walk,
+    bodies: &[Option<Summary>],
+    names: &[Named],
     list: &[Formula],
-    depth: u32,
-) -> Result<(), AllocError> {
-    walk.touch(depth);
-    let next = inside(measure, depth);
+) -> Result<Weight, AllocError>
+    ensures { IfOk result (λ w. Weighs bodies.now names.now w
+        (λ all d. measured_each measure all (claim_list (map claim_of list.now)) d)) }
+{
+    let mut whole = nothing(alloc);
     for formula in list {
-        walk_formula(measure, bodies, walk, formula, next)?;
+        let part = of_formula(alloc, measure, bodies, names, formula)?;
+        let over = over_parts(alloc, measure, part)?;
+        whole = both(whole, &over)?;
     }
-    Ok(())
+    Ok(whole)
 }
 
-/// The bounds of variables, each of which is then in scope.
+/// What the arguments of a call measure.
 #[cycle(walk)]
-fn walk_variables(
+fn of_arguments(
+    alloc: Global,
     measure: Measure,
-    bodies: &[Summary],
-    walk: &mut Walk,
+    bodies: &[Option<Summary>],
+    names: &[Named],
+    list: &[Expr],
+) -> Result<Vec<Weight>, AllocError>
+    ensures { IfOk result (λ v. AreWeighed bodies.now names.now v.items
+        (λ all d. measured_arguments measure all (term_list (map term_of list.now)) d)) }
+{
+    let mut weights = Vec::new(alloc);
+    for expr in list {
+        let weight = of_expr(alloc, measure, bodies, names, expr)?;
+        weights.push(weight)?;
+    }
+    Ok(weights)
+}
+
+/// What the bounds of variables measure, each of which sees the variables before it.
+#[cycle(walk)]
+fn under(
+    alloc: Global,
+    measure: Measure,
+    bodies: &[Option<Summary>],
+    names: &[Named],
     list: &[Variable],
-    depth: u32,
-) -> Result<(), AllocError> {
+) -> Result<Inner, AllocError>
+    ensures { IfOk result (λ u. IsUnder measure bodies.now names.now u.bounds u.names.items
+        (variable_list (map variable_of list.now))) }
+{
+    let mut inner = copied(alloc, names)?;
+    let mut bounds = nothing(alloc);
     for variable in list {
-        walk_expr(measure, bodies, walk, &variable.bound, depth)?;
-        walk.enter(variable.name)?;
+        let bound = of_expr(alloc, measure, bodies, inner.as_slice(), &variable.bound)?;
+        bounds = both(bounds, &bound)?;
+        enter(&mut inner, variable.name, nothing(alloc))?;
     }
-    Ok(())
+    Ok(Inner {
+        bounds,
+        names: inner,
+    })
 }
 
-/// The value of a `let` name, as deep as the name was used; as a part it counts even if it wasn't.
-#[cycle(walk)]
-fn walk_value(
-    measure: Measure,
-    bodies: &[Summary],
-    walk: &mut Walk,
-    value: &Expr,
-    used: Option<u32>,
-    depth: u32,
-) -> Result<(), AllocError> {
-    match used {
-        Some(deepest) => walk_expr(measure, bodies, walk, value, greater(depth, deepest)),
-        None => match measure {
-            Measure::Depth => walk_expr(measure, bodies, walk, value, depth),
-            Measure::Past => Ok(()),
+/// What is known of a body.
+fn known(bodies: &[Option<Summary>], body: u32) -> Option<&Summary>
+    ensures { IfSome result (λ s. slice_get bodies.now body ≡ Some (Some s.now)) }
+{
+    match bodies.get(body as usize) {
+        None => None,
+        Some(found) => match found {
+            None => None,
+            Some(summary) => Some(summary),
         },
     }
 }
 
-/// A call: the body's own parts, and each argument as deep as the body uses its parameter.
-#[cycle(walk)]
-fn walk_call(
-    measure: Measure,
-    bodies: &[Summary],
-    walk: &mut Walk,
+/// What a call measures, apart from being a part. A body that is called is known, since its rank is lower,
+/// and it has as many parameters as there are arguments.
+fn of_call(
+    alloc: Global,
+    bodies: &[Option<Summary>],
     body: u32,
-    list: &[Expr],
-    depth: u32,
-) -> Result<(), AllocError> {
-    if body as usize >= bodies.len() {
-        walk.touch(depth);
-        return Ok(());
-    }
-    let summary = &bodies[body as usize];
-    walk.touch(depth.saturating_add(summary.own));
-    for place in 0..list.len() {
-        if place < summary.parameters.len() {
-            if let Some(deepest) = summary.parameters[place] {
-                walk_expr(
-                    measure,
-                    bodies,
-                    walk,
-                    &list[place],
-                    depth.saturating_add(deepest),
-                )?;
+    arguments: &[Weight],
+) -> Result<Weight, AllocError>
+    ensures { IfOk result (λ w. (all : BodyDepths) → Agrees all bodies.now → (d e : Depths) →
+        Counts (arguments_at d arguments.now) e → ((p : ℕ) → length arguments.now ≤ p → e p ≡ 0) →
+        weight_at d w ≡ up_to (all body e)) }
+{
+    match known(bodies, body) {
+        None => Err(AllocError),
+        Some(summary) => {
+            if arguments.len() as u64 > summary.count {
+                return Err(AllocError);
             }
+            let weight = called(alloc, &summary.weight, arguments)?;
+            Ok(weight)
         }
     }
-    Ok(())
 }
 
-/// A walk that begins, with no name in scope.
-fn fresh(alloc: Global) -> Walk {
-    Walk {
-        deepest: 0,
-        names: Vec::new(alloc),
+/// The parameters 0, 1 and on of a body, so many.
+fn parameters(alloc: Global, count: usize) -> Result<Vec<Named>, AllocError>
+    ensures { IfOk result (λ v. (d : Depths) (x : ℕ) →
+        named d v.items x ≡ (if nat_lt x count then up_to (d x) else 0)) }
+{
+    let mut names = Vec::new(alloc);
+    for place in 0..count {
+        if place > u32::MAX as usize {
+            return Err(AllocError);
+        }
+        let weight = of_parameter(alloc, place as u32)?;
+        enter(&mut names, place as u32, weight)?;
     }
+    Ok(names)
 }
 
-/// What a formula without free names measures.
-pub fn formula_depth(
+/// What a body measures, apart from the bounds of its parameters and of its result.
+pub(crate) fn summary_of(
     alloc: Global,
     measure: Measure,
-    bodies: &[Summary],
-    formula: &Formula,
-) -> Result<u32, AllocError> {
-    let mut walk = fresh(alloc);
-    walk_formula(measure, bodies, &mut walk, formula, 0)?;
-    Ok(walk.deepest)
-}
-
-/// What an expression measures in which free names have depth 0.
-pub fn expr_depth(
-    alloc: Global,
-    measure: Measure,
-    bodies: &[Summary],
-    expr: &Expr,
-) -> Result<u32, AllocError> {
-    let mut walk = fresh(alloc);
-    walk_expr(measure, bodies, &mut walk, expr, 0)?;
-    Ok(walk.deepest)
-}
-
-/// A summary in which nothing is known.
-pub fn nothing(alloc: Global) -> Summary {
-    Summary {
-        own: 0,
-        parameters: Vec::new(alloc),
+    bodies: &[Option<Summary>],
+    count: usize,
+    form: &BodyForm,
+) -> Result<Summary, AllocError>
+    ensures { IfOk result (λ s. (all : BodyDepths) → Agrees all bodies.now → (d e : Depths) →
+        Counts d e → ((p : ℕ) → s.count ≤ p → e p ≡ 0) →
+        weight_at d s.weight ≡ up_to (measured_form measure all form.now e)) }
+{
+    let names = parameters(alloc, count)?;
+    let names = names.as_slice();
+    match form {
+        BodyForm::Test(formula) => {
+            let weight = of_formula(alloc, measure, bodies, names, formula)?;
+            Ok(Summary {
+                count: count as u64,
+                weight,
+            })
+        }
+        BodyForm::Term(expr, _) => {
+            let weight = of_expr(alloc, measure, bodies, names, expr)?;
+            Ok(Summary {
+                count: count as u64,
+                weight,
+            })
+        }
     }
-}
-
-/// What a body measures.
-pub fn summary_of(
-    alloc: Global,
-    measure: Measure,
-    bodies: &[Summary],
-    body: &Body,
-) -> Result<Summary, AllocError> {
-    let mut walk = fresh(alloc);
-    let mut name: u32 = 0;
-    for _parameter in body.parameters.as_slice() {
-        walk.enter(name)?;
-        name = name.saturating_add(1);
-    }
-    match &body.form {
-        BodyForm::Test(formula) => walk_formula(measure, bodies, &mut walk, formula, 0)?,
-        BodyForm::Term(expr, _) => walk_expr(measure, bodies, &mut walk, expr, 0)?,
-    }
-    let mut parameters = Vec::new(alloc);
-    for name in walk.names.as_slice() {
-        parameters.push(name.deepest)?;
-    }
-    Ok(Summary {
-        own: walk.deepest,
-        parameters,
-    })
 }

@@ -1,0 +1,9 @@
+pub mod Added
+pub mod Counts
+pub mod Uses
+pub mod Names
+pub mod FormCounts
+pub mod TreeForms
+pub mod BoxForms
+pub mod Weighing
+pub mod Lists
