@@ -1,11 +1,12 @@
 -- The entries of a scope, from the first on and from the last back.
-use Rattle.std.proofs.Common.{◌≡◌, ℕ, ◌+◌, ◌-◌, ◌<◌, ◌≤◌, Bool, if◌then◌else◌, List, length, get_or, drop, Some, slice_get, refl, sym, ap, ◌∙◌, arith}
+use Rattle.std.proofs.Common.{◌≡◌, ℕ, ◌+◌, ◌-◌, ◌<◌, ◌≤◌, Bool, if◌then◌else◌, List, length, get_or, drop, Some, None, slice_get, refl, sym, ap, ◌∙◌, arith}
 use Rattle.std.proofs.lemmas.List.{drop_all}
 use Rattle.core_tree.specs.declared.model.ScopeEntry.{ScopeEntry}
 use Rattle.core_tree.specs.declared.model.ScopeSubject.{ScopeSubject}
 use Rattle.core_tree.specs.declared.model.ScopeSubject.TheVariants as subject
 use Rattle.bound_definitions.specs.declared.known.Known.{Known}
 use Rattle.bound_definitions.specs.Numbers.{unknown, known_as, lists, listed_for, first_number}
+use Rattle.bound_definitions.specs.Rules.{first_entry}
 use Rattle.bound_numbers.specs.Tables.{table_of}
 use Rattle.bound_numbers.specs.Listed.{AreListed, noted_by}
 use Rattle.bound_numbers.proofs.Places.{dropped, set_at, set_length}
@@ -17,6 +18,14 @@ first_next is_kind n entries e i b item h =
 
 pub first_end : (is_kind : ScopeSubject → Bool) (n : ℕ) (entries : List ScopeEntry) (i : ℕ) → length entries ≤ i → first_number is_kind n (drop i entries) ≡ n
 first_end is_kind n entries i far = ap (first_number is_kind n) (drop_all i entries far)
+
+-- the same of the first entry itself
+pub entry_next : (is_kind : ScopeSubject → Bool) (entries : List ScopeEntry) (e : ScopeEntry) (i : ℕ) (b : Bool) → slice_get entries i ≡ Some e → is_kind e.subject ≡ b → first_entry is_kind (drop i entries) ≡ (if b then Some e else first_entry is_kind (drop (i + 1) entries))
+entry_next is_kind entries e i b item h =
+    ap (first_entry is_kind) (dropped entries e i (i + 1) i item refl refl) ∙ ap (λ (t : Bool). if t then Some e else first_entry is_kind (drop (i + 1) entries)) h
+
+pub entry_end : (is_kind : ScopeSubject → Bool) (entries : List ScopeEntry) (i : ℕ) → length entries ≤ i → first_entry is_kind (drop i entries) ≡ None
+entry_end is_kind entries i far = ap (first_entry is_kind) (drop_all i entries far)
 
 -- what is listed for each sig by the last entries, so many
 pub record AreListedLast (entries : List ScopeEntry) (turn : ℕ) (listed : List Known) : Type 0 where

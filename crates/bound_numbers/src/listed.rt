@@ -2,7 +2,8 @@
 
 ghost use Rattle.std.specs.Prelude.{◌≡◌, ℕ, length, IfOk};
 ghost use Rattle.bound_definitions.specs.Numbers.{is_overall, is_int, is_steps, overall_in, first_number, known_as};
-ghost use Rattle.bound_numbers.specs.Listed.{asks, number_or, noted_at, noted_by, AreListed};
+ghost use Rattle.bound_definitions.specs.Rules.{first_entry};
+ghost use Rattle.bound_numbers.specs.Listed.{asks, number_or, numbered_of, noted_at, noted_by, AreListed};
 
 use crate::lists::{KnownList, nothing_known};
 use base_types::Position;
@@ -71,7 +72,8 @@ fn is_for(asked: Asked, subject: ScopeSubject) -> bool
 
 /// The first number that is listed for what is asked.
 pub fn first_entry(asked: Asked, entries: &ScopeEntryList) -> Option<Numbered>
-    ensures { (n : ℕ) → number_or result n ≡ first_number (asks asked) n entries.now }
+    ensures number { (n : ℕ) → number_or result n ≡ first_number (asks asked) n entries.now }
+    ensures entry { result ≡ numbered_of (first_entry (asks asked) entries.now) }
 {
     for place in 0..entries.len() {
         let entry = entries.get(place);

@@ -22,3 +22,9 @@ whole (x ∷ l) (suc k) low = ap (λ r. x ∷ r) (whole l k (omega (arith, low))
 
 pub all_whole : {X : Type 0} (P : X → Type 0) (l : List X) (i : ℕ) → length l ≤ i → All P (take i l) → All P l
 all_whole {X = X} P l i le all = subst (λ (k : List X). All P k) (whole l i le) all
+
+-- nothing stands past the end
+pub past_none : {X : Type 0} (P : X → Type 0) (l : List X) (k : ℕ) → length l ≤ k → IfSome (slice_get l k) P
+past_none P [] k far = tt
+past_none P (x ∷ l) zero far = absurd (omega (arith, far))
+past_none P (x ∷ l) (suc k) far = past_none P l k (omega (arith, far))

@@ -1,12 +1,14 @@
 -- What scopes keep, and which refusals there are.
-use Rattle.std.specs.Prelude.{◌≡◌, ℕ, ◌≤◌, ◌^◌, length, Bool, ◌||◌, ◌==◌, IsTrue}
+use Rattle.std.specs.Prelude.{◌≡◌, ℕ, ◌≤◌, length, Bool, ◌||◌, ◌==◌, IsTrue, Option, Some, None, Result, Ok, Err}
 use Rattle.base_types.specs.declared.place.Rule.{Rule}
 use Rattle.base_types.specs.declared.place.Rule.TheVariants.{NoCommand}
 use Rattle.base_types.specs.declared.place.Refusal.{Refusal}
 use Rattle.base_types.specs.Place.{number_of}
 use Rattle.core_tree.specs.declared.model.Model.{Model}
+use Rattle.core_tree.specs.declared.model.Origin.{Origin}
 use Rattle.core_meaning.specs.declared.scopes.Scopes.{Scopes}
 use Rattle.core_meaning.specs.Kept.{universe_size}
+use Rattle.bound_definitions.specs.Places.{IsFirst}
 use Rattle.bound_scopes.specs.Numbers.{AreSigScopes}
 use Rattle.base_types.specs.declared.fault.Fault.{Fault}
 use Rattle.base_types.specs.declared.fault.Fault.TheVariants.{Refused, Memory}
@@ -18,6 +20,20 @@ pub record AreScopes (model : Model) (s : Scopes) : Type 0 where
   pub bits : (1 ≤ s.bits) × (s.bits ≤ 12)
   pub states : (1 ≤ s.states) × (s.states ≤ 32)
   pub atoms : universe_size s ≤ 16384
+
+-- what a search for the places of a rule answers
+abbrev pub asked : Rule → Option Origin → Result (Unit {0}) Fault
+asked rule None = Ok tt
+asked rule (Some at) = Err (Refused (record { rule = rule; place = at.place }))
+
+-- the refusal by a rule at the first place at which it is broken
+abbrev pub IsAt : Rule → (Origin → Type 0) → Refusal → Type 0
+IsAt rule Broken refusal = (at : Origin) × IsFirst Broken at × (refusal ≡ record { rule = rule; place = at.place })
+
+-- such a refusal, or want of memory
+abbrev pub IsFaultOf : (Refusal → Type 0) → Fault → Type 0
+IsFaultOf Is Memory = Unit {0}
+IsFaultOf Is (Refused refusal) = Is refusal
 
 -- the numbers of the rules that the scopes of a command may break
 abbrev pub is_scope_number : ℕ → Bool

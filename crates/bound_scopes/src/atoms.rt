@@ -1,9 +1,9 @@
 //! How many atoms the top-level sigs have together.
 
-ghost use Rattle.std.specs.Prelude.{◌≡◌, ◌≤◌, IsTrue};
+ghost use Rattle.std.specs.Prelude.{◌≡◌, nat_lt, not};
 ghost use Rattle.core_meaning.specs.Kept.{atoms_of_sig, atom_count};
 
-use core_meaning::SigScope;
+use core_meaning::{SigScope, SigScopeList};
 
 /// How many atoms a sig brings: its number where it is top-level.
 fn atoms_of(scope: &SigScope) -> u64
@@ -20,11 +20,12 @@ fn atoms_of(scope: &SigScope) -> u64
 }
 
 /// Whether the top-level sigs have at most so many atoms together.
-pub(crate) fn fits(numbers: &[SigScope], limit: u64) -> bool
-    ensures { IsTrue result → atom_count numbers.now ≤ limit }
+pub(crate) fn fits(numbers: &SigScopeList, limit: u64) -> bool
+    ensures { result ≡ not (nat_lt limit (atom_count numbers.now)) }
 {
     let mut room = limit;
-    for scope in numbers {
+    for place in 0..numbers.len() {
+        let scope = numbers.get(place);
         let number = atoms_of(scope);
         if number > room {
             return false;

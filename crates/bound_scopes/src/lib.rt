@@ -2,11 +2,16 @@
 //! The scopes are how many atoms each sig has, the bitwidth, and the number of states.
 #![tactic(auto)]
 
+mod asking;
 mod atoms;
+mod counted;
+mod deep;
 mod entries;
-mod gather;
 mod keeps;
 mod limits;
+mod trees;
+mod value;
+mod wide;
 
-pub use gather::check_value;
 pub use limits::scopes;
+pub use value::check_value;
