@@ -1,30 +1,42 @@
 -- The refusals of a loaded model: the text that they name, and their rules.
-use Rattle.std.proofs.Common.{◌≡◌, ◌∙◌, ◌<◌, ◌≤◌, ℕ, Bool, true, false, ltb, List, Result, Err, Some, option_map, refl, sym, ap, subst}
-use Rattle.std.specs.Prelude.{IfErr, slice_get}
-use Rattle.std.proofs.lemmas.Bool.{ltb-true, ltb-false}
+use Rattle.std.proofs.Common.{◌≡◌, ◌∙◌, ◌≤◌, ℕ, zero, suc, List, [], ◌∷◌, length, Result, Err, Option, Some, None, option_map, sym, ap, subst, refl, arith}
+use Rattle.std.specs.Prelude.{IfErr, IfSome, slice_get}
 use Rattle.base_types.specs.declared.place.Refusal.{Refusal}
 use Rattle.syntax_tree.specs.declared.instance.Text.{Text}
 use Rattle.syntax_tree.specs.declared.loaded.Loaded.{Loaded}
+use Rattle.core_tree.specs.declared.model.Command.{Command}
+use Rattle.core_tree.specs.declared.model.Model.{Model}
 use Rattle.core_meaning.specs.declared.scopes.Scopes.{Scopes}
-use Rattle.bound_scopes.specs.Limits.{IsScopeFault, no_command}
+use Rattle.bound_definitions.specs.Refusals.{IsRefusal}
+use Rattle.bound_scopes.specs.Limits.{IsFaultOf, no_command}
 use Rattle.base_types.specs.declared.fault.Fault.{Fault}
 use Rattle.base_types.specs.declared.fault.Fault.TheVariants.{Refused}
-use Rattle.answer_analysis.specs.Found.{IsLoadedFault, IsOfCommand, IsOfModel, no_such, on_scopes}
+use Rattle.answer_analysis.specs.Found.{IsLoadedFault, IsModelIn, IsOfCommand, IsOfModel, no_such, on_scopes}
 use Rattle.answer_analysis.specs.declared.fault.AnalyseFault.TheVariants as analyse
 
 -- a refusal with the name of the text of its place
-pub named_fault : (loaded : Loaded) (refusal : Refusal) (text : Text) (name : List ℕ) → slice_get loaded.texts refusal.place.module ≡ Some text → name ≡ text.name → IsOfModel loaded refusal →
-    IsLoadedFault loaded (analyse.Refused refusal name)
-named_fault loaded refusal text name get at why = (ap (option_map (λ (t : Text). t.name)) get ∙ ap (λ n. Some n) (sym at), why)
+pub named_fault : (loaded : Loaded) (number : ℕ) (refusal : Refusal) (text : Text) (name : List ℕ) → slice_get loaded.texts refusal.place.module ≡ Some text → name ≡ text.name → IsOfModel loaded number refusal →
+    IsLoadedFault loaded number (analyse.Refused refusal name)
+named_fault loaded number refusal text name get at why = (ap (option_map (λ (t : Text). t.name)) get ∙ ap (λ n. Some n) (sym at), why)
 
--- a refusal of scopes is by a rule on a command and its scopes
-pub of_scopes : (count command : ℕ) (r : Result Scopes Fault) (refusal : Refusal) → r ≡ Err (Refused refusal) → (count ≤ command → r ≡ Err (Refused no_command)) →
-    (command < count → IfErr r (λ e. IsScopeFault e)) → IsOfCommand refusal
-of_scopes count command r refusal is none fault = go (ltb command count) refl
-  where
-    go : (b : Bool) → ltb command count ≡ b → IsOfCommand refusal
-    go true lt = on_scopes (subst (λ x. IfErr x (λ e. IsScopeFault e)) is (fault (ltb-true command count lt)))
-    go false ge =
-        let other : r ≡ Err (Refused no_command) = none (ltb-false command count ge) in
-        let same : refusal ≡ no_command = cc in
-        no_such same
+some_none : {X : Type 0} (x : X) → Some x ≡ None → ⊥
+some_none x none = cc
+
+-- where nothing stands at a place, the list is no longer
+past_end : {X : Type 0} (xs : List X) (k : ℕ) → slice_get xs k ≡ None → length xs ≤ k
+past_end [] k none = omega arith
+past_end (x ∷ xs) zero none = absurd (some_none x none)
+past_end (x ∷ xs) (suc k) none = let le : length xs ≤ k = past_end xs k none in omega (arith, le)
+
+-- a refusal of scopes is that of the command of this number, or says that there is none
+module _ (loaded : Loaded) (model : Model) (number : ℕ) (r : Result Scopes Fault) (refusal : Refusal) (made : IsModelIn loaded model) (is : r ≡ Err (Refused refusal)) (none : length model.commands ≤ number → r ≡ Err (Refused no_command)) where
+  by_command : (o : Option Command) → slice_get model.commands number ≡ o → IfSome o (λ c. IfErr r (IsFaultOf (IsRefusal model c))) → IsOfCommand loaded number refusal
+  by_command (Some command) at fault = on_scopes model made command at (subst (λ x. IfErr x (IsFaultOf (IsRefusal model command))) is fault)
+  by_command None at fault =
+      let far : length model.commands ≤ number = past_end model.commands number at in
+      let other : r ≡ Err (Refused no_command) = none far in
+      let same : refusal ≡ no_command = cc (is, other) in
+      no_such model made far same
+
+  pub of_scopes : IfSome (slice_get model.commands number) (λ c. IfErr r (IsFaultOf (IsRefusal model c))) → IsOfCommand loaded number refusal
+  of_scopes fault = by_command (slice_get model.commands number) refl fault

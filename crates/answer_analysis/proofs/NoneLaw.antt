@@ -21,8 +21,7 @@ use Rattle.core_meaning.specs.Satisfied.{HoldsAt}
 use Rattle.core_meaning.specs.Sequence.{LassoValue}
 use Rattle.form_target.specs.Targets.{HoldsWith}
 use Rattle.bound_uppers.specs.declared.table.Bounds.{Bounds}
-use Rattle.bound_uppers.specs.Table.{IsTable}
-use Rattle.bound_uppers.specs.Uppers.{AreUppers}
+use Rattle.bound_uppers.specs.Table.{IsTable, bounds_over}
 use Rattle.answer_search.specs.Clauses.{Meets, IsRuledOut}
 use Rattle.answer_checks.proofs.Kept.{named_by}
 use Rattle.answer_analysis.specs.declared.ready.Prepared.{Prepared}
@@ -99,6 +98,9 @@ none_satisfies number prepared made ruled law = record {
 }
 
 pub ruled_out : SatisfyingAreCandidates → RuledOutMeansNone
-ruled_out law number prepared states made out =
-    let uppers = subst (λ (scopes : Scopes). AreUppers prepared.ready.model scopes out.bounds.relations) made.scoped out.uppers in
-    subst (NoneWithin prepared) out.count (none_within number prepared made out.bounds (record { most = made.ready.bounds_are.most; origins = made.ready.bounds_are.origins; uppers = uppers; fixed = out.fixed }) out.table out.ruled law)
+ruled_out law number prepared states made some out =
+    let are = made.ready.bounds_are in
+    let bounds : Bounds = bounds_over prepared.ready.bounds.relations states in
+    let same : AreBoundsOf prepared.ready.model prepared.ready.scopes bounds = record { most = are.most; origins = are.origins; uppers = are.uppers; fixed = are.fixed } in
+    let table : IsTable bounds = record { some = some; placed = made.ready.table.placed; apart = made.ready.table.apart } in
+    none_within number prepared made bounds same table out law

@@ -5,24 +5,26 @@ use Rattle.base_types.specs.declared.place.Rule.TheVariants.{Cells}
 use Rattle.syntax_tree.specs.declared.loaded.Loaded.{Loaded}
 use Rattle.bound_uppers.specs.Candidates.{IsCandidate}
 use Rattle.bound_uppers.specs.Shortest.{HasFewestStates}
-use Rattle.bound_uppers.specs.Table.{IsTable}
+use Rattle.bound_uppers.specs.Table.{IsTable, bounds_over}
 use Rattle.bound_laws.specs.Satisfying.{AreBoundsOf, AreOwned, IsLassoOver}
 use Rattle.core_meaning.specs.Kept.{universe_size}
 use Rattle.core_meaning.specs.Satisfied.{Satisfies}
+use Rattle.core_meaning.specs.declared.scopes.Scopes.{Scopes}
 use Rattle.core_meaning.specs.Sequence.{LassoValue}
 use Rattle.core_tree.specs.Trees.{claim_of}
 use Rattle.core_tree.specs.declared.model.Command.{Command}
 use Rattle.core_tree.specs.Models.{IsModel}
 use Rattle.core_tree.specs.declared.model.Model.{Model}
-use Rattle.bound_scopes.specs.Limits.{AreScopes, IsScopeRule, no_command}
+use Rattle.bound_scopes.specs.Limits.{AreScopes, no_command}
 use Rattle.bound_scopes.specs.Numbers.{IsListed}
 use Rattle.core_laws.specs.Typed.{ExtendsPlain}
 use Rattle.bound_definitions.specs.Numbers.{AreScopesBy}
+use Rattle.bound_definitions.specs.Refusals.{AreKept, Breaks, IsRefusal, command_rules}
 use Rattle.form_target.specs.Targets.{IsTargetOf}
 use Rattle.resolve_model.specs.Refused.{IsOfReadings}
-use Rattle.answer_search.specs.Clauses.{IsCovered, SayTarget}
+use Rattle.resolve_places.specs.Places.{IsPlaced}
+use Rattle.answer_search.specs.Clauses.{IsCovered, IsRuledOut, SayTarget}
 use Rattle.answer_search.specs.Found.{AreNewWithin}
-use Rattle.answer_search.specs.Limits.{IsRuledOutOver}
 use Rattle.answer_texts.specs.Table.{IsTableOf}
 use Rattle.answer_trace.specs.Made.{AreRelationsOf, relation_labels_of, universe_texts}
 use Rattle.answer_laws.specs.Form.{HaveLassos, IsLassoOf}
@@ -36,9 +38,9 @@ use Rattle.answer_analysis.specs.declared.fault.AnalyseFault.{AnalyseFault}
 use Rattle.answer_analysis.specs.declared.fault.AnalyseFault.TheVariants.{Refused, Read, Memory}
 
 -- a model made ready for its command of this number: the model keeps what resolved models keep, and no sig of it extends an
--- `in` sig; the scopes are the ones that the rules give the command, the bounds are those of the model and the scopes and
--- have a table; the labels are exactly those of its relations and of its universe, an atom for each number of it, and each text
--- under them is that of one lasso
+-- `in` sig; the scopes are the ones that the rules give the command, which breaks none of the rules on scopes; the bounds are
+-- those of the model and the scopes and have a table; the labels are exactly those of its relations and of its universe, an atom
+-- for each number of it, and each text under them is that of one lasso
 pub record IsReady (number : ℕ) (ready : Ready) : Type 0 where
   pub kept : IsModel ready.model
   pub plain : ExtendsPlain ready.model.sigs
@@ -48,6 +50,7 @@ pub record IsReady (number : ℕ) (ready : Ready) : Type 0 where
   pub counted : length ready.scopes.numbers ≡ length ready.model.sigs
   pub scopes_are : AreScopes ready.model ready.scopes
   pub scoped_by : AreScopesBy ready.model command ready.scopes
+  pub unbroken : AreKept (Breaks ready.model command ready.scopes) command_rules
   pub listed : All (IsListed ready.scopes.numbers) command.scope
   pub table : IsTable ready.bounds
   pub bounds_are : AreBoundsOf ready.model ready.scopes ready.bounds
@@ -81,9 +84,9 @@ NoneWithin prepared most =
     All IsCovered prepared.target.formulas → IsUsual prepared.ready.model →
     (lasso : LassoValue) → IsLassoOver prepared.ready.model prepared.ready.scopes lasso → length lasso.states ≤ most → IsTraceOf prepared.ready lasso → ⊥
 
--- what is ruled out over some number of states
+-- what is ruled out within the bounds of the model over some number of states
 abbrev pub RuledOutMeansNone : Type 0
-RuledOutMeansNone = (number : ℕ) (prepared : Prepared) (states : ℕ) → IsPrepared number prepared → IsRuledOutOver prepared.ready.model prepared.target states → NoneWithin prepared states
+RuledOutMeansNone = (number : ℕ) (prepared : Prepared) (states : ℕ) → IsPrepared number prepared → 0 < states → IsRuledOut prepared.target (bounds_over prepared.ready.bounds.relations states) → NoneWithin prepared states
 
 -- where all formulas that are searched have plain forms
 pub record NoneSatisfies (prepared : Prepared) : Type 0 where
@@ -115,19 +118,29 @@ IsFound loaded number budget answer = (prepared : Prepared) × (prepared.ready.l
 abbrev pub IsOfText : Loaded → Refusal → List ℕ → Type 0
 IsOfText loaded refusal name = option_map (λ t. t.name) (slice_get loaded.texts refusal.place.module) ≡ Some name
 
--- By a rule on a command and its scopes: there is none of the number that was asked for, which is said at the beginning of the
--- root; or one on its scopes, or on formulas under them, is broken; or its table is too large.
-pub data IsOfCommand (refusal : Refusal) : Type 0 where
-  no_such : refusal ≡ no_command → IsOfCommand refusal
-  on_scopes : IsScopeRule refusal.rule → IsOfCommand refusal
-  too_large : refusal.rule ≡ Cells → IsOfCommand refusal
+-- a model of what is loaded: it keeps what resolved models keep, its sigs and facts are just those that the loaded texts declare,
+-- and its commands those of the root, by their places
+pub record IsModelIn (loaded : Loaded) (model : Model) : Type 0 where
+  pub kept : IsModel model
+  pub placed : IsPlaced loaded model
+
+-- By a rule on a command and its scopes, of a model of what is loaded: there is no command of the number that was asked for, which
+-- is said at the beginning of the root; or the command of this number breaks a rule on its scopes, or on formulas under them, and
+-- this is its refusal by the first of them, at the first place; or it breaks none of these, and its table is too large, which is
+-- said at its keyword.
+pub data IsOfCommand (loaded : Loaded) (number : ℕ) (refusal : Refusal) : Type 0 where
+  no_such : (model : Model) → IsModelIn loaded model → length model.commands ≤ number → refusal ≡ no_command → IsOfCommand loaded number refusal
+  on_scopes : (model : Model) → IsModelIn loaded model → (command : Command) → slice_get model.commands number ≡ Some command → IsRefusal model command refusal → IsOfCommand loaded number refusal
+  too_large : (model : Model) → IsModelIn loaded model → (command : Command) → slice_get model.commands number ≡ Some command → (scopes : Scopes) → AreScopesBy model command scopes → AreKept (Breaks model command scopes) command_rules →
+      refusal ≡ record { rule = Cells; place = command.keyword } → IsOfCommand loaded number refusal
 
 -- by a rule on names, sigs, fields and readings, at a place of a text that is loaded; or by one on a command and its scopes
-abbrev pub IsOfModel : Loaded → Refusal → Type 0
-IsOfModel loaded refusal = IsOfReadings (length loaded.texts) refusal ⊎ IsOfCommand refusal
+abbrev pub IsOfModel : Loaded → ℕ → Refusal → Type 0
+IsOfModel loaded number refusal = IsOfReadings (length loaded.texts) refusal ⊎ IsOfCommand loaded number refusal
 
--- a fault once the model is loaded: no library is asked then, and a refusal names the text of its place
-abbrev pub IsLoadedFault : Loaded → AnalyseFault → Type 0
-IsLoadedFault loaded (Refused refusal name) = IsOfText loaded refusal name × IsOfModel loaded refusal
-IsLoadedFault loaded (Read name) = ⊥
-IsLoadedFault loaded Memory = ⊤
+-- a fault once the model is loaded and its command of this number is asked for: no library is asked then, and a refusal names the
+-- text of its place
+abbrev pub IsLoadedFault : Loaded → ℕ → AnalyseFault → Type 0
+IsLoadedFault loaded number (Refused refusal name) = IsOfText loaded refusal name × IsOfModel loaded number refusal
+IsLoadedFault loaded number (Read name) = ⊥
+IsLoadedFault loaded number Memory = ⊤

@@ -39,12 +39,15 @@ impl<T: Drop> From<AllocFailed<T>> for AnalyseFault {
     }
 }
 
-/// The refusal, with the name of the loaded text that has its place. No refusal of a model has its place in another text.
+/// The refusal of a command of this number, with the name of the loaded text that has its place. No refusal of a model has its
+/// place in another text.
 #[tactic(auto, using(crate::proofs::FaultLaw::named_fault))]
-pub fn refused_in(alloc: Global, loaded: &Loaded, refusal: Refusal) -> AnalyseFault
-    requires { IsOfModel loaded.now refusal }
-    ensures { IsLoadedFault loaded.now result }
+pub fn refused_in(alloc: Global, loaded: &Loaded, command: u32, refusal: Refusal) -> AnalyseFault
+    requires { IsOfModel loaded.now command refusal }
+    ensures { IsLoadedFault loaded.now command result }
 {
+    // Only the clauses name it.
+    let _ = command;
     let texts = &loaded.texts;
     let number = refusal.place.module as usize;
     if number >= texts.len() {

@@ -1,17 +1,19 @@
 //! A model made ready for a command: its scopes, bounds and labels, and for a search the target.
 
-ghost use Rattle.std.specs.Prelude.{◌≡◌, ◌<◌, ◌≤◌, ℕ, map, All, IfOk, IfErr, IfSome, length, slice_get};
+ghost use Rattle.std.specs.Prelude.{◌≡◌, ◌<◌, ◌≤◌, ℕ, map, All, Some, IfOk, IfErr, IfSome, length, slice_get};
 ghost use Rattle.bound_uppers.specs.declared.table.Bound.{Bound};
 ghost use Rattle.bound_uppers.specs.Table.{IsTable, are_fixed};
 ghost use Rattle.bound_owners.specs.Own.{HasOrigins};
 ghost use Rattle.bound_uppers.specs.Uppers.{AreUppers};
 ghost use Rattle.core_meaning.specs.Kept.{universe_size};
-ghost use Rattle.answer_analysis.specs.Found.{IsLoadedFault, IsPrepared, IsReady};
+ghost use Rattle.answer_analysis.specs.Found.{IsLoadedFault, IsModelIn, IsPrepared, IsReady};
 ghost use Rattle.core_laws.specs.Typed.{ExtendsPlain};
 ghost use Rattle.core_tree.specs.Models.{IsModel};
 ghost use Rattle.resolve_check.specs.Kept.{IsModelButTypes};
+ghost use Rattle.resolve_places.specs.Places.{IsPlaced};
 ghost use Rattle.bound_scopes.specs.Limits.{AreScopes};
 ghost use Rattle.bound_definitions.specs.Numbers.{AreScopesBy};
+ghost use Rattle.bound_definitions.specs.Refusals.{AreKept, Breaks, command_rules};
 ghost use Rattle.bound_scopes.specs.Numbers.{IsListed};
 ghost use Rattle.answer_trace.specs.Made.{AreRelationsOf, relation_labels_of, universe_texts};
 ghost use Rattle.answer_laws.specs.Form.{HaveLassos};
@@ -19,14 +21,15 @@ ghost use Rattle.answer_laws.specs.Form.{HaveLassos};
 use crate::fault::{AnalyseFault, refused_in};
 use answer_checks::{extends_plain, has_universe, have_lassos, is_typed_model};
 use answer_trace::{Labels, make_labels};
-use base_types::{Fault, Position, Refusal, Rule};
+use base_types::{Fault, Refusal, Rule};
 use bound_scopes::scopes;
 use bound_uppers::{Bounds, bounds};
 use core_meaning::{Scopes, Target};
-use core_tree::Model;
+use core_tree::{Command, Model};
 use form_skolem::open_params;
 use form_target::target_of;
 use resolve_model::resolve;
+use resolve_places::is_placed;
 use std::alloc::{AllocError, Global};
 use syntax_tree::Loaded;
 
@@ -52,26 +55,30 @@ pub struct Prepared {
 }
 
 /// The model of what is loaded.
-fn model_of(alloc: Global, loaded: &Loaded) -> Result<Model, AnalyseFault>
+fn model_of(alloc: Global, loaded: &Loaded, command: u32) -> Result<Model, AnalyseFault>
     ensures kept { IfOk result IsModelButTypes }
-    ensures fault { IfErr result (IsLoadedFault loaded.now) }
+    ensures fault { IfErr result (IsLoadedFault loaded.now command) }
 {
     match resolve(alloc, loaded) {
         Ok(model) => Ok(model),
-        Err(Fault::Refused(refusal)) => Err(refused_in(alloc, loaded, refusal)),
+        Err(Fault::Refused(refusal)) => Err(refused_in(alloc, loaded, command, refusal)),
         Err(Fault::Memory) => Err(AnalyseFault::Memory),
     }
 }
 
-/// The model, where the types of its fields are those of their declarations too, and no sig of it extends an `in` sig. No
-/// resolved model is known that is not so.
-fn kept(alloc: Global, model: Model) -> Result<Model, AllocError>
+/// The model, where the types of its fields are those of their declarations too, no sig of it extends an `in` sig, and its sigs,
+/// facts and commands are those of the texts. It is tested on the model itself: no resolved model is known that is not so.
+fn kept(alloc: Global, loaded: &Loaded, model: Model) -> Result<Model, AllocError>
     requires { IsModelButTypes model }
-    ensures kept { IfOk result IsModel }
+    ensures model { IfOk result (IsModelIn loaded.now) }
     ensures plain { IfOk result (λ m. ExtendsPlain m.sigs) }
 {
     let is_kept = is_typed_model(alloc, &model)?;
     if !is_kept {
+        return Err(AllocError);
+    }
+    let is_of_texts = is_placed(alloc, loaded, &model)?;
+    if !is_of_texts {
         return Err(AllocError);
     }
     if extends_plain(&model.sigs) {
@@ -88,28 +95,36 @@ fn scopes_of(
     model: &Model,
     command: u32,
 ) -> Result<Scopes, AnalyseFault>
+    requires { IsModelIn loaded.now model.now }
     ensures scopes { IfOk result (λ s. AreScopes model.now s) }
     ensures by { IfOk result (λ s. IfSome (slice_get model.now.commands command)
         (λ c. AreScopesBy model.now c s)) }
     ensures listed { IfSome (slice_get model.now.commands command)
         (λ c. IfOk result (λ s. All (IsListed s.numbers) c.scope)) }
-    ensures fault { IfErr result (IsLoadedFault loaded.now) }
+    ensures unbroken { IfSome (slice_get model.now.commands command)
+        (λ c. IfOk result (λ s. AreKept (Breaks model.now c s) command_rules)) }
+    ensures fault { IfErr result (IsLoadedFault loaded.now command) }
 {
     match scopes(alloc, model, command) {
         Ok(scopes) => Ok(scopes),
-        Err(Fault::Refused(refusal)) => Err(refused_in(alloc, loaded, refusal)),
+        Err(Fault::Refused(refusal)) => Err(refused_in(alloc, loaded, command, refusal)),
         Err(Fault::Memory) => Err(AnalyseFault::Memory),
     }
 }
 
-/// The upper bounds of the model's relations.
+/// The upper bounds of the model's relations, for its command of this number.
 fn bounds_of(
     alloc: Global,
     loaded: &Loaded,
     model: &Model,
     scopes: &Scopes,
-    keyword: Position,
+    command: u32,
+    chosen: &Command,
 ) -> Result<Bounds, AnalyseFault>
+    requires model { IsModelIn loaded.now model.now }
+    requires chosen { slice_get model.now.commands command ≡ Some chosen.now }
+    requires by { AreScopesBy model.now chosen.now scopes.now }
+    requires unbroken { AreKept (Breaks model.now chosen.now scopes.now) command_rules }
     ensures table { IfOk result IsTable }
     ensures most { IfOk result (λ b. universe_size scopes.now ≤ 16384) }
     ensures origins { IfOk result (λ b. HasOrigins model.now.sigs) }
@@ -117,17 +132,17 @@ fn bounds_of(
     ensures fixed { IfOk result (λ b. map (λ (c : Bound). c.fixed) b.relations
         ≡ are_fixed model.now) }
     ensures states { IfOk result (λ b. 0 < scopes.now.states → b.states ≡ scopes.now.states) }
-    ensures fault { IfErr result (IsLoadedFault loaded.now) }
+    ensures fault { IfErr result (IsLoadedFault loaded.now command) }
 {
-    match bounds(alloc, model, scopes, keyword) {
+    match bounds(alloc, model, scopes, chosen.keyword) {
         Ok(bounds) => Ok(bounds),
         // The one rule on bounds, which is broken at the command.
         Err(Fault::Refused(_)) => {
             let refusal = Refusal {
                 rule: Rule::Cells,
-                place: keyword,
+                place: chosen.keyword,
             };
-            Err(refused_in(alloc, loaded, refusal))
+            Err(refused_in(alloc, loaded, command, refusal))
         }
         Err(Fault::Memory) => Err(AnalyseFault::Memory),
     }
@@ -170,20 +185,21 @@ fn labels_of(alloc: Global, model: &Model, scopes: &Scopes) -> Result<Labels, Al
 /// and its scopes, with the name of the text that has its place.
 pub fn ready_loaded(alloc: Global, loaded: Loaded, command: u32) -> Result<Ready, AnalyseFault>
     ensures kept { IfOk result (λ ready. IsModel ready.model) }
+    ensures placed { IfOk result (λ ready. IsPlaced ready.loaded ready.model) }
     ensures loaded { IfOk result (λ ready. ready.loaded ≡ loaded) }
     ensures ready { IfOk result (IsReady command) }
-    ensures fault { IfErr result (IsLoadedFault loaded) }
+    ensures fault { IfErr result (IsLoadedFault loaded command) }
 {
-    let resolved = model_of(alloc, &loaded)?;
+    let resolved = model_of(alloc, &loaded, command)?;
     let opened = open_params(alloc, resolved, command)?;
-    let model = kept(alloc, opened)?;
+    let model = kept(alloc, &loaded, opened)?;
     let scopes = scopes_of(alloc, &loaded, &model, command)?;
     if command as usize >= model.commands.len() {
         // The scopes are refused then.
         return Err(AnalyseFault::Memory);
     }
     let chosen = model.commands.get(command as usize);
-    let bounds = bounds_of(alloc, &loaded, &model, &scopes, chosen.keyword)?;
+    let bounds = bounds_of(alloc, &loaded, &model, &scopes, command, chosen)?;
     let labels = labels_of(alloc, &model, &scopes)?;
     Ok(Ready {
         loaded,
@@ -218,7 +234,7 @@ pub fn with_target(alloc: Global, ready: Ready) -> Result<Prepared, AllocError>
 pub fn prepare_loaded(alloc: Global, loaded: Loaded, command: u32) -> Result<Prepared, AnalyseFault>
     ensures loaded { IfOk result (λ prepared. prepared.ready.loaded ≡ loaded) }
     ensures prepared { IfOk result (IsPrepared command) }
-    ensures fault { IfErr result (IsLoadedFault loaded) }
+    ensures fault { IfErr result (IsLoadedFault loaded command) }
 {
     let ready = ready_loaded(alloc, loaded, command)?;
     let prepared = with_target(alloc, ready)?;

@@ -12,13 +12,12 @@ use crate::answer::Answer;
 use crate::fault::AnalyseFault;
 use crate::ready::{Prepared, Ready, prepare_loaded};
 use answer_checks::fits_labels;
-use answer_search::{Found, search_target};
+use answer_search::{Found, Proof, search_target};
 use answer_texts::table;
 use bound_laws::satisfying_lassos_are_candidates;
 use core_meaning::Lasso;
 use eval_check::satisfies;
 use sat_decide::{Boxed, Chooser};
-use sat_lrat::Proof;
 use std::alloc::{AllocError, Global};
 use syntax_tree::Loaded;
 
@@ -37,7 +36,7 @@ pub fn analyse_loaded(
     budget: Option<u64>,
 ) -> Result<Answer, AnalyseFault>
     ensures found { IfOk result (IsFound loaded command budget) }
-    ensures fault { IfErr result (IsLoadedFault loaded) }
+    ensures fault { IfErr result (IsLoadedFault loaded command) }
 {
     let prepared = prepare_loaded(alloc, loaded, command)?;
     let answer = search_prepared(alloc, prepared, chooser, budget)?;
@@ -108,7 +107,7 @@ fn refuted_of(alloc: Global, prepared: &Prepared, proof: Proof) -> Result<Answer
 {
     satisfying_lassos_are_candidates();
     let ready = &prepared.ready;
-    let table = table(alloc, &ready.labels, &ready.bounds)?;
+    let table = table(alloc, &ready.labels, &ready.bounds, &proof.layout)?;
     Ok(Answer::Refuted {
         table,
         states: proof.states,
@@ -125,7 +124,7 @@ fn unknown_of(alloc: Global, prepared: &Prepared, proof: Proof) -> Result<Answer
         IfOk result (IsFoundIn prepared.now budget) }
 {
     let ready = &prepared.ready;
-    let table = table(alloc, &ready.labels, &ready.bounds)?;
+    let table = table(alloc, &ready.labels, &ready.bounds, &proof.layout)?;
     Ok(Answer::Unknown {
         table,
         cnf: proof.cnf,

@@ -1,1 +1,2 @@
 mod JudgeLaw
+mod Reading

@@ -2,7 +2,6 @@
 use Rattle.std.specs.Prelude.{◌≡◌, ◌↔◌, ℕ, Bool, IsTrue, List, [], ◌∷◌, ◌++◌, Some, codes, slice_get, ⊤}
 use Rattle.answer_analysis.specs.declared.ready.Ready.{Ready}
 use Rattle.answer_analysis.specs.Found.{IsTraceOf}
-use Rattle.syntax_tree.specs.declared.loaded.Loaded.{Loaded}
 use Rattle.core_tree.specs.declared.model.Command.{Command}
 use Rattle.core_tree.specs.declared.model.Fact.{Fact}
 use Rattle.core_tree.specs.Trees.{Claim, Term, claim_of}
@@ -10,9 +9,8 @@ use Rattle.core_meaning.specs.Sequence.{LassoValue}
 use Rattle.core_meaning.specs.Meaning.{no_names}
 use Rattle.core_meaning.specs.Kept.{Keeps}
 use Rattle.core_meaning.specs.Satisfied.{HoldsAt, InTermAt, DeclaresAt}
-use Rattle.answer_texts.specs.Facts.{fact_name}
+use Rattle.answer_texts.specs.Facts.{name_in}
 use Rattle.answer_texts.specs.Judged.{judgement_text, is_satisfied}
-use Rattle.answer_texts.specs.declared.fact.FactName.{FactName}
 use Rattle.answer_texts.specs.declared.judgement.Judgement.{Judgement}
 use Rattle.answer_texts.specs.declared.judgement.JudgedFact.{JudgedFact}
 use Rattle.answer_laws.specs.Form.{IsLassoOf}
@@ -23,10 +21,6 @@ use Rattle.answer_laws.specs.Fault.{NamesFirst}
 use Rattle.core_tuples.specs.Sets.{TupleList, IsTupleSet}
 use Rattle.answer_judge.specs.declared.answer.TraceAnswer.{TraceAnswer}
 use Rattle.answer_judge.specs.declared.answer.TraceAnswer.TheVariants.{Judged, Valued, BadTrace}
-
--- how a fact of loaded modules is named
-abbrev pub name_in : Loaded → Fact → FactName
-name_in loaded fact = fact_name loaded.texts loaded.instances fact.instance fact.place fact.name
 
 -- a formula of a model that was made ready holds at the first position of a lasso
 abbrev pub HoldsFirst : Ready → LassoValue → Claim → Type 0

@@ -1,10 +1,13 @@
 //! The reading of the expression whose tuples are asked for, and its refusals.
 
-ghost use Rattle.std.specs.Prelude.{◌≡◌, ◌<◌, ◌≤◌, length, IfOk, Err};
+ghost use Rattle.std.specs.Prelude.{◌≡◌, ◌<◌, ◌≤◌, length, List, IfOk, Ok, Err};
 ghost use Rattle.base_types.specs.declared.place.Refusal.{Refusal};
 ghost use Rattle.syntax_tree.specs.Spelling.{EndsWell};
+ghost use Rattle.syntax_tree.specs.declared.token.Token.{Token};
 ghost use Rattle.syntax_lexer.specs.Tokens.{tokens_of};
-ghost use Rattle.answer_judge.specs.Expression.{large_text};
+ghost use Rattle.core_tree.specs.Trees.{term_of};
+ghost use Rattle.resolve_check.specs.Kept.{IsRightValue};
+ghost use Rattle.answer_judge.specs.Expression.{large_text, IsReadAt, IsReadOf};
 
 use base_types::limits::MODULE_BYTES;
 use base_types::{Fault, Position, Refusal, Rule};
@@ -45,6 +48,9 @@ pub fn read_value(
     ensures cut { (broken : Refusal) → length text.now ≤ MODULE_BYTES →
         tokens_of number text.now ≡ Err broken → IfOk result
         (λ read. read ≡ ReadValue.Refused broken) }
+    ensures told { (tokens : List Token) → length text.now ≤ MODULE_BYTES →
+        tokens_of number text.now ≡ Ok tokens → IfOk result
+        (IsReadOf model.now scopes.now.bits tokens) }
 {
     if text.len() > MODULE_BYTES {
         return Ok(ReadValue::Refused(large_text(number)));
@@ -80,17 +86,22 @@ fn parsed(
 ) -> Result<ReadValue, AllocError>
     requires ends { EndsWell tokens.now }
     requires some { 0 < length tokens.now }
+    ensures { IfOk result (IsReadOf model.now scopes.now.bits tokens.now) }
 {
     match parse_expr(alloc, tokens, 0) {
         Ok(parsed) => {
-            if parsed.next + 1 < tokens.len() {
+            let next = parsed.next;
+            let behind = next + 1;
+            if behind < tokens.len() {
                 // The expression ends before the text.
                 return Ok(ReadValue::Refused(Refusal {
                     rule: Rule::Syntax,
-                    place: tokens[parsed.next].place,
+                    place: tokens[next].place,
                 }));
             }
-            resolved(alloc, loaded, model, scopes, &parsed.tree, tokens[0].place)
+            let first = 0;
+            let place = tokens[first].place;
+            resolved(alloc, loaded, model, scopes, &parsed.tree, place)
         }
         Err(Fault::Refused(refusal)) => Ok(ReadValue::Refused(refusal)),
         Err(Fault::Memory) => Err(AllocError),
@@ -105,7 +116,9 @@ fn resolved(
     scopes: &Scopes,
     tree: &Tree,
     first: Position,
-) -> Result<ReadValue, AllocError> {
+) -> Result<ReadValue, AllocError>
+    ensures { IfOk result (IsReadAt model.now scopes.now.bits first) }
+{
     match resolve_value(alloc, loaded, model, tree) {
         Ok(value) => checked(alloc, model, scopes, value, first),
         Err(Fault::Refused(refusal)) => Ok(ReadValue::Refused(refusal)),
@@ -120,7 +133,10 @@ fn checked(
     scopes: &Scopes,
     value: Expr,
     first: Position,
-) -> Result<ReadValue, AllocError> {
+) -> Result<ReadValue, AllocError>
+    requires { IsRightValue model.now (term_of value) }
+    ensures { IfOk result (IsReadAt model.now scopes.now.bits first) }
+{
     if scopes.bits < 1 || scopes.bits > 12 {
         // Scopes have no such bitwidth.
         return Err(AllocError);

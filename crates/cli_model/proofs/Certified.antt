@@ -7,7 +7,8 @@ use Rattle.answer_certificates.specs.declared.certificate.Certificate.{Certifica
 use Rattle.answer_certificates.specs.declared.certificate.Certificate.TheVariants.{Trace, Refuted, Unknown}
 use Rattle.cli_words.specs.declared.named.Mode.TheVariants.{Least, Core}
 use Rattle.cli_words.specs.declared.named.Part.{Part}
-use Rattle.cli_model.specs.Model.{IsFoundIn, IsPreparedOf, answer_of}
+use Rattle.cli_model.specs.Model.{IsFoundIn, answer_of}
+use Rattle.cli_model.specs.Ready.{IsPreparedOf}
 
 module _ (number : ℕ) (part : Part) (budget : Option ℕ) (prepared : Prepared) (made : IsPreparedOf prepared.ready.loaded number prepared) where
   pub least_found : (found : Certificate) → IsLeastText prepared part budget found → IsFoundIn prepared.ready.loaded Least number part budget (answer_of found)

@@ -67,7 +67,7 @@ trace_analyses Lrat is = cc
 trace_analyses Make is = cc
 
 -- a refusal once a model is loaded, by its rule
-refuses_loaded : (settings : Settings) (held : List (Option Texts)) (loaded : Loaded) (refusal : Refusal) (name : List ℕ) → IsOfText loaded refusal name → IsOfModel loaded refusal →
+refuses_loaded : (settings : Settings) (held : List (Option Texts)) (loaded : Loaded) (refusal : Refusal) (name : List ℕ) → IsOfText loaded refusal name → IsOfModel loaded settings.command refusal →
     RefusesLoaded held settings loaded refusal name
 refuses_loaded settings held loaded refusal name placed why = elim why [ inl read ↦ reading placed read | inr asked ↦ scoping placed asked ]
 
@@ -157,25 +157,25 @@ after_on settings held later text before mid now (Ok a) loaded same keeps given 
 after_on settings held later text before mid now (Err e) loaded same keeps given mode is = tt
 
 -- a loaded model that could not be analysed is refused by a search and by a mode that reads a trace
-tells_found : (loaded : Loaded) (mode : Mode) (number : ℕ) (part : Part) (budget : Option ℕ) (a : Answer) (fault : AnalyseFault) → IsLoadedFault loaded fault → Tells fault a →
+tells_found : (loaded : Loaded) (mode : Mode) (number : ℕ) (part : Part) (budget : Option ℕ) (a : Answer) (fault : AnalyseFault) → IsLoadedFault loaded number fault → Tells fault a →
     IsFoundIn loaded mode number part budget a
 tells_found loaded mode number part budget a (analyse.Refused refusal name) why is = subst (λ x. IsFoundIn loaded mode number part budget x) (sym is) why
 tells_found loaded mode number part budget a (analyse.Read name) why is = absurd is
 tells_found loaded mode number part budget a analyse.Memory why is = absurd is
 
-pub refusal_found : (loaded : Loaded) (mode : Mode) (number : ℕ) (part : Part) (budget : Option ℕ) (r : Result Answer AllocError) (fault : AnalyseFault) → IsLoadedFault loaded fault → IfOk r (Tells fault) →
+pub refusal_found : (loaded : Loaded) (mode : Mode) (number : ℕ) (part : Part) (budget : Option ℕ) (r : Result Answer AllocError) (fault : AnalyseFault) → IsLoadedFault loaded number fault → IfOk r (Tells fault) →
     IfOk r (IsFoundIn loaded mode number part budget)
 refusal_found loaded mode number part budget (Ok a) fault why is = tells_found loaded mode number part budget a fault why is
 refusal_found loaded mode number part budget (Err e) fault why is = tt
 
 module _ (loaded : Loaded) (settings : Settings) (held : List (Option Texts)) (before now : List ℕ) where
-  tells_after : (a : Answer) (fault : AnalyseFault) → now ≡ before → IsLoadedFault loaded fault → Tells fault a → IsAfter loaded settings held before now a
+  tells_after : (a : Answer) (fault : AnalyseFault) → now ≡ before → IsLoadedFault loaded settings.command fault → Tells fault a → IsAfter loaded settings held before now a
   tells_after a (analyse.Refused refusal name) same why is =
       subst (λ x. IsAfter loaded settings held before now x) (sym is) (same, refuses_loaded settings held loaded refusal name why.0 why.1)
   tells_after a (analyse.Read name) same why is = absurd is
   tells_after a analyse.Memory same why is = absurd is
 
-  pub refusal_after : (r : Result Answer AllocError) (fault : AnalyseFault) → now ≡ before → IsLoadedFault loaded fault → IfOk r (Tells fault) → IfOk r (IsAfter loaded settings held before now)
+  pub refusal_after : (r : Result Answer AllocError) (fault : AnalyseFault) → now ≡ before → IsLoadedFault loaded settings.command fault → IfOk r (Tells fault) → IfOk r (IsAfter loaded settings held before now)
   refusal_after (Ok a) fault same why is = tells_after a fault same why is
   refusal_after (Err e) fault same why is = tt
 

@@ -1,12 +1,14 @@
 -- The refusals of an expression that a mode evaluates.
-use Rattle.std.proofs.Common.{◌≡◌, ◌∙◌, ◌<◌, ◌≤◌, ℕ, List, length, Err, Some, option_map, codes, refl, sym, ap, subst, inl, inr}
+use Rattle.std.proofs.Common.{◌≡◌, ◌∙◌, ◌<◌, ◌≤◌, ℕ, List, length, Ok, Err, Some, option_map, codes, refl, sym, ap, subst, inl, inr}
 use Rattle.std.specs.Prelude.{slice_get}
 use Rattle.base_types.specs.declared.limits.TheConstants.{MODULE_BYTES}
 use Rattle.base_types.specs.declared.place.Refusal.{Refusal}
 use Rattle.syntax_lexer.specs.Tokens.{tokens_of}
 use Rattle.syntax_tree.specs.declared.instance.Text.{Text}
 use Rattle.syntax_tree.specs.declared.loaded.Loaded.{Loaded}
-use Rattle.answer_judge.specs.Expression.{large_text}
+use Rattle.syntax_tree.specs.declared.token.Token.{Token}
+use Rattle.answer_analysis.specs.declared.ready.Ready.{Ready}
+use Rattle.answer_judge.specs.Expression.{large_text, RefusesTokens}
 use Rattle.cli_model.specs.Model.{RefusesAt}
 use Rattle.cli_model.specs.Refused.{BreaksExpression}
 use Rattle.cli_model.specs.declared.answer.Answer.TheVariants.{Refused}
@@ -24,11 +26,14 @@ pub beside_all : (loaded : Loaded) (refusal : Refusal) (name : List ℕ) → len
 beside_all loaded refusal name past at = record { name = name; is = refl; named = inr (past, at) }
 
 -- what was read of the text of an expression, which has the next number behind those of the loaded texts
-pub breaks_of : (loaded : Loaded) (expression text : List ℕ) (number : ℕ) (refusal : Refusal) → text ≡ expression → number ≡ length loaded.texts →
+pub breaks_of : (ready : Ready) (expression text : List ℕ) (number : ℕ) (refusal : Refusal) → text ≡ expression → number ≡ length ready.loaded.texts →
     (MODULE_BYTES < length text → refusal ≡ large_text number) → ((broken : Refusal) → length text ≤ MODULE_BYTES → tokens_of number text ≡ Err broken → refusal ≡ broken) →
-    BreaksExpression loaded expression refusal
-breaks_of loaded expression text number refusal same count large cut = record {
+    ((tokens : List Token) → length text ≤ MODULE_BYTES → tokens_of number text ≡ Ok tokens → RefusesTokens ready.model ready.scopes.bits tokens refusal) →
+    BreaksExpression ready expression refusal
+breaks_of ready expression text number refusal same count large cut told = record {
   large = λ over. large (subst (λ (b : List ℕ). MODULE_BYTES < length b) (sym same) over) ∙ ap large_text count;
   cut = λ broken short cuts. cut broken (subst (λ (b : List ℕ). length b ≤ MODULE_BYTES) (sym same) short)
-      (subst (λ (n : ℕ). tokens_of n text ≡ Err broken) (sym count) (subst (λ (b : List ℕ). tokens_of (length loaded.texts) b ≡ Err broken) (sym same) cuts));
+      (subst (λ (n : ℕ). tokens_of n text ≡ Err broken) (sym count) (subst (λ (b : List ℕ). tokens_of (length ready.loaded.texts) b ≡ Err broken) (sym same) cuts));
+  told = λ tokens short cuts. told tokens (subst (λ (b : List ℕ). length b ≤ MODULE_BYTES) (sym same) short)
+      (subst (λ (n : ℕ). tokens_of n text ≡ Ok tokens) (sym count) (subst (λ (b : List ℕ). tokens_of (length ready.loaded.texts) b ≡ Ok tokens) (sym same) cuts));
 }

@@ -4,5 +4,6 @@ pub mod Loads
 pub mod Made
 pub mod Model
 pub mod Modes
+pub mod Ready
 pub mod Refused
 pub mod Root

@@ -1,4 +1,4 @@
--- What is loaded of a module with a text.
+-- What is loaded of a module with a text, and of a text that is given.
 use Rattle.std.specs.Prelude.{ℕ, List, Option, Some, None}
 use Rattle.base_types.specs.Texts.{Texts}
 use Rattle.syntax_lexer.specs.Tokens.{tokens_of}
@@ -6,7 +6,7 @@ use Rattle.syntax_tree.specs.declared.loaded.Loaded.{Loaded}
 use Rattle.syntax_tree.specs.declared.module.Module.{Module}
 use Rattle.load_state.specs.Keys.{AreDistinct, pairs_of}
 use Rattle.load_modules.specs.Led.{OpensTold}
-use Rattle.load_modules.specs.Told.{LoadsTree}
+use Rattle.load_modules.specs.Told.{LoadsGiven, LoadsTree}
 use Rattle.cli_model.specs.Root.{SpellIn}
 
 -- this is loaded of the file with this name and text, where the libraries hold these texts
@@ -25,3 +25,12 @@ pub record IsLoaded (held : List (Option Texts)) (file text : List ℕ) (loaded 
 abbrev pub IsLoadedIn : List (Option Texts) → List ℕ → Option (List ℕ) → Loaded → Type 0
 IsLoadedIn held file None loaded = ⊥
 IsLoadedIn held file (Some text) loaded = IsLoaded held file text loaded
+
+-- this is loaded of a text with this name, where the libraries hold these texts
+pub record IsLoadedText (held : List (Option Texts)) (name text : List ℕ) (loaded : Loaded) : Type 0 where
+  -- the text comes first; each other text is the one that the libraries have under its name, a name that is tried
+  pub texts : LoadsGiven held name text loaded.texts
+  -- each open leads to an instance of the text that is found for its path, with arguments that fit
+  pub opens : OpensTold held name loaded.texts loaded.instances
+  -- and no two instances have one text with equal arguments
+  pub distinct : AreDistinct (pairs_of loaded.instances)

@@ -1,32 +1,22 @@
 -- What is written of the model of a ring, which mode make makes.
-use Rattle.std.specs.Prelude.{◌≡◌, ℕ, ◌⊎◌, List, ◌++◌, length, codes, Option, Some, ⊤}
+use Rattle.std.specs.Prelude.{◌≡◌, ℕ, ◌⊎◌, List, ◌++◌, length, codes, Option, Some}
 use Rattle.base_types.specs.Causes.{SomeRose}
 use Rattle.base_types.specs.Texts.{Texts}
 use Rattle.syntax_tree.specs.declared.loaded.Loaded.{Loaded}
 use Rattle.core_meaning.specs.Sequence.{LassoValue}
 use Rattle.load_state.specs.Causes.{IsTried}
-use Rattle.load_state.specs.Keys.{AreDistinct, pairs_of}
-use Rattle.load_modules.specs.Led.{OpensTold}
-use Rattle.load_modules.specs.Told.{LoadsGiven}
 use Rattle.answer_laws.specs.Form.{IsLassoOf}
 use Rattle.answer_texts.specs.Ring.{ring_text, made_trace, made_none, made_unknown}
-use Rattle.answer_analysis.specs.Found.{IsTraceOf, NoneSatisfies, RowsOf}
+use Rattle.answer_analysis.specs.Found.{IsOfModel, IsOfText, IsTraceOf, NoneSatisfies, RowsOf}
 use Rattle.answer_analysis.specs.declared.ready.Prepared.{Prepared}
 use Rattle.answer_certificates.specs.Certificate.{IsShort, ShowsSpent, SayAll}
 use Rattle.cli_words.specs.Numbers.{number_in}
 use Rattle.cli_words.specs.declared.settings.Settings.{Settings}
-use Rattle.cli_model.specs.Model.{OfPrepared}
+use Rattle.cli_model.specs.Loads.{IsLoadedText}
+use Rattle.cli_model.specs.Ready.{OfPrepared}
+use Rattle.cli_model.specs.Refused.{RefusesRing}
 use Rattle.cli_model.specs.declared.answer.Answer.{Answer}
 use Rattle.cli_model.specs.declared.answer.Answer.TheVariants.{Refused, ReadFault, Made}
-
--- this is loaded of a text with this name, where the libraries hold these texts
-pub record IsLoadedText (held : List (Option Texts)) (name text : List ℕ) (loaded : Loaded) : Type 0 where
-  -- the text comes first; each other text is the one that the libraries have under its name, a name that is tried
-  pub texts : LoadsGiven held name text loaded.texts
-  -- each open leads to an instance of the text that is found for its path, with arguments that fit
-  pub opens : OpensTold held name loaded.texts loaded.instances
-  -- and no two instances have one text with equal arguments
-  pub distinct : AreDistinct (pairs_of loaded.instances)
 
 -- a trace, of as many states as the line says and with its loop there, and no other shows its sequence in fewer
 pub record SumsUpTrace (prepared : Prepared) (nodes : ℕ) (text : List ℕ) : Type 0 where
@@ -54,7 +44,7 @@ SumsUp loaded number nodes budget text =
 
 -- the answer on the model of such a ring, once it is loaded
 abbrev pub IsMade : Loaded → ℕ → ℕ → Option ℕ → Answer → Type 0
-IsMade loaded number nodes budget (Refused refusal name) = ⊤
+IsMade loaded number nodes budget (Refused refusal name) = IsOfText loaded refusal name × IsOfModel loaded number refusal
 IsMade loaded number nodes budget (Made bytes) = SumsUp loaded number nodes budget bytes
 IsMade loaded number nodes budget _ = ⊥
 
@@ -68,7 +58,7 @@ pub record MakesRing (held : List (Option Texts)) (settings : Settings) (text : 
 
 -- the same by the counts of faults before its modules were asked for and after that
 abbrev pub IsOnRing : List (Option Texts) → Settings → List ℕ → List ℕ → Answer → Type 0
-IsOnRing held settings before now (Refused refusal name) = now ≡ before
+IsOnRing held settings before now (Refused refusal name) = (now ≡ before) × RefusesRing held settings refusal name
 IsOnRing held settings before now (ReadFault name) = IsTried (codes "make") name × SomeRose before now
 IsOnRing held settings before now (Made bytes) = (now ≡ before) × MakesRing held settings bytes
 IsOnRing held settings before now _ = ⊥

@@ -1,16 +1,13 @@
 -- What an answer on the text of a model may be, and why.
-use Rattle.std.specs.Prelude.{◌≡◌, ℕ, ◌⊎◌, List, map, codes, IsTrue, Option, Some, None, ⊤}
+use Rattle.std.specs.Prelude.{◌≡◌, ℕ, ◌⊎◌, List, map, codes, IsTrue, Option, Some, None}
 use Rattle.base_types.specs.Causes.{SomeRose}
 use Rattle.base_types.specs.Texts as texts
 use Rattle.syntax_tree.specs.declared.loaded.Loaded.{Loaded}
 use Rattle.base_types.specs.Texts.{Texts}
 use Rattle.base_types.specs.declared.place.Refusal.{Refusal}
-use Rattle.answer_analysis.specs.Found.{IsOfModel, IsOfText, IsPrepared, IsReady, NoneSatisfies, NoneWithin, RowsOf}
-use Rattle.answer_texts.specs.Table.{AreLines}
+use Rattle.answer_analysis.specs.Found.{IsOfModel, IsOfText, NoneSatisfies, NoneWithin, RowsOf}
 use Rattle.answer_analysis.specs.declared.fault.AnalyseFault.{AnalyseFault}
 use Rattle.answer_analysis.specs.declared.fault.AnalyseFault.TheVariants as analyse
-use Rattle.answer_analysis.specs.declared.ready.Prepared.{Prepared}
-use Rattle.answer_analysis.specs.declared.ready.Ready.{Ready}
 use Rattle.base_types.specs.declared.limits.TheConstants.{FILE_BYTES}
 use Rattle.answer_certificates.specs.Certificate.{ShowsTrace, ShowsOne, ShowsAbove, ShowsNone, ShowsCore, ShowsSpent, ShowsSpentLeast, ShowsSpentCore, RowsOver, SayAll, SayOverStates}
 use Rattle.answer_certificates.specs.declared.certificate.Certificate.{Certificate}
@@ -20,7 +17,6 @@ use Rattle.cli_words.specs.declared.named.Mode.{Mode}
 use Rattle.cli_words.specs.declared.named.Mode.TheVariants.{Exec, Commands, Make, Replay, Eval, Least, Core}
 use Rattle.cli_words.specs.declared.named.Part.{Part}
 use Rattle.cli_words.specs.declared.settings.Settings.{Settings}
-use Rattle.resolve_places.specs.Places.{IsPlaced}
 use Rattle.load_state.specs.Causes.{IsTried}
 use Rattle.load_state.specs.declared.fault.LoadFault.{LoadFault}
 use Rattle.load_state.specs.declared.fault.LoadFault.TheVariants as load
@@ -29,6 +25,7 @@ use Rattle.answer_judge.specs.declared.answer.TraceAnswer.{TraceAnswer}
 use Rattle.cli_model.specs.Files.{file_rule}
 use Rattle.cli_model.specs.Loads.{IsLoaded}
 use Rattle.cli_model.specs.Modes.{analyses, looks, reads_trace}
+use Rattle.cli_model.specs.Ready.{OfModel, OfPrepared}
 use Rattle.cli_model.specs.Refused.{IsNamedIn, RefusedIn, RefusesLoaded}
 use Rattle.cli_model.specs.Root.{ListsModule}
 use Rattle.cli_model.specs.declared.answer.Answer.{Answer}
@@ -38,26 +35,6 @@ use Rattle.cli_model.specs.declared.answer.Answer.TheVariants.{Refused, ReadFaul
 -- of a trace has it
 abbrev pub IsOpened : Settings → List ℕ → Type 0
 IsOpened settings name = (IsTrue (analyses settings.mode) × IsTried settings.file name) ⊎ (((settings.mode ≡ Make) × IsTried (codes "make") name) ⊎ (IsTrue (reads_trace settings.mode) × (settings.second ≡ Some name)))
-
--- a model of what is loaded, made ready for its command of this number: its sigs and facts are just those that the loaded texts
--- declare, and its commands those of the root, by their places
-pub record IsModelOf (loaded : Loaded) (number : ℕ) (made : Ready) : Type 0 where
-  pub loaded_is : made.loaded ≡ loaded
-  pub placed : IsPlaced loaded made.model
-  pub ready : IsReady number made
-
--- the same made ready for a search
-pub record IsPreparedOf (loaded : Loaded) (number : ℕ) (made : Prepared) : Type 0 where
-  pub model : IsModelOf loaded number made.ready
-  pub prepared : IsPrepared number made
-
--- something is so of such a model
-abbrev pub OfModel : Loaded → ℕ → (Ready → Type 0) → Type 0
-OfModel loaded number P = (ready : Ready) × IsModelOf loaded number ready × P ready
-
--- and of one that is searched
-abbrev pub OfPrepared : Loaded → ℕ → (Prepared → Type 0) → Type 0
-OfPrepared loaded number P = (prepared : Prepared) × IsPreparedOf loaded number prepared × P prepared
 
 -- what is written of a trace, which satisfies the model and the command: the part that is asked for; in a search for the fewest
 -- states with clauses of one state less and lines that refute them, and no lasso of fewer states satisfies them, if the target
@@ -74,7 +51,7 @@ abbrev pub ShownNone : Loaded → Mode → ℕ → Part → Option ℕ → List 
 ShownNone loaded Core number part budget text = OfPrepared loaded number (λ prepared. ShowsCore prepared part budget text)
 ShownNone loaded Exec number part budget text = OfPrepared loaded number (λ prepared. ShowsNone (RowsOf prepared) (SayAll prepared) prepared.ready.bounds.states budget part text × NoneSatisfies prepared)
 ShownNone loaded Least number part budget text = OfPrepared loaded number (λ prepared. ShowsNone (RowsOver prepared prepared.ready.scopes.states) (SayOverStates prepared prepared.ready.scopes.states) prepared.ready.scopes.states budget part text × NoneWithin prepared prepared.ready.scopes.states)
-ShownNone loaded _ number part budget text = (states : ℕ) × ShowsNone AreLines (λ cnf. ⊤) states budget part text
+ShownNone loaded _ number part budget text = ⊥
 
 -- what is written where a budget is spent: clauses that say what the target of the model does, over some number of states in a
 -- search for the fewest, and with some of the facts alone in a search for facts; and a derivation that spends it
@@ -82,7 +59,7 @@ abbrev pub ShownSpent : Loaded → Mode → ℕ → Option ℕ → List ℕ → 
 ShownSpent loaded Exec number budget text = OfPrepared loaded number (λ prepared. ShowsSpent (RowsOf prepared) (SayAll prepared) budget text)
 ShownSpent loaded Least number budget text = OfPrepared loaded number (λ prepared. ShowsSpentLeast prepared budget text)
 ShownSpent loaded Core number budget text = OfPrepared loaded number (λ prepared. ShowsSpentCore prepared budget text)
-ShownSpent loaded _ number budget text = ShowsSpent AreLines (λ cnf. ⊤) budget text
+ShownSpent loaded _ number budget text = ⊥
 
 -- what is said of the text of a trace in a mode: what a model and its command mean on it, or the tuples that some expression has
 -- there at the position of the settings
@@ -116,7 +93,7 @@ IsOnModel settings held text before now _ = ⊥
 
 -- the answer of a search in a loaded model, by the mode
 abbrev pub IsFoundIn : Loaded → Mode → ℕ → Part → Option ℕ → Answer → Type 0
-IsFoundIn loaded mode number part budget (Refused refusal name) = IsOfText loaded refusal name × IsOfModel loaded refusal
+IsFoundIn loaded mode number part budget (Refused refusal name) = IsOfText loaded refusal name × IsOfModel loaded number refusal
 IsFoundIn loaded mode number part budget (Trace bytes) = ShownTrace loaded mode number part budget bytes
 IsFoundIn loaded mode number part budget (Refuted bytes) = ShownNone loaded mode number part budget bytes
 IsFoundIn loaded mode number part budget (Unknown bytes) = ShownSpent loaded mode number budget bytes

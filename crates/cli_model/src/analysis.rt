@@ -7,7 +7,8 @@ ghost use Rattle.answer_analysis.specs.Found as outcome;
 ghost use Rattle.answer_analysis.specs.declared.ready.Prepared.{Prepared as PreparedOf};
 ghost use Rattle.answer_texts.specs.Answers as texts;
 ghost use Rattle.cli_model.specs.Root.{SpellIn};
-ghost use Rattle.cli_model.specs.Model.{IsOnModel, IsPreparedOf, IsFound, IsFoundIn, Says, Tells, answer_of};
+ghost use Rattle.cli_model.specs.Model.{IsOnModel, IsFound, IsFoundIn, Says, Tells, answer_of};
+ghost use Rattle.cli_model.specs.Ready.{IsPreparedOf};
 ghost use Rattle.cli_model.specs.Modes.{looks};
 ghost use Rattle.cli_words.specs.declared.named.Mode.TheVariants.{Exec, Least, Core};
 

@@ -8,7 +8,7 @@ ghost use Rattle.answer_texts.specs.Answers.{unknown_text};
 ghost use Rattle.answer_texts.specs.Ring.{made_trace, made_none, made_unknown};
 ghost use Rattle.cli_words.specs.Numbers.{number_in};
 ghost use Rattle.cli_model.specs.Made.{IsMade, IsOnRing};
-ghost use Rattle.cli_model.specs.Model.{IsPreparedOf};
+ghost use Rattle.cli_model.specs.Ready.{IsPreparedOf};
 
 use crate::Answer;
 use crate::analysis::{chosen, not_analysed, not_loaded, spent_text};

@@ -4,7 +4,8 @@ ghost use Rattle.std.specs.Prelude.{◌≡◌, true, is_some, Some, Ok, IfOk, Is
 ghost use Rattle.base_types.specs.Causes.{NoneFell};
 ghost use Rattle.syntax_lexer.specs.Tokens.{tokens_of};
 ghost use Rattle.cli_model.specs.Root.{SpellIn};
-ghost use Rattle.cli_model.specs.Model.{IsOnModel, IsModelOf, IsAfter, IsSaid, IsSaidOf, RefusesAt};
+ghost use Rattle.cli_model.specs.Model.{IsOnModel, IsAfter, IsSaid, IsSaidOf, RefusesAt};
+ghost use Rattle.cli_model.specs.Ready.{IsModelOf};
 ghost use Rattle.cli_model.specs.Modes.{reads_trace};
 ghost use Rattle.cli_model.specs.Refused.{BreaksExpression, RefusesExpression};
 
@@ -85,6 +86,7 @@ enum Question {
 
 /// What the settings ask of a trace.
 fn asked_question(alloc: Global, settings: &Settings, ready: &Ready) -> Result<Question, AllocError>
+    requires { IsModelOf ready.now.loaded settings.now.command ready.now }
     ensures { (refusal : _) → result ≡ Ok (Question.Refused refusal) →
         RefusesExpression ready.now.loaded settings.now refusal }
 {
@@ -100,7 +102,7 @@ fn asked_question(alloc: Global, settings: &Settings, ready: &Ready) -> Result<Q
 /// What an expression asks of a trace.
 fn value_asked(alloc: Global, ready: &Ready, expression: &Name) -> Result<Question, AllocError>
     ensures { (refusal : _) → result ≡ Ok (Question.Refused refusal) →
-        BreaksExpression ready.now.loaded expression.now refusal }
+        BreaksExpression ready.now expression.now refusal }
 {
     let loaded = &ready.loaded;
     let count = loaded.texts.len();

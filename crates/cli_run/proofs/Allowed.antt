@@ -190,7 +190,7 @@ has_one settings mode has = subst (λ m. cond (takes_second m) (is_some settings
 -- the answer on a model that is made
 ring_one : (settings : Settings) (held : List (Option Texts)) (before now : List ℕ) → settings.mode ≡ Make → (a : Answer) → IsOnRing held settings before now a → AllowsFiles [] settings held before now a
 ring_one settings held before now mode Usage h = absurd h
-ring_one settings held before now mode (Refused refusal name) h = (h, λ told tells. inr (inr mode))
+ring_one settings held before now mode (Refused refusal name) h = (h.0, λ told tells. inr (inr (mode, h.1)))
 ring_one settings held before now mode (ReadFault name) h = (inr (inr (inl (mode, h.0))), h.1)
 ring_one settings held before now mode (Trace text) h = absurd h
 ring_one settings held before now mode (Refuted text) h = absurd h

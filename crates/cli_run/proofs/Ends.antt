@@ -308,7 +308,7 @@ module _ (run : Run) where
       let why : RefusedFor run.held None (model_of told settings) settings refusal n = subst (λ o. RefusedFor run.held o (model_of told settings) settings refusal n) is.whole (allows.1 told tells) in
       elim why [
         | inl one ↦ absurd (one.2 is.mode)
-        | inr other ↦ elim other [ inl searches ↦ absurd (no_lrat_analyses settings.mode is.mode searches.0) | inr makes ↦ cc (makes, is.mode) ]
+        | inr other ↦ elim other [ inl searches ↦ absurd (no_lrat_analyses settings.mode is.mode searches.0) | inr makes ↦ cc (makes.0, is.mode) ]
       ]
   proof_given settings (ReadFault n) told name clauses lines verdict allows tells is = inr (inl refl)
   proof_given settings (Trace text) told name clauses lines verdict allows tells is = absurd (no_lrat_looks settings.mode is.mode allows.2.mode)

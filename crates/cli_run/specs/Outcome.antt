@@ -72,7 +72,8 @@ Wrote r text = Written r.got_before r.got_after text
 -- line of the first such file; and else, where the text of the model that the mode reads can't be
 -- cut into tokens, it is the line of its first break. Where it spells a module, it is the line of a
 -- rule of loading, in the text that the line names; or of a later rule, at a place of the loaded
--- text that it names; or of the expression, or of the file of a trace.
+-- text that it names; or of the expression, or of the file of a trace. Of a model that is made it is
+-- the line of a rule of loading, or of a later one.
 pub record RefusesText (r : Run) : Type 0 where
   pub settings : Settings
   pub refusal : Refusal

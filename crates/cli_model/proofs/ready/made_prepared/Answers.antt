@@ -1,6 +1,6 @@
 use Rattle.std.proofs.Common.{ap, ◌∙◌, sym, subst}
 use Rattle.answer_analysis.specs.declared.ready.Ready.{Ready}
-use Rattle.cli_model.specs.Model.{IsModelOf}
+use Rattle.cli_model.specs.Ready.{IsModelOf}
 use Rattle.cli_model.proofs.ready.made_prepared.Goals as goal
 
 pub returns-clause-made : goal.returns-clause-made

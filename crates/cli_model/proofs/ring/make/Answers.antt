@@ -1,9 +1,10 @@
-use Rattle.std.proofs.Common.{ℕ, List, Some, ◌≡◌, ◌∙◌, codes, refl, subst}
+use Rattle.std.proofs.Common.{ℕ, List, Some, ◌≡◌, ◌∙◌, codes, subst}
 use Rattle.base_types.proofs.Counts.{none_fell_same}
+use Rattle.load_modules.specs.Refused.{RefusesGiven}
 use Rattle.load_modules.specs.Told.{LoadsGiven}
 use Rattle.answer_texts.specs.Ring.{ring_text}
 use Rattle.cli_words.specs.Numbers.{number_in}
-use Rattle.cli_model.specs.Made.{IsLoadedText}
+use Rattle.cli_model.specs.Loads.{IsLoadedText}
 use Rattle.cli_model.proofs.OnRing.{made_on, ring_fault_on}
 use Rattle.cli_model.proofs.ring.make.Goals as goal
 
@@ -27,4 +28,7 @@ returns-in-Ok-clause-on g c =
 
 pub returns-in-Err-clause-on : goal.returns-in-Err-clause-on
 returns-in-Err-clause-on g c =
-    ring_fault_on (g.L.Libraries.told c.args.libraries.now) c.args.settings.now (g.L.Libraries.counts c.args.libraries.now) _ c.not_loaded.result c.in-Err.fault (codes "make") refl c.in-Err.ensures.cause c.not_loaded.ensures
+    let held = g.L.Libraries.told c.args.libraries.now in
+    let named : number_in 32 c.args.settings.now.file ≡ Some c.in-Some.nodes = cc (c.text.ensures, c.nodes_in.ensures, c.in-Some.is) in
+    let why = subst (λ (t : List ℕ). RefusesGiven held (codes "make") t c.in-Err.fault) (c.deref.ensures.value ∙ c.in_ok-text.ensures) c.in-Err.ensures.refused in
+    ring_fault_on held c.args.settings.now (g.L.Libraries.counts c.args.libraries.now) _ c.in-Some.nodes c.not_loaded.result c.in-Err.fault named why c.in-Err.ensures.cause c.not_loaded.ensures

@@ -2,7 +2,7 @@ use Rattle.std.proofs.lemmas.Result.{IfOk-weaker}
 use Rattle.core_tree.specs.Trees.{Term, term_of}
 use Rattle.answer_analysis.specs.declared.ready.Ready.{Ready}
 use Rattle.answer_judge.specs.Judged.{IsJudgement, IsValue}
-use Rattle.cli_model.specs.Model.{OfModel}
+use Rattle.cli_model.specs.Ready.{OfModel}
 use Rattle.cli_model.proofs.traced.said_of.Goals as goal
 
 pub returns-in-Replay : goal.returns-in-Replay
