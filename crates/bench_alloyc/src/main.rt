@@ -5,7 +5,6 @@
 //! |---|---|---|
 //! | `tables` | `TABLE ..` | runs rows of command lines, and prints the answers |
 //! | `encoding` | `MODEL ..` | compares circuits of small models with the meaning of the models |
-//! | `operations` | | compares circuits of small operands with plain values |
 //! | `parser` | `NAME ..` | says of texts what the lexer and the parsers make of them |
 //! | `circuits` | `clauses N`, `join N` or `closure N` | builds circuits and matrices of this size |
 //! | `stages` | `sizes MODEL COMMAND` or `times MODEL COMMAND` | measures the stages of one analysis |
@@ -22,7 +21,7 @@ mod tables;
 use anyhow::Result;
 use base_host::FolderLibrary;
 use bench_analysis::{encoding, stages};
-use bench_gates::{circuits, operations};
+use bench_gates::circuits;
 use bench_search::{dimacs, random};
 use std::env;
 use std::process::ExitCode;
@@ -32,7 +31,6 @@ fn run_mode(rt: &HostRuntime, mode: &str, words: &[String]) -> Result<u8> {
     match mode {
         "tables" => tables::run(rt, words),
         "encoding" => encoding::run(rt, words),
-        "operations" => operations::run(rt),
         "parser" => bench_parser::run(rt, words),
         "circuits" => circuits::run(rt, words),
         "stages" => stages::run(rt, FolderLibrary::new(rt.clone()?), words),
@@ -45,7 +43,7 @@ fn run_mode(rt: &HostRuntime, mode: &str, words: &[String]) -> Result<u8> {
 /// Prints the usage, and gives its status.
 fn print_usage(rt: &impl Print) -> Result<u8> {
     println!(rt;
-        "usage: bench_alloyc tables|encoding|operations|parser|circuits|stages|dimacs|random WORD.. [then ..]"
+        "usage: bench_alloyc tables|encoding|parser|circuits|stages|dimacs|random WORD.. [then ..]"
     )?;
     Ok(2)
 }

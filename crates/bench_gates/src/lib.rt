@@ -1,7 +1,7 @@
-//! The workbench's modes on gates: [`operations`] compares circuits with plain values, [`circuits`] measures.
+//! The workbench's mode on gates, [`circuits`], which measures, and the values of the gates of a circuit.
 #![tactic(auto)]
 
 pub mod circuits;
-pub mod operations;
+mod reading;
 
-pub use operations::reading::{among, gate_values};
+pub use reading::{among, gate_values};
