@@ -7,3 +7,6 @@ mod Operators
 mod Variables
 mod Law
 mod Modules
+mod Shared
+mod Walked
+mod Deaths

@@ -1,5 +1,5 @@
 -- The threads that are left behind tokens.
-use Rattle.std.specs.Prelude.{ℕ, List, [], ◌∷◌, ◌++◌, Option, Some, None}
+use Rattle.std.specs.Prelude.{◌≡◌, ℕ, ◌+◌, List, [], ◌∷◌, ◌++◌, Option, Some, None, take}
 use Rattle.syntax_tree.specs.declared.token.TokenKind.{TokenKind}
 use Rattle.syntax_tree.specs.Words.{Spelled}
 use Rattle.syntax_machine.specs.declared.thread.Mark.{Mark}
@@ -27,3 +27,8 @@ from_each token (t ∷ ts) = from_thread token None t ++ from_each token ts
 abbrev pub threads : Spelled → List Thread → List Thread
 threads [] ts = ts
 threads (token ∷ tokens) ts = threads tokens (from_each token ts)
+
+-- the place of the first token behind which no thread is left of this one, where there is one
+abbrev pub IsFirstDeath : Spelled → Thread → Option ℕ → Type 0
+IsFirstDeath tokens start None = threads tokens (start ∷ []) ≡ [] → ⊥
+IsFirstDeath tokens start (Some place) = (threads (take place tokens) (start ∷ []) ≡ [] → ⊥) × (threads (take (place + 1) tokens) (start ∷ []) ≡ [])

@@ -3,7 +3,7 @@
 use syntax_tree::Bracket;
 
 /// What may stand where an expression is needed.
-#[derive(Clone, Copy, Debug)]
+#[derive(Clone, Copy)]
 pub struct Goal {
     /// Operators outside brackets have this level or a tighter one.
     pub least: u8,
@@ -22,7 +22,7 @@ pub struct Goal {
 }
 
 /// What the rules ask of an operand that stands on the left of an operator.
-#[derive(Clone, Copy, Debug)]
+#[derive(Clone, Copy)]
 pub struct Mark {
     /// The level of its form.
     pub level: u8,
@@ -33,7 +33,7 @@ pub struct Mark {
 }
 
 /// A token, or one of several.
-#[derive(Clone, Copy, Debug)]
+#[derive(Clone, Copy)]
 pub enum Expected {
     Name,
     Number,
@@ -56,7 +56,7 @@ pub enum Expected {
 }
 
 /// What variables are declared for.
-#[derive(Clone, Copy, Debug)]
+#[derive(Clone, Copy)]
 pub enum Declared {
     /// A form with variables, whether it is a `sum`, and how deep it is so far.
     Quantified(Goal, bool, u32),
@@ -67,7 +67,7 @@ pub enum Declared {
 }
 
 /// Where one of several continuations comes.
-#[derive(Clone, Copy, Debug)]
+#[derive(Clone, Copy)]
 pub enum State {
     /// The rest of a path, behind a `/`.
     Names,
@@ -94,7 +94,7 @@ pub enum State {
 }
 
 /// What an expression that was read is a part of, and what goes on behind it.
-#[derive(Clone, Copy, Debug)]
+#[derive(Clone, Copy)]
 pub enum Frame {
     /// A parenthesis.
     Parenthesis(Goal),
@@ -117,7 +117,7 @@ pub enum Frame {
 }
 
 /// The qualifiers before a sig so far.
-#[derive(Clone, Copy, Debug)]
+#[derive(Clone, Copy)]
 pub struct Qualified {
     pub is_private: bool,
     pub is_var: bool,
@@ -128,7 +128,7 @@ pub struct Qualified {
 
 /// Where one of several continuations comes in a module, outside its expressions. The numbers are
 /// the rooms of trees.
-#[derive(Clone, Copy, Debug)]
+#[derive(Clone, Copy)]
 pub enum Piece {
     SigName,
     /// What follows an argument of an `open`.
@@ -167,7 +167,7 @@ pub enum Piece {
 }
 
 /// What may come next in a module or not.
-#[derive(Clone, Copy, Debug)]
+#[derive(Clone, Copy)]
 pub enum Optional {
     Header,
     HeaderParameters,
@@ -184,7 +184,7 @@ pub enum Optional {
 }
 
 /// A part of a thread.
-#[derive(Clone, Copy, Debug)]
+#[derive(Clone, Copy)]
 pub enum Item {
     /// This token comes next.
     Token(Expected),
@@ -200,4 +200,14 @@ pub enum Item {
     Part(Piece),
     /// What may come next in a module or not.
     May(Optional),
+}
+
+/// What a whole text is.
+#[derive(Clone, Copy)]
+pub enum Root {
+    Expr,
+    /// The bound of variables, maybe with a multiplicity word before it.
+    Bound,
+    Block,
+    Module,
 }
