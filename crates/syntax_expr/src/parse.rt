@@ -15,7 +15,6 @@ use crate::grammar::{BOUND, Grammar, expr};
 use crate::quantified::multiplicity_word;
 use crate::setting::Setting;
 use base_lists::Items;
-use base_types::limits::TREE_DEPTH;
 use base_types::{Fault, Rule};
 use std::alloc::Global;
 use syntax_tree::{
@@ -37,142 +36,153 @@ pub struct ParsedBound {
     pub next: usize,
 }
 
-/// Whether a tree of this depth is no deeper than a tree may be.
-fn is_shallow(tree: &Expr) -> bool
-    ensures { result ≡ nat_le (depth_of tree.now) TREE_DEPTH }
+/// Whether a tree of this depth is no deeper than the limit.
+fn is_shallow(tree: &Expr, limit: u16) -> bool
+    ensures { result ≡ nat_le (depth_of tree.now) limit }
 {
     let depth = depth(tree);
-    depth <= TREE_DEPTH
+    depth <= limit as u32
 }
 
-/// Whether no bound is deeper than a tree may be.
-fn are_shallow(decls: &[Decl<Expr>]) -> bool
-    ensures { result ≡ nat_le (deepest (map (λ d. depth_of d.bound) decls.now)) TREE_DEPTH }
+/// Whether no bound is deeper than the limit.
+fn are_shallow(decls: &[Decl<Expr>], limit: u16) -> bool
+    ensures { result ≡ nat_le (deepest (map (λ d. depth_of d.bound) decls.now)) limit }
 {
     let deepest = deepest_bound(decls);
-    deepest <= TREE_DEPTH
+    deepest <= limit as u32
 }
 
-fn is_value(tree: &Expr) -> bool
-    ensures { result ≡ value_right TREE_DEPTH tree.now }
+fn is_value(tree: &Expr, limit: u16) -> bool
+    ensures { result ≡ value_right limit tree.now }
 {
     let shape = shape_of(tree);
-    let shallow = is_shallow(tree);
+    let shallow = is_shallow(tree, limit);
     shape.right && shallow
 }
 
-fn is_block(tree: &Expr) -> bool
-    ensures { result ≡ block_right TREE_DEPTH tree.now }
+fn is_block(tree: &Expr, limit: u16) -> bool
+    ensures { result ≡ block_right limit tree.now }
 {
     let shape = shape_of(tree);
-    let shallow = is_shallow(tree);
+    let shallow = is_shallow(tree, limit);
     shape.right && shape.is_block && shallow
 }
 
-fn is_bound(tree: &Expr) -> bool
-    ensures { result ≡ levels.is_bound tree.now && nat_le (depth_of tree.now) TREE_DEPTH }
+fn is_bound(tree: &Expr, limit: u16) -> bool
+    ensures { result ≡ levels.is_bound tree.now && nat_le (depth_of tree.now) limit }
 {
     let shape = shape_of(tree);
-    let shallow = is_shallow(tree);
+    let shallow = is_shallow(tree, limit);
     shape.right && 10 <= shape.level && !shape.has_zero && shallow
 }
 
-fn are_decls(decls: &[Decl<Expr>]) -> bool
-    ensures { result ≡ decls_within TREE_DEPTH decls.now }
+fn are_decls(decls: &[Decl<Expr>], limit: u16) -> bool
+    ensures { result ≡ decls_within limit decls.now }
 {
     let right = decls_right(decls);
-    let shallow = are_shallow(decls);
+    let shallow = are_shallow(decls, limit);
     right && shallow
 }
 
-/// The tree, where it keeps the rules on levels and is no deeper than a tree may be. The rules of
+/// The tree, where it keeps the rules on levels and is no deeper than the limit. The rules of
 /// the grammar read no other; it is tested once more on the tree itself.
-fn checked_value(cursor: &Cursor<'_>, tree: Expr) -> Result<Expr, Fault>
+fn checked_value(cursor: &Cursor<'_>, tree: Expr, limit: u16) -> Result<Expr, Fault>
     ensures same { IfOk result (λ e. e ≡ tree) }
-    ensures right { IfOk result (λ e. IsTrue (value_right TREE_DEPTH e)) }
+    ensures right { IfOk result (λ e. IsTrue (value_right limit e)) }
 {
-    if !is_value(&tree) {
+    if !is_value(&tree, limit) {
         return Err(cursor.refuse(Rule::TooDeep));
     }
     Ok(tree)
 }
 
 /// The same for a block.
-fn checked_block(cursor: &Cursor<'_>, tree: Expr) -> Result<Expr, Fault>
+fn checked_block(cursor: &Cursor<'_>, tree: Expr, limit: u16) -> Result<Expr, Fault>
     ensures same { IfOk result (λ e. e ≡ tree) }
-    ensures right { IfOk result (λ e. IsTrue (block_right TREE_DEPTH e)) }
+    ensures right { IfOk result (λ e. IsTrue (block_right limit e)) }
 {
-    if !is_block(&tree) {
+    if !is_block(&tree, limit) {
         return Err(cursor.refuse(Rule::TooDeep));
     }
     Ok(tree)
 }
 
 /// The same for a bound.
-fn checked_bound(cursor: &Cursor<'_>, bound: Bound) -> Result<Bound, Fault>
+fn checked_bound(cursor: &Cursor<'_>, bound: Bound, limit: u16) -> Result<Bound, Fault>
     ensures same { IfOk result (λ b. b ≡ bound) }
-    ensures right { IfOk result (λ b. IsTrue (bound_right TREE_DEPTH b)) }
+    ensures right { IfOk result (λ b. IsTrue (bound_right limit b)) }
 {
-    if !is_bound(&bound.tree) {
+    if !is_bound(&bound.tree, limit) {
         return Err(cursor.refuse(Rule::TooDeep));
     }
     Ok(bound)
 }
 
 /// The same for lists of variables.
-fn checked_decls(cursor: &Cursor<'_>, decls: Items<Decl<Expr>>) -> Result<Items<Decl<Expr>>, Fault>
+fn checked_decls(
+    cursor: &Cursor<'_>,
+    decls: Items<Decl<Expr>>,
+    limit: u16,
+) -> Result<Items<Decl<Expr>>, Fault>
     ensures same { IfOk result (λ ds. ds ≡ decls) }
-    ensures right { IfOk result (λ ds. IsTrue (decls_within TREE_DEPTH ds)) }
+    ensures right { IfOk result (λ ds. IsTrue (decls_within limit ds)) }
 {
-    if !are_decls(decls.as_slice()) {
+    if !are_decls(decls.as_slice(), limit) {
         return Err(cursor.refuse(Rule::TooDeep));
     }
     Ok(decls)
 }
 
-/// The expression that comes next: one that keeps the rules on levels, of depth 250 at most.
-pub fn expr_at(alloc: Global, cursor: &mut Cursor<'_>) -> Result<Expr, Fault>
+/// The expression that comes next: one that keeps the rules on levels, whose depth is this limit at
+/// most.
+pub fn expr_at(alloc: Global, cursor: &mut Cursor<'_>, limit: u16) -> Result<Expr, Fault>
     ensures reads { Reads spelling cursor.old result cursor.new }
-    ensures right { IfOk result (λ e. IsTrue (value_right TREE_DEPTH e)) }
+    ensures right { IfOk result (λ e. IsTrue (value_right limit e)) }
 {
-    let part = expr(alloc, cursor, TREE_DEPTH + 1, 0, Setting::Alone)?;
-    checked_value(cursor, part.tree)
+    let part = expr(alloc, cursor, limit as u32 + 1, 0, Setting::Alone)?;
+    checked_value(cursor, part.tree, limit)
 }
 
-/// The block that comes next: one that keeps the rules on levels, of depth 250 at most.
-pub fn block_at(alloc: Global, cursor: &mut Cursor<'_>) -> Result<Expr, Fault>
+/// The block that comes next: one that keeps the rules on levels, whose depth is this limit at
+/// most.
+pub fn block_at(alloc: Global, cursor: &mut Cursor<'_>, limit: u16) -> Result<Expr, Fault>
     ensures reads { Reads spelling cursor.old result cursor.new }
-    ensures right { IfOk result (λ e. IsTrue (block_right TREE_DEPTH e)) }
+    ensures right { IfOk result (λ e. IsTrue (block_right limit e)) }
 {
-    let part = expr(alloc, cursor, TREE_DEPTH + 1, 0, Setting::Body)?;
-    checked_block(cursor, part.tree)
+    let part = expr(alloc, cursor, limit as u32 + 1, 0, Setting::Body)?;
+    checked_block(cursor, part.tree, limit)
 }
 
-/// The bound that comes next: one that keeps the rules on levels, of depth 250 at most.
-pub fn bound_at(alloc: Global, cursor: &mut Cursor<'_>) -> Result<Bound, Fault>
+/// The bound that comes next: one that keeps the rules on levels, whose depth is this limit at
+/// most.
+pub fn bound_at(alloc: Global, cursor: &mut Cursor<'_>, limit: u16) -> Result<Bound, Fault>
     ensures reads { Reads bound_words cursor.old result cursor.new }
-    ensures right { IfOk result (λ b. IsTrue (bound_right TREE_DEPTH b)) }
+    ensures right { IfOk result (λ b. IsTrue (bound_right limit b)) }
 {
     let place = cursor.place();
     let word = multiplicity_word(cursor);
-    let part = expr(alloc, cursor, TREE_DEPTH + 1, BOUND, Setting::Bound)?;
+    let part = expr(alloc, cursor, limit as u32 + 1, BOUND, Setting::Bound)?;
     let tree = part.tree;
-    checked_bound(cursor, Bound { place, word, tree })
+    checked_bound(cursor, Bound { place, word, tree }, limit)
 }
 
 /// One or more lists of variables with their bounds, which come next and keep the rules.
-pub fn decls_at(alloc: Global, cursor: &mut Cursor<'_>) -> Result<Items<Decl<Expr>>, Fault>
+pub fn decls_at(
+    alloc: Global,
+    cursor: &mut Cursor<'_>,
+    limit: u16,
+) -> Result<Items<Decl<Expr>>, Fault>
     ensures reads { Reads decls_spelling cursor.old result cursor.new }
-    ensures right { IfOk result (λ ds. IsTrue (decls_within TREE_DEPTH ds)) }
+    ensures right { IfOk result (λ ds. IsTrue (decls_within limit ds)) }
 {
     let (found, _) = Grammar {
         alloc,
-        depth: TREE_DEPTH + 1,
+        depth: limit as u32 + 1,
         setting: Setting::Alone,
         expr,
     }
     .decls(cursor)?;
-    checked_decls(cursor, found)
+    checked_decls(cursor, found, limit)
 }
 
 /// A cursor at this place in the list.
@@ -185,29 +195,34 @@ fn cursor_at(tokens: &[Token], from: usize) -> Cursor<'_>
 }
 
 /// The expression that begins at this place in the list.
-pub fn parse_expr(alloc: Global, tokens: &[Token], from: usize) -> Result<Parsed, Fault>
+pub fn parse_expr(alloc: Global, tokens: &[Token], from: usize, limit: u16) -> Result<Parsed, Fault>
     requires ends { EndsWell tokens.now }
     requires in_range { from < length tokens.now }
     ensures spells { IfOk result (λ p. Spells tokens.now from p.next (spelling p.tree)) }
-    ensures right { IfOk result (λ p. IsTrue (value_right TREE_DEPTH p.tree)) }
+    ensures right { IfOk result (λ p. IsTrue (value_right limit p.tree)) }
 {
     let mut cursor = cursor_at(tokens, from);
-    let tree = expr_at(alloc, &mut cursor)?;
+    let tree = expr_at(alloc, &mut cursor, limit)?;
     let next = tokens.len() - cursor.left();
     Ok(Parsed { tree, next })
 }
 
 /// The bound that begins at this place in the list.
-pub fn parse_bound(alloc: Global, tokens: &[Token], from: usize) -> Result<ParsedBound, Fault>
+pub fn parse_bound(
+    alloc: Global,
+    tokens: &[Token],
+    from: usize,
+    limit: u16,
+) -> Result<ParsedBound, Fault>
     requires ends { EndsWell tokens.now }
     requires in_range { from < length tokens.now }
     ensures spells { IfOk result (λ p. Spells tokens.now from p.next
         (multiplicity_words p.word ++ spelling p.tree)) }
     ensures right { IfOk result (λ p. IsTrue (levels.is_bound p.tree && nat_le (depth_of p.tree)
-        TREE_DEPTH)) }
+        limit)) }
 {
     let mut cursor = cursor_at(tokens, from);
-    let bound = bound_at(alloc, &mut cursor)?;
+    let bound = bound_at(alloc, &mut cursor, limit)?;
     let next = tokens.len() - cursor.left();
     Ok(ParsedBound {
         word: bound.word,
@@ -217,14 +232,19 @@ pub fn parse_bound(alloc: Global, tokens: &[Token], from: usize) -> Result<Parse
 }
 
 /// The block that begins at this place in the list.
-pub fn parse_block(alloc: Global, tokens: &[Token], from: usize) -> Result<Parsed, Fault>
+pub fn parse_block(
+    alloc: Global,
+    tokens: &[Token],
+    from: usize,
+    limit: u16,
+) -> Result<Parsed, Fault>
     requires ends { EndsWell tokens.now }
     requires in_range { from < length tokens.now }
     ensures spells { IfOk result (λ p. Spells tokens.now from p.next (spelling p.tree)) }
-    ensures right { IfOk result (λ p. IsTrue (block_right TREE_DEPTH p.tree)) }
+    ensures right { IfOk result (λ p. IsTrue (block_right limit p.tree)) }
 {
     let mut cursor = cursor_at(tokens, from);
-    let tree = block_at(alloc, &mut cursor)?;
+    let tree = block_at(alloc, &mut cursor, limit)?;
     let next = tokens.len() - cursor.left();
     Ok(Parsed { tree, next })
 }

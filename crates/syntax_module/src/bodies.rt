@@ -13,7 +13,6 @@ use crate::sig_name::sig_name;
 use crate::word::{expect_word, sees_name};
 use base_lists::Items;
 use base_types::Fault;
-use base_types::limits::TREE_DEPTH;
 use std::alloc::Global;
 use syntax_expr::{Cursor, block_at, bound_at, decls_at, expr_at};
 use syntax_tree::{
@@ -30,19 +29,24 @@ fn title(alloc: Global, cursor: &mut Cursor<'_>) -> Result<Option<Named>, Fault>
 }
 
 /// A block after this word, with a name or without one.
-pub fn claim(alloc: Global, cursor: &mut Cursor<'_>, keyword: Word) -> Result<Claim, Fault>
-    ensures right { IfOk result (λ found. IsTrue (claim_right TREE_DEPTH found)) }
+pub fn claim(
+    alloc: Global,
+    cursor: &mut Cursor<'_>,
+    limit: u16,
+    keyword: Word,
+) -> Result<Claim, Fault>
+    ensures right { IfOk result (λ found. IsTrue (claim_right limit found)) }
     ensures reads { Reads (claim_words keyword) cursor.old result cursor.new }
 {
     let place = cursor.place();
     expect_word(cursor, keyword)?;
     let name = title(alloc, cursor)?;
-    let block = block_at(alloc, cursor)?;
+    let block = block_at(alloc, cursor, limit)?;
     Ok(Claim { place, name, block })
 }
 
-fn round_parameters(alloc: Global, cursor: &mut Cursor<'_>) -> Result<Parameters, Fault>
-    ensures right { IfOk result (λ found. IsTrue (parameters_right TREE_DEPTH found)) }
+fn round_parameters(alloc: Global, cursor: &mut Cursor<'_>, limit: u16) -> Result<Parameters, Fault>
+    ensures right { IfOk result (λ found. IsTrue (parameters_right limit found)) }
     ensures reads { Reads (λ p. parameters_words (Some p)) cursor.old result cursor.new }
 {
     cursor.expect(Symbol::OpenParenthesis)?;
@@ -53,13 +57,17 @@ fn round_parameters(alloc: Global, cursor: &mut Cursor<'_>) -> Result<Parameters
             decls: Items::new(alloc),
         });
     }
-    let decls = decls_at(alloc, cursor)?;
+    let decls = decls_at(alloc, cursor, limit)?;
     cursor.expect(Symbol::CloseParenthesis)?;
     Ok(Parameters { bracket, decls })
 }
 
-fn square_parameters(alloc: Global, cursor: &mut Cursor<'_>) -> Result<Parameters, Fault>
-    ensures right { IfOk result (λ found. IsTrue (parameters_right TREE_DEPTH found)) }
+fn square_parameters(
+    alloc: Global,
+    cursor: &mut Cursor<'_>,
+    limit: u16,
+) -> Result<Parameters, Fault>
+    ensures right { IfOk result (λ found. IsTrue (parameters_right limit found)) }
     ensures reads { Reads (λ p. parameters_words (Some p)) cursor.old result cursor.new }
 {
     cursor.expect(Symbol::OpenBracket)?;
@@ -70,21 +78,25 @@ fn square_parameters(alloc: Global, cursor: &mut Cursor<'_>) -> Result<Parameter
             decls: Items::new(alloc),
         });
     }
-    let decls = decls_at(alloc, cursor)?;
+    let decls = decls_at(alloc, cursor, limit)?;
     cursor.expect(Symbol::CloseBracket)?;
     Ok(Parameters { bracket, decls })
 }
 
 /// The parameters, where a bracket comes next.
-fn parameters(alloc: Global, cursor: &mut Cursor<'_>) -> Result<Option<Parameters>, Fault>
-    ensures right { IfOk result (λ found. IsTrue (on (parameters_right TREE_DEPTH) found)) }
+fn parameters(
+    alloc: Global,
+    cursor: &mut Cursor<'_>,
+    limit: u16,
+) -> Result<Option<Parameters>, Fault>
+    ensures right { IfOk result (λ found. IsTrue (on (parameters_right limit) found)) }
     ensures reads { Reads parameters_words cursor.old result cursor.new }
 {
     if cursor.sees(Symbol::OpenBracket) {
-        return Ok(Some(square_parameters(alloc, cursor)?));
+        return Ok(Some(square_parameters(alloc, cursor, limit)?));
     }
     if cursor.sees(Symbol::OpenParenthesis) {
-        return Ok(Some(round_parameters(alloc, cursor)?));
+        return Ok(Some(round_parameters(alloc, cursor, limit)?));
     }
     Ok(None)
 }
@@ -114,8 +126,8 @@ fn receiver(alloc: Global, cursor: &mut Cursor<'_>) -> Result<Option<SigName>, F
 }
 
 /// A predicate.
-pub fn pred(alloc: Global, cursor: &mut Cursor<'_>) -> Result<Pred, Fault>
-    ensures right { IfOk result (λ found. IsTrue (pred_right TREE_DEPTH found)) }
+pub fn pred(alloc: Global, cursor: &mut Cursor<'_>, limit: u16) -> Result<Pred, Fault>
+    ensures right { IfOk result (λ found. IsTrue (pred_right limit found)) }
     ensures reads { Reads pred_words cursor.old result cursor.new }
 {
     let place = cursor.place();
@@ -123,8 +135,8 @@ pub fn pred(alloc: Global, cursor: &mut Cursor<'_>) -> Result<Pred, Fault>
     expect_word(cursor, Word::Pred)?;
     let receiver = receiver(alloc, cursor)?;
     let name = cursor.named(alloc)?;
-    let parameters = parameters(alloc, cursor)?;
-    let block = block_at(alloc, cursor)?;
+    let parameters = parameters(alloc, cursor, limit)?;
+    let block = block_at(alloc, cursor, limit)?;
     Ok(Pred {
         place,
         is_private,
@@ -136,8 +148,8 @@ pub fn pred(alloc: Global, cursor: &mut Cursor<'_>) -> Result<Pred, Fault>
 }
 
 /// A function.
-pub fn fun(alloc: Global, cursor: &mut Cursor<'_>) -> Result<Fun, Fault>
-    ensures right { IfOk result (λ found. IsTrue (fun_right TREE_DEPTH found)) }
+pub fn fun(alloc: Global, cursor: &mut Cursor<'_>, limit: u16) -> Result<Fun, Fault>
+    ensures right { IfOk result (λ found. IsTrue (fun_right limit found)) }
     ensures reads { Reads fun_words cursor.old result cursor.new }
 {
     let place = cursor.place();
@@ -145,11 +157,11 @@ pub fn fun(alloc: Global, cursor: &mut Cursor<'_>) -> Result<Fun, Fault>
     expect_word(cursor, Word::Fun)?;
     let receiver = receiver(alloc, cursor)?;
     let name = cursor.named(alloc)?;
-    let parameters = parameters(alloc, cursor)?;
+    let parameters = parameters(alloc, cursor, limit)?;
     cursor.expect(Symbol::Colon)?;
-    let result = bound_at(alloc, cursor)?;
+    let result = bound_at(alloc, cursor, limit)?;
     cursor.expect(Symbol::OpenBrace)?;
-    let value = expr_at(alloc, cursor)?;
+    let value = expr_at(alloc, cursor, limit)?;
     cursor.expect(Symbol::CloseBrace)?;
     Ok(Fun {
         place,

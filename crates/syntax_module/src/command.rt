@@ -14,7 +14,6 @@ use crate::sig_name::sig_name;
 use crate::word::{expect_word, numeral, sees_label, sees_name};
 use base_lists::Items;
 use base_types::Fault;
-use base_types::limits::TREE_DEPTH;
 use std::alloc::Global;
 use syntax_expr::{Cursor, block_at, qual_name};
 use syntax_tree::{
@@ -118,25 +117,25 @@ fn expected(cursor: &mut Cursor<'_>) -> Result<Option<u32>, Fault>
     Ok(Some(number.value))
 }
 
-fn named_subject(alloc: Global, cursor: &mut Cursor<'_>) -> Result<Subject, Fault>
-    ensures right { IfOk result (λ found. IsTrue (subject_right TREE_DEPTH found)) }
+fn named_subject(alloc: Global, cursor: &mut Cursor<'_>, limit: u16) -> Result<Subject, Fault>
+    ensures right { IfOk result (λ found. IsTrue (subject_right limit found)) }
     ensures reads { Reads subject_words cursor.old result cursor.new }
 {
     let name = qual_name(alloc, cursor)?;
-    if let Some(block) = block(alloc, cursor)? {
+    if let Some(block) = block(alloc, cursor, limit)? {
         return Ok(Subject::Labelled(name, block));
     }
     Ok(Subject::Name(name))
 }
 
-fn subject(alloc: Global, cursor: &mut Cursor<'_>) -> Result<Subject, Fault>
-    ensures right { IfOk result (λ found. IsTrue (subject_right TREE_DEPTH found)) }
+fn subject(alloc: Global, cursor: &mut Cursor<'_>, limit: u16) -> Result<Subject, Fault>
+    ensures right { IfOk result (λ found. IsTrue (subject_right limit found)) }
     ensures reads { Reads subject_words cursor.old result cursor.new }
 {
     if cursor.sees(Symbol::OpenBrace) {
-        return Ok(Subject::Block(block_at(alloc, cursor)?));
+        return Ok(Subject::Block(block_at(alloc, cursor, limit)?));
     }
-    named_subject(alloc, cursor)
+    named_subject(alloc, cursor, limit)
 }
 
 /// A name and a colon, where they come next.
@@ -164,15 +163,15 @@ fn keyword(cursor: &mut Cursor<'_>) -> Result<bool, Fault>
 }
 
 /// A command.
-pub fn command(alloc: Global, cursor: &mut Cursor<'_>) -> Result<Command, Fault>
-    ensures right { IfOk result (λ found. IsTrue (command_right TREE_DEPTH found)) }
+pub fn command(alloc: Global, cursor: &mut Cursor<'_>, limit: u16) -> Result<Command, Fault>
+    ensures right { IfOk result (λ found. IsTrue (command_right limit found)) }
     ensures reads { Reads command_words cursor.old result cursor.new }
 {
     let place = cursor.place();
     let label = label(alloc, cursor)?;
     let keyword_place = cursor.place();
     let is_check = keyword(cursor)?;
-    let subject = subject(alloc, cursor)?;
+    let subject = subject(alloc, cursor, limit)?;
     let scope = for_scope(alloc, cursor)?;
     let expected = expected(cursor)?;
     Ok(Command {

@@ -14,7 +14,6 @@ use crate::sig::{enumeration, sig};
 use crate::word::sees_private;
 use base_lists::Items;
 use base_types::Fault;
-use base_types::limits::TREE_DEPTH;
 use std::alloc::Global;
 use syntax_expr::Cursor;
 use syntax_tree::{Paragraph, Word};
@@ -30,24 +29,30 @@ fn leading(cursor: &Cursor<'_>) -> Option<Word> {
     cursor.word()
 }
 
-fn paragraph(alloc: Global, cursor: &mut Cursor<'_>) -> Result<Paragraph, Fault>
-    ensures right { IfOk result (λ found. IsTrue (paragraph_right TREE_DEPTH found)) }
+fn paragraph(alloc: Global, cursor: &mut Cursor<'_>, limit: u16) -> Result<Paragraph, Fault>
+    ensures right { IfOk result (λ found. IsTrue (paragraph_right limit found)) }
     ensures reads { Reads paragraph_words cursor.old result cursor.new }
 {
     match leading(cursor) {
         Some(Word::Enum) => Ok(Paragraph::Enum(enumeration(alloc, cursor)?)),
-        Some(Word::Fact) => Ok(Paragraph::Fact(claim(alloc, cursor, Word::Fact)?)),
-        Some(Word::Assert) => Ok(Paragraph::Assert(claim(alloc, cursor, Word::Assert)?)),
-        Some(Word::Pred) => Ok(Paragraph::Pred(pred(alloc, cursor)?)),
-        Some(Word::Fun) => Ok(Paragraph::Fun(fun(alloc, cursor)?)),
-        Some(Word::Run | Word::Check) | None => Ok(Paragraph::Command(command(alloc, cursor)?)),
-        Some(_) => Ok(Paragraph::Sig(sig(alloc, cursor)?)),
+        Some(Word::Fact) => Ok(Paragraph::Fact(claim(alloc, cursor, limit, Word::Fact)?)),
+        Some(Word::Assert) => Ok(Paragraph::Assert(claim(alloc, cursor, limit, Word::Assert)?)),
+        Some(Word::Pred) => Ok(Paragraph::Pred(pred(alloc, cursor, limit)?)),
+        Some(Word::Fun) => Ok(Paragraph::Fun(fun(alloc, cursor, limit)?)),
+        Some(Word::Run | Word::Check) | None => Ok(Paragraph::Command(command(
+            alloc, cursor, limit,
+        )?)),
+        Some(_) => Ok(Paragraph::Sig(sig(alloc, cursor, limit)?)),
     }
 }
 
 /// The paragraphs up to the end of the text.
-pub fn paragraphs(alloc: Global, cursor: &mut Cursor<'_>) -> Result<Items<Paragraph>, Fault>
-    ensures right { IfOk result (λ found. IsTrue (every (paragraph_right TREE_DEPTH) found)) }
+pub fn paragraphs(
+    alloc: Global,
+    cursor: &mut Cursor<'_>,
+    limit: u16,
+) -> Result<Items<Paragraph>, Fault>
+    ensures right { IfOk result (λ found. IsTrue (every (paragraph_right limit) found)) }
     ensures reads { Reads (λ found. joined (map paragraph_words found)) cursor.old result
         cursor.new }
 {
@@ -56,7 +61,7 @@ pub fn paragraphs(alloc: Global, cursor: &mut Cursor<'_>) -> Result<Items<Paragr
         if cursor.is_at_end() {
             break;
         }
-        let next = paragraph(alloc, cursor)?;
+        let next = paragraph(alloc, cursor, limit)?;
         found.push(next)?;
     }
     Ok(found)

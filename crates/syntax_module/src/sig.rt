@@ -14,7 +14,6 @@ ghost use Rattle.syntax_module.specs.Parts.{words_of};
 use crate::sig_name::{sig_name, sig_names};
 use crate::word::{expect_word, sees_name};
 use base_lists::Items;
-use base_types::limits::TREE_DEPTH;
 use base_types::{Fault, Rule};
 use std::alloc::Global;
 use syntax_expr::{Cursor, block_at, bound_at, declared_names};
@@ -134,8 +133,8 @@ fn field_words_at(alloc: Global, cursor: &mut Cursor<'_>) -> Result<Items<FieldW
     Ok(found)
 }
 
-fn field(alloc: Global, cursor: &mut Cursor<'_>) -> Result<Field, Fault>
-    ensures right { IfOk result (λ found. IsTrue (field_right TREE_DEPTH found)) }
+fn field(alloc: Global, cursor: &mut Cursor<'_>, limit: u16) -> Result<Field, Fault>
+    ensures right { IfOk result (λ found. IsTrue (field_right limit found)) }
     ensures reads { Reads field_words cursor.old result cursor.new }
 {
     let place = cursor.place();
@@ -143,7 +142,7 @@ fn field(alloc: Global, cursor: &mut Cursor<'_>) -> Result<Field, Fault>
     let names = declared_names(alloc, cursor)?;
     cursor.expect(Symbol::Colon)?;
     let is_disjoint = cursor.eat_word(Word::Disj);
-    let bound = bound_at(alloc, cursor)?;
+    let bound = bound_at(alloc, cursor, limit)?;
     Ok(Field {
         place,
         words,
@@ -154,14 +153,18 @@ fn field(alloc: Global, cursor: &mut Cursor<'_>) -> Result<Field, Fault>
 }
 
 /// One or more fields, and whether a comma stands after the last one.
-fn field_list(alloc: Global, cursor: &mut Cursor<'_>) -> Result<(Items<Field>, bool), Fault>
+fn field_list(
+    alloc: Global,
+    cursor: &mut Cursor<'_>,
+    limit: u16,
+) -> Result<(Items<Field>, bool), Fault>
     ensures some { IfOk result (λ found. 0 < length found.0) }
-    ensures right { IfOk result (λ found. IsTrue (every (field_right TREE_DEPTH) found.0)) }
+    ensures right { IfOk result (λ found. IsTrue (every (field_right limit) found.0)) }
     ensures reads { Reads (λ found. separated s.Comma (map field_words found.0)
         ++ optional found.1 (symbol s.Comma)) cursor.old result cursor.new }
 {
     let mut found = Items::new(alloc);
-    let first = field(alloc, cursor)?;
+    let first = field(alloc, cursor, limit)?;
     found.push(first)?;
     for _turn in 0..cursor.left() {
         if !cursor.eat(Symbol::Comma) {
@@ -170,16 +173,16 @@ fn field_list(alloc: Global, cursor: &mut Cursor<'_>) -> Result<(Items<Field>, b
         if cursor.sees(Symbol::CloseBrace) {
             return Ok((found, true));
         }
-        let next = field(alloc, cursor)?;
+        let next = field(alloc, cursor, limit)?;
         found.push(next)?;
     }
     Ok((found, false))
 }
 
 /// Fields in braces.
-fn fields(alloc: Global, cursor: &mut Cursor<'_>) -> Result<(Items<Field>, bool), Fault>
+fn fields(alloc: Global, cursor: &mut Cursor<'_>, limit: u16) -> Result<(Items<Field>, bool), Fault>
     ensures comma { IfOk result (λ found. IsTrue (comma_right found.0 found.1)) }
-    ensures right { IfOk result (λ found. IsTrue (every (field_right TREE_DEPTH) found.0)) }
+    ensures right { IfOk result (λ found. IsTrue (every (field_right limit) found.0)) }
     ensures reads { Reads (λ found. in_braces (map field_words found.0) found.1) cursor.old result
         cursor.new }
 {
@@ -187,7 +190,7 @@ fn fields(alloc: Global, cursor: &mut Cursor<'_>) -> Result<(Items<Field>, bool)
     if cursor.eat(Symbol::CloseBrace) {
         return Ok((Items::new(alloc), false));
     }
-    let found = field_list(alloc, cursor)?;
+    let found = field_list(alloc, cursor, limit)?;
     cursor.expect(Symbol::CloseBrace)?;
     Ok(found)
 }
@@ -206,19 +209,19 @@ fn parents(alloc: Global, cursor: &mut Cursor<'_>) -> Result<Parents, Fault>
 }
 
 /// A block, where one comes next.
-pub fn block(alloc: Global, cursor: &mut Cursor<'_>) -> Result<Option<Expr>, Fault>
-    ensures right { IfOk result (λ found. IsTrue (on (block_right TREE_DEPTH) found)) }
+pub fn block(alloc: Global, cursor: &mut Cursor<'_>, limit: u16) -> Result<Option<Expr>, Fault>
+    ensures right { IfOk result (λ found. IsTrue (on (block_right limit) found)) }
     ensures reads { Reads block_words cursor.old result cursor.new }
 {
     if !cursor.sees(Symbol::OpenBrace) {
         return Ok(None);
     }
-    Ok(Some(block_at(alloc, cursor)?))
+    Ok(Some(block_at(alloc, cursor, limit)?))
 }
 
 /// Sigs that are declared together.
-pub fn sig(alloc: Global, cursor: &mut Cursor<'_>) -> Result<Sig, Fault>
-    ensures right { IfOk result (λ found. IsTrue (sig_right TREE_DEPTH found)) }
+pub fn sig(alloc: Global, cursor: &mut Cursor<'_>, limit: u16) -> Result<Sig, Fault>
+    ensures right { IfOk result (λ found. IsTrue (sig_right limit found)) }
     ensures reads { Reads sig_words cursor.old result cursor.new }
 {
     let place = cursor.place();
@@ -226,8 +229,8 @@ pub fn sig(alloc: Global, cursor: &mut Cursor<'_>) -> Result<Sig, Fault>
     expect_word(cursor, Word::Sig)?;
     let names = declared_names(alloc, cursor)?;
     let parents = parents(alloc, cursor)?;
-    let (fields, has_comma) = fields(alloc, cursor)?;
-    let block = block(alloc, cursor)?;
+    let (fields, has_comma) = fields(alloc, cursor, limit)?;
+    let block = block(alloc, cursor, limit)?;
     Ok(Sig {
         place,
         qualifiers,

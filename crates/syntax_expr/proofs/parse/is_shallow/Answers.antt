@@ -5,4 +5,4 @@ use Rattle.syntax_expr.proofs.Places.{capped}
 use Rattle.syntax_expr.proofs.parse.is_shallow.Goals as goal
 
 pub returns : goal.returns
-returns c = ap (λ d. nat_le d 250) c.depth-depth.ensures ∙ capped (depth_of c.args.tree.now) 4294967295 250 (omega arith)
+returns c = ap (λ d. nat_le d c.args.limit) c.depth-depth.ensures ∙ capped (depth_of c.args.tree.now) 4294967295 c.args.limit (omega arith)

@@ -8,7 +8,7 @@ use Rattle.syntax_expr.proofs.Chains.{then_read}
 use Rattle.syntax_module.proofs.command.command.Goals as goal
 
 pub returns-clause-right : goal.returns-clause-right
-returns-clause-right c = and_from (subject_right 250 c.in_ok-subject.subject) (on scope_right c.in_ok-scope.scope) c.in_ok-subject.ensures.right c.in_ok-scope.ensures.right
+returns-clause-right c = and_from (subject_right c.args.limit c.in_ok-subject.subject) (on scope_right c.in_ok-scope.scope) c.in_ok-subject.ensures.right c.in_ok-scope.ensures.right
 
 pub returns-clause-reads : goal.returns-clause-reads
 returns-clause-reads c =

@@ -7,8 +7,8 @@ use Rattle.syntax_module.proofs.Turns.{first_right, more_right}
 use Rattle.syntax_module.proofs.sig.field_list.Goals as goal
 
 pub loop-turn-init : goal.loop-turn-init
-loop-turn-init c = first_right (field_right 250) s.Comma field_words c.in_ok-first.first _ _ _ (search rules) (search rules) (search rules)
+loop-turn-init c = first_right (field_right c.args.limit) s.Comma field_words c.in_ok-first.first _ _ _ (search rules) (search rules) (search rules)
 
 pub loop-turn-preserved : goal.loop-turn-preserved
 loop-turn-preserved c =
-    more_right (field_right 250) s.Comma field_words c.in_ok-next.next _ _ _ c.loop-turn.found (kinds c.loop-turn.cursor) (kinds c.eat.new.self) (search rules) (search rules) (search rules) (search rules) (search rules) (search rules) (search rules)
+    more_right (field_right c.args.limit) s.Comma field_words c.in_ok-next.next _ _ _ c.loop-turn.found (kinds c.loop-turn.cursor) (kinds c.eat.new.self) (search rules) (search rules) (search rules) (search rules) (search rules) (search rules) (search rules)
