@@ -1,10 +1,11 @@
 -- Why an expression is refused, and what is read of one.
-use Rattle.std.specs.Prelude.{◌≡◌, ◌⊎◌, ℕ, true, IsTrue, List, Some, slice_get}
+use Rattle.std.specs.Prelude.{◌≡◌, ◌⊎◌, ℕ, true, List, Some, slice_get}
 use Rattle.base_types.specs.declared.place.Position.{Position}
 use Rattle.base_types.specs.declared.place.Refusal.{Refusal}
 use Rattle.base_types.specs.declared.place.Rule.TheVariants.{LargeFile}
 use Rattle.syntax_tree.specs.declared.token.Token.{Token}
-use Rattle.syntax_parser.specs.Refuses.{is_of_grammar, has_token_at}
+use Rattle.syntax_machine.specs.declared.thread.Root.TheVariants as root
+use Rattle.syntax_parser.specs.Refuses.{Stops}
 use Rattle.resolve_check.specs.Kept.{IsRightValue}
 use Rattle.resolve_model.specs.Refused.{is_of_readings}
 use Rattle.core_tree.specs.Trees.{Term, term_of}
@@ -28,11 +29,9 @@ module _ (model : Model) (bits : ℕ) where
   IsReadAt first (Tree value) = IsRightValue model (term_of value) × IsValueKept model bits (term_of value) first
   IsReadAt first (Refused refusal) = RefusesSpelt first refusal
 
-  -- why tokens are refused: by a rule of the grammar, at one of them, or as what they spell
+  -- why tokens are refused: at the least of them at which no expression goes on, or as what they spell
   abbrev pub RefusesTokens : List Token → Refusal → Type 0
-  RefusesTokens tokens refusal =
-      (IsTrue (is_of_grammar refusal.rule) × IsTrue (has_token_at refusal.place tokens)) ⊎
-      ((first : Token) × (slice_get tokens 0 ≡ Some first) × RefusesSpelt first.place refusal)
+  RefusesTokens tokens refusal = Stops root.Expr tokens refusal ⊎ ((first : Token) × (slice_get tokens 0 ≡ Some first) × RefusesSpelt first.place refusal)
 
   -- what is read of tokens
   abbrev pub IsReadOf : List Token → ReadValue → Type 0

@@ -1,10 +1,13 @@
 //! The reading of the expression whose tuples are asked for, and its refusals.
 
-ghost use Rattle.std.specs.Prelude.{◌≡◌, ◌<◌, ◌≤◌, length, List, IfOk, Ok, Err};
+ghost use Rattle.std.specs.Prelude.{◌≡◌, ◌<◌, ◌≤◌, ℕ, length, List, IfOk, Ok, Err};
 ghost use Rattle.base_types.specs.declared.place.Refusal.{Refusal};
 ghost use Rattle.syntax_tree.specs.Spelling.{EndsWell};
 ghost use Rattle.syntax_tree.specs.declared.token.Token.{Token};
 ghost use Rattle.syntax_lexer.specs.Tokens.{tokens_of};
+ghost use Rattle.syntax_machine.specs.declared.thread.Root.TheVariants as root;
+ghost use Rattle.syntax_parser.specs.Refuses.{IsOfTokens};
+ghost use Rattle.core_tree.specs.declared.model.Model.{Model};
 ghost use Rattle.core_tree.specs.Trees.{term_of};
 ghost use Rattle.resolve_check.specs.Kept.{IsRightValue};
 ghost use Rattle.answer_judge.specs.Expression.{large_text, IsReadAt, IsReadOf};
@@ -17,7 +20,8 @@ use core_tree::{Expr, Model};
 use resolve_model::resolve_value;
 use std::alloc::{AllocError, Global};
 use syntax_lexer::lex;
-use syntax_parser::parse_expr;
+use syntax_machine::Root;
+use syntax_parser::{parse_expr, refuse_tokens};
 use syntax_tree::{Expr as Tree, Loaded, Token};
 
 /// What the text of an expression comes to.
@@ -33,7 +37,7 @@ pub enum ReadValue {
 /// a command.
 ///
 /// The text has this number in places. It is refused where it is longer than a module may be, where it can't be
-/// cut into tokens or they spell no expression, where a rule on names or readings is broken in it, or one on literals, on
+/// cut into tokens, at the least of these at which no expression goes on, where a rule on names or readings is broken in it, or one on literals, on
 /// past operators or on the depth of calls; the first of these counts.
 pub fn read_value(
     alloc: Global,
@@ -90,14 +94,11 @@ fn parsed(
 {
     match parse_expr(alloc, tokens, 0) {
         Ok(parsed) => {
-            let next = parsed.next;
-            let behind = next + 1;
+            let behind = parsed.next + 1;
             if behind < tokens.len() {
                 // The expression ends before the text.
-                return Ok(ReadValue::Refused(Refusal {
-                    rule: Rule::Syntax,
-                    place: tokens[next].place,
-                }));
+                let fault = refuse_tokens(alloc, Root::Expr, tokens);
+                return stopped(tokens, fault);
             }
             let first = 0;
             let place = tokens[first].place;
@@ -105,6 +106,19 @@ fn parsed(
         }
         Err(Fault::Refused(refusal)) => Ok(ReadValue::Refused(refusal)),
         Err(Fault::Memory) => Err(AllocError),
+    }
+}
+
+/// What it comes to that no expression goes along these tokens.
+fn stopped(tokens: &[Token], fault: Fault) -> Result<ReadValue, AllocError>
+    requires { IsOfTokens root.Expr tokens.now fault }
+    ensures { (model : Model) (bits : ℕ) → IfOk result (IsReadOf model bits tokens.now) }
+{
+    // for the proof: only the clauses name the tokens
+    let _ = tokens;
+    match fault {
+        Fault::Refused(refusal) => Ok(ReadValue::Refused(refusal)),
+        Fault::Memory => Err(AllocError),
     }
 }
 

@@ -10,7 +10,7 @@ use Rattle.syntax_tree.specs.ModuleRules.{module_right}
 use Rattle.syntax_tree.specs.Spelling.{kinds}
 use Rattle.syntax_places.specs.Pieces.{at_places}
 use Rattle.syntax_places.specs.ModulePieces.{module_pieces}
-use Rattle.syntax_parser.specs.Refuses.{is_of_grammar, has_token_at}
+use Rattle.syntax_parser.specs.Refuses.{BreaksTokens}
 use Rattle.syntax_lexer.specs.Tokens.{Tokens, tokens_of}
 use Rattle.answer_texts.specs.Lines.{command_text}
 use Rattle.cli_model.specs.declared.parsed.Root.{Root}
@@ -23,19 +23,15 @@ pub record Spell (tokens : List Token) (tree : Module) : Type 0 where
   pub right : IsTrue (module_right TREE_DEPTH tree)
   pub placed : IsTrue (at_places (module_pieces tree) tokens)
 
--- a refusal of tokens: by a rule of the grammar, at one of them
-abbrev pub FallsUnderGrammar : List Token → Refusal → Type 0
-FallsUnderGrammar tokens refusal = IsTrue (is_of_grammar refusal.rule) × IsTrue (has_token_at refusal.place tokens)
-
 -- what parsing these tokens comes to
 abbrev pub ParsesTo : List Token → Root → Type 0
 ParsesTo tokens (root.Module parsed) = Spell tokens parsed.tree
-ParsesTo tokens (root.Broken refusal) = FallsUnderGrammar tokens refusal
+ParsesTo tokens (root.Broken refusal) = BreaksTokens tokens refusal
 
--- the text with these tokens breaks this rule at this place; of tokens without a module it is known that the rule is one of the
--- grammar, and the place that of a token
+-- the text with these tokens breaks this rule at this place: it is that of the tokens, or that which kept it from being cut into
+-- tokens
 abbrev pub BreakIn : Tokens → Refusal → Type 0
-BreakIn (Ok tokens) refusal = FallsUnderGrammar tokens refusal
+BreakIn (Ok tokens) refusal = BreaksTokens tokens refusal
 BreakIn (Err broken) refusal = refusal ≡ broken
 
 -- the text with these tokens spells this module

@@ -1,6 +1,6 @@
 -- A refusal is in the text that it names.
-use Rattle.std.proofs.Common.{◌≡◌, ◌⊎◌, inl, inr, ℕ, zero, suc, ◌+◌, ◌<◌, ◌≤◌, List, [], ◌∷◌, ◌++◌, map, length, take, Option, Some, None, Vec, Ok, Err, IsTrue, refl, sym, ap, subst, ◌∙◌, arith, slice_get, append-nil, append_assoc}
-use Rattle.std.proofs.lemmas.List.{length-map, length-take, take_all}
+use Rattle.std.proofs.Common.{◌≡◌, ℕ, zero, suc, ◌+◌, List, [], ◌∷◌, ◌++◌, map, length, take, Option, Some, None, Vec, refl, sym, ap, subst, ◌∙◌, arith, slice_get, append-nil, append_assoc}
+use Rattle.std.proofs.lemmas.List.{length-take}
 use Rattle.std.proofs.lemmas.Option.{none-some, same_Some}
 use Rattle.std.specs.Prelude.{option_map, min}
 use Rattle.std.specs.declared.alloc.Global.{Global}
@@ -10,24 +10,20 @@ use Rattle.base_types.specs.declared.place.Position.{Position}
 use Rattle.base_types.specs.declared.place.Refusal.{Refusal}
 use Rattle.base_types.specs.declared.place.Rule.{Rule}
 use Rattle.base_types.specs.declared.place.Rule.TheVariants as rule
-use Rattle.syntax_lexer.specs.Tokens.{tokens_of}
 use Rattle.syntax_tree.specs.declared.instance.Text.{Text}
 use Rattle.syntax_tree.specs.declared.module.Module.{Module}
-use Rattle.syntax_tree.specs.declared.token.Token.{Token}
-use Rattle.syntax_parser.specs.Refuses.{has_token_at, is_of_grammar}
 use Rattle.load_state.specs.Causes.{IsRefusal, IsUnread}
 use Rattle.load_state.specs.Keys.{texts_of, text_of_key, text_at}
 use Rattle.load_state.specs.Opens.{IsOpenPlace, IsPlaceOf}
 use Rattle.load_state.specs.Places.{IsPlacedIn, IsInText}
-use Rattle.load_state.specs.Refusals.{start_of, refusal_at}
+use Rattle.load_state.specs.Refusals.{start_of}
 use Rattle.load_state.specs.declared.fault.LoadFault.{LoadFault}
 use Rattle.load_state.specs.declared.fault.LoadFault.TheVariants.{Refused, Read, Memory}
 use Rattle.load_state.specs.declared.loading.Key.{Key}
 use Rattle.load_state.specs.declared.loading.Loading.{Loading}
 use Rattle.load_state.specs.declared.source.Source.{Source}
-use Rattle.load_modules.specs.Reading.{IsModuleOf}
-use Rattle.load_modules.specs.Refused.{IsOfBytes, large, uncut, at_token, IsInRoot, at_open, at_start, IsPlaced, in_root, of_bytes, of_opens, IsOfText, Refuses, RefusesTree, RefusesGiven, RefusesTold}
-use Rattle.load_modules.specs.Told.{IsFront, IsModuleUnder, AreTold, Knows, Keeps, Learns, LearnsPath, IsTaken, IsGrown, texts_in}
+use Rattle.load_modules.specs.Refused.{IsOfBytes, large, uncut, at_token, at_open, at_start, IsPlaced, in_root, of_bytes, of_opens, IsOfText, Refuses}
+use Rattle.load_modules.specs.Told.{IsFront, AreTold, Keeps, Learns, LearnsPath, IsTaken, IsGrown}
 use Rattle.load_modules.proofs.Known.{whole, keeps_learnt, keeps_path, keeps_same}
 
 -- what a front breaks by itself its text breaks too
@@ -36,8 +32,8 @@ in_full front full number r is (large many same) =
     let count : length front ≡ min (MODULE_BYTES + 1) (length full) = ap length is ∙ length-take (MODULE_BYTES + 1) full in
     large (omega (arith, count, many)) same
 in_full front full number r is (uncut small broken) = subst (λ (b : List ℕ). IsOfBytes b number r) (sym (whole MODULE_BYTES front full is small)) (uncut small broken)
-in_full front full number r is (at_token tokens small cut rule_of here) =
-    subst (λ (b : List ℕ). IsOfBytes b number r) (sym (whole MODULE_BYTES front full is small)) (at_token tokens small cut rule_of here)
+in_full front full number r is (at_token tokens small cut breaks) =
+    subst (λ (b : List ℕ). IsOfBytes b number r) (sym (whole MODULE_BYTES front full is small)) (at_token tokens small cut breaks)
 
 -- the text of a front
 full_of : (held : Option (List ℕ)) (front : List ℕ) → Some front ≡ option_map (take (MODULE_BYTES + 1)) held → (full : List ℕ) × (held ≡ Some full) × (front ≡ take (MODULE_BYTES + 1) full)

@@ -1,30 +1,23 @@
 -- The order of the walk over opens, the labels that it gives, and its first refusal. A point of
 -- the walk is a list of numbers, and points are passed in the order of such lists, as words are in
 -- a dictionary.
-use Rattle.std.specs.Prelude.{◌≡◌, ◌≢◌, ◌⊎◌, ℕ, suc, ◌+◌, ◌<◌, ◌≤◌, List, [], ◌∷◌, ◌++◌, map, take, length, slice_get, Option, Some, None, Ok, Err, IsTrue, codes, decimal, ⊤}
+use Rattle.std.specs.Prelude.{◌≡◌, ◌≢◌, ℕ, ◌+◌, ◌<◌, ◌≤◌, List, [], ◌∷◌, ◌++◌, length, slice_get, Some, None, codes, decimal, ⊤}
 use Rattle.std.specs.List.{AllPairs}
 use Rattle.base_types.specs.Texts.{Texts, text_of}
-use Rattle.base_types.specs.declared.limits.TheConstants.{MODULE_BYTES, MODULE_INSTANCES, TREE_DEPTH}
-use Rattle.base_types.specs.declared.place.Position.{Position}
+use Rattle.base_types.specs.declared.limits.TheConstants.{MODULE_INSTANCES}
 use Rattle.base_types.specs.declared.place.Refusal.{Refusal}
-use Rattle.base_types.specs.declared.place.Rule.{Rule}
 use Rattle.base_types.specs.declared.place.Rule.TheVariants as rule
-use Rattle.syntax_lexer.specs.Tokens.{tokens_of}
 use Rattle.syntax_tree.specs.Instances.{parameter_count}
-use Rattle.syntax_tree.specs.ModuleRules.{module_right}
-use Rattle.syntax_tree.specs.ModuleWords.{module_words}
-use Rattle.syntax_tree.specs.Spelling.{kinds}
 use Rattle.syntax_tree.specs.declared.expr.Named.{Named}
 use Rattle.syntax_tree.specs.declared.expr.QualName.{QualName}
 use Rattle.syntax_tree.specs.declared.module.Module.{Module}
 use Rattle.syntax_tree.specs.declared.module.Open.{Open}
 use Rattle.syntax_tree.specs.declared.module.SigName.TheVariants as sig_name
-use Rattle.syntax_tree.specs.declared.token.Token.{Token}
-use Rattle.syntax_tree.specs.declared.token.TokenKind.{TokenKind}
 use Rattle.load_state.specs.Opens.{Opening, written, implied, alias_of, path_of, place_of}
 use Rattle.load_state.specs.Refusals.{start_of, refusal_at}
 use Rattle.load_modules.specs.Told.{near_name, far_name, IsAbsent, IsFound, IsModuleUnder}
-use Rattle.load_modules.specs.Instances.{Given, given, Arguments, nothing, sig_and, Candidate, text_of_given, HasTree, Asks, Leads, Names}
+use Rattle.load_modules.specs.Refused.{IsOfBytes}
+use Rattle.load_modules.specs.Instances.{Given, given, Arguments, nothing, Candidate, text_of_given, HasTree, Asks, Leads, Names}
 
 abbrev pub Point : Type 0
 Point = List ℕ
@@ -34,23 +27,6 @@ pub data Before : Point → Point → Type 0 where
   shorter : (n : ℕ) (rest : Point) → Before [] (n ∷ rest)
   lower : (a b : ℕ) (x y : Point) → a < b → Before (a ∷ x) (b ∷ y)
   further : (n : ℕ) (x y : Point) → Before x y → Before (n ∷ x) (n ∷ y)
-
--- some module, of any depth or within one, begins with these words
-abbrev pub Begins : ℕ → List TokenKind → Type 0
-Begins depth words = (m : Module) × (rest : List TokenKind) × IsTrue (module_right depth m) × (module_words m ≡ words ++ rest)
-
-abbrev pub BeginsSome : List TokenKind → Type 0
-BeginsSome words = (depth : ℕ) × Begins depth words
-
--- what a text breaks by itself, in the order in which it is asked
-pub data BreaksText (bytes : List ℕ) (number : ℕ) : Refusal → Type 0 where
-  large : MODULE_BYTES < length bytes → BreaksText bytes number (refusal_at rule.LargeFile (start_of number))
-  byte : (r : Refusal) → length bytes ≤ MODULE_BYTES → tokens_of number bytes ≡ Err r → BreaksText bytes number r
-  no_tree : (tokens : List Token) (n : ℕ) (t : Token) → length bytes ≤ MODULE_BYTES → tokens_of number bytes ≡ Ok tokens → slice_get tokens n ≡ Some t →
-      Begins TREE_DEPTH (take n (kinds tokens)) → (BeginsSome (take (suc n) (kinds tokens)) → ⊥) → BreaksText bytes number (refusal_at rule.Syntax t.place)
-  deep : (tokens : List Token) (n : ℕ) (t : Token) → length bytes ≤ MODULE_BYTES → tokens_of number bytes ≡ Ok tokens → slice_get tokens n ≡ Some t →
-      Begins TREE_DEPTH (take n (kinds tokens)) → BeginsSome (take (suc n) (kinds tokens)) → (Begins TREE_DEPTH (take (suc n) (kinds tokens)) → ⊥) →
-      BreaksText bytes number (refusal_at rule.TooDeep t.place)
 
 abbrev pub argument_count : Opening → ℕ
 argument_count (written o) = length o.arguments
@@ -118,7 +94,7 @@ module _ (told : List Texts) (root : List ℕ) (tree : Module) where
         IsAbsent told root (near_name root (path_of asked)) → IsAbsent told root (far_name (path_of asked)) →
         IsBroken (p ++ k ∷ 3 ∷ []) (refusal_at rule.NoModule (place_of asked)) (text_of_given i)
     text_breaks : (p : Point) (i : Given) (way text bytes : List ℕ) (k number : ℕ) (asked : Opening) (r : Refusal) → StandsAt p i way → Asks told root tree i k asked →
-        IsFound told root (path_of asked) text → text ≢ root → text_of told text ≡ Some bytes → BreaksText bytes number r → IsBroken (p ++ k ∷ 4 ∷ []) r text
+        IsFound told root (path_of asked) text → text ≢ root → text_of told text ≡ Some bytes → IsOfBytes bytes number r → IsBroken (p ++ k ∷ 4 ∷ []) r text
     arguments : (p : Point) (i : Given) (way text : List ℕ) (k : ℕ) (asked : Opening) (m : Module) → StandsAt p i way → Asks told root tree i k asked →
         IsFound told root (path_of asked) text → HasTree told root tree (given text nothing) m → argument_count asked ≢ parameter_count m →
         IsBroken (p ++ k ∷ 7 ∷ []) (refusal_at rule.ModuleArguments (place_of asked)) (text_of_given i)
@@ -128,7 +104,7 @@ module _ (told : List Texts) (root : List ℕ) (tree : Module) where
         IsBroken (p ++ k ∷ 8 ∷ []) (refusal_at rule.TooManyModules (place_of asked)) (text_of_given i)
     root_parameters : parameter_count tree ≢ 0 → IsBroken (0 ∷ []) (refusal_at rule.ModuleArguments (start_of 0)) root
     integers_break : (text bytes : List ℕ) (number : ℕ) (r : Refusal) → IsFound told root (codes "util/integer") text → text ≢ root → text_of told text ≡ Some bytes →
-        BreaksText bytes number r → IsBroken (2 ∷ 4 ∷ []) r text
+        IsOfBytes bytes number r → IsBroken (2 ∷ 4 ∷ []) r text
     integers_parameters : (text : List ℕ) (m : Module) → IsFound told root (codes "util/integer") text → HasTree told root tree (given text nothing) m → parameter_count m ≢ 0 →
         IsBroken (2 ∷ 7 ∷ []) (refusal_at rule.ModuleArguments (start_of 0)) root
 
@@ -141,5 +117,5 @@ module _ (told : List Texts) (root : List ℕ) (tree : Module) where
 -- what `load` refuses: there is no root, or its text breaks a rule by itself, or the walk has a first refusal
 pub data RefusesLoad (told : List Texts) (root : List ℕ) : Refusal → List ℕ → Type 0 where
   no_root : text_of told root ≡ None → RefusesLoad told root (refusal_at rule.NoModule (start_of 0)) root
-  root_breaks : (bytes : List ℕ) (r : Refusal) → text_of told root ≡ Some bytes → BreaksText bytes 0 r → RefusesLoad told root r root
+  root_breaks : (bytes : List ℕ) (r : Refusal) → text_of told root ≡ Some bytes → IsOfBytes bytes 0 r → RefusesLoad told root r root
   in_the_walk : (tree : Module) (r : Refusal) (text : List ℕ) → IsModuleUnder told root 0 tree → IsFirstRefusal told root tree r text → RefusesLoad told root r text

@@ -1,5 +1,5 @@
 -- Where the refusals of loading stand: in which text, and at which of its places.
-use Rattle.std.specs.Prelude.{◌≡◌, ◌⊎◌, ℕ, ◌<◌, ◌≤◌, List, map, length, Option, Some, None, Ok, Err, IsTrue}
+use Rattle.std.specs.Prelude.{◌≡◌, ◌⊎◌, ℕ, ◌<◌, ◌≤◌, List, map, length, Option, Some, None, Ok, Err}
 use Rattle.base_types.specs.Texts.{Texts, text_of}
 use Rattle.base_types.specs.declared.limits.TheConstants.{MODULE_BYTES}
 use Rattle.base_types.specs.declared.place.Refusal.{Refusal}
@@ -8,7 +8,7 @@ use Rattle.syntax_lexer.specs.Tokens.{tokens_of}
 use Rattle.syntax_tree.specs.declared.module.Module.{Module}
 use Rattle.syntax_tree.specs.declared.instance.Text.{Text}
 use Rattle.syntax_tree.specs.declared.token.Token.{Token}
-use Rattle.syntax_parser.specs.Refuses.{has_token_at, is_of_grammar}
+use Rattle.syntax_parser.specs.Refuses.{BreaksTokens}
 use Rattle.load_state.specs.Opens.{IsOpenPlace}
 use Rattle.load_state.specs.Refusals.{start_of, refusal_at}
 use Rattle.load_state.specs.declared.fault.LoadFault.{LoadFault}
@@ -17,12 +17,11 @@ use Rattle.load_state.specs.declared.loading.Loading.{Loading}
 use Rattle.load_modules.specs.Reading.{IsModuleOf}
 use Rattle.load_modules.specs.Told.{IsModuleUnder, Knows}
 
--- what the bytes of a text break by themselves: they are too many, or have no tokens, or the refusal is at one of their tokens
+-- what the bytes of a text break by themselves: they are too many, or have no tokens, or their tokens break it
 pub data IsOfBytes (bytes : List ℕ) (number : ℕ) (r : Refusal) : Type 0 where
   large : MODULE_BYTES < length bytes → r ≡ refusal_at rule.LargeFile (start_of number) → IsOfBytes bytes number r
   uncut : length bytes ≤ MODULE_BYTES → tokens_of number bytes ≡ Err r → IsOfBytes bytes number r
-  at_token : (tokens : List Token) → length bytes ≤ MODULE_BYTES → tokens_of number bytes ≡ Ok tokens → IsTrue (is_of_grammar r.rule) → IsTrue (has_token_at r.place tokens) →
-      IsOfBytes bytes number r
+  at_token : (tokens : List Token) → length bytes ≤ MODULE_BYTES → tokens_of number bytes ≡ Ok tokens → BreaksTokens tokens r → IsOfBytes bytes number r
 
 -- in the root, for whose tree this holds: at one of its opens, or at its start
 pub data IsInRoot (is_root : Module → Type 0) (r : Refusal) : Type 0 where
@@ -48,7 +47,7 @@ IsUncut bytes number text (Read name) = ⊥
 IsUncut bytes number text Memory = Unit {0}
 
 unfoldable pub IsAtToken : List Token → List ℕ → LoadFault → Type 0
-IsAtToken tokens text (Refused refusal name) = (name ≡ text) × IsTrue (is_of_grammar refusal.rule) × IsTrue (has_token_at refusal.place tokens)
+IsAtToken tokens text (Refused refusal name) = (name ≡ text) × BreaksTokens tokens refusal
 IsAtToken tokens text (Read name) = ⊥
 IsAtToken tokens text Memory = Unit {0}
 

@@ -1,5 +1,5 @@
 //! Cuts a text into tokens, and parses it.
-#![tactic(auto, using(load_state::proofs::Faults::refusal_is_quiet, load_state::proofs::Faults::memory_is_quiet, crate::proofs::Broken::uncut_quiet, crate::proofs::Broken::uncut_refused, crate::proofs::Broken::uncut_memory, crate::proofs::Broken::token_refused))]
+#![tactic(auto, using(load_state::proofs::Faults::refusal_is_quiet, load_state::proofs::Faults::memory_is_quiet, crate::proofs::Broken::uncut_quiet, crate::proofs::Broken::uncut_refused, crate::proofs::Broken::uncut_memory))]
 
 ghost use Rattle.std.specs.Prelude.{◌≡◌, ◌<◌, ◌≤◌, ◌^◌, length, IfOk, IfErr, IsTrue, Ok};
 ghost use Rattle.syntax_tree.specs.Instances.{literals_of};
@@ -8,10 +8,10 @@ ghost use Rattle.syntax_tree.specs.ModuleRules.{module_right};
 ghost use Rattle.syntax_tree.specs.ModuleWords.{module_words};
 ghost use Rattle.syntax_tree.specs.Spelling.{kinds, EndsWell};
 ghost use Rattle.load_state.specs.Causes.{IsQuietFault};
-ghost use Rattle.load_state.specs.Refusals.{is_of_loading};
 ghost use Rattle.load_modules.specs.Reading.{IsModuleOf};
 ghost use Rattle.load_modules.specs.Refused.{IsOfText, IsAtToken, IsUncut};
-ghost use Rattle.syntax_parser.specs.Refuses.{is_of_grammar};
+ghost use Rattle.syntax_machine.specs.declared.thread.Root.TheVariants as root;
+ghost use Rattle.syntax_parser.specs.Refuses.{IsOfTokens};
 ghost use Rattle.syntax_places.specs.ModulePieces.{module_pieces};
 ghost use Rattle.syntax_places.specs.Pieces.{at_places};
 ghost use Rattle.base_types.specs.declared.limits.TheConstants.{TREE_DEPTH};
@@ -78,7 +78,7 @@ fn tokens_of(alloc: Global, number: u32, name: &str, bytes: &[u8]) -> Result<Vec
 }
 
 /// The tree of a text.
-#[tactic(auto, using(load_state::proofs::Heavy::few_literals, crate::proofs::Broken::token_memory, crate::proofs::Broken::token_refused, load_state::proofs::Faults::refusal_is_quiet, load_state::proofs::Faults::memory_is_quiet))]
+#[tactic(auto, using(load_state::proofs::Heavy::few_literals))]
 fn tree_of(alloc: Global, name: &str, tokens: &[Token]) -> Result<Module, LoadFault>
     requires { EndsWell tokens.now }
     ensures few { IfOk result (λ tree. length (literals_of tree) ≤ length tokens.now) }
@@ -90,20 +90,21 @@ fn tree_of(alloc: Global, name: &str, tokens: &[Token]) -> Result<Module, LoadFa
 {
     match parse_module(alloc, tokens) {
         Ok(tree) => Ok(tree),
-        Err(Fault::Refused(refusal)) => {
-            Err(refused(alloc, rule_of_tokens(refusal.rule), refusal.place, name))
-        }
-        Err(Fault::Memory) => Err(LoadFault::Memory),
+        Err(fault) => Err(unparsed(alloc, name, tokens, fault)),
     }
 }
 
-/// The rule that a token breaks: one of the two that tokens can break.
-fn rule_of_tokens(rule: Rule) -> Rule
-    ensures loads { IsTrue (is_of_loading result) }
-    ensures grammar { IsTrue (is_of_grammar result) }
+/// Why a text has no tree.
+#[tactic(auto, using(crate::proofs::Broken::token_memory, load_state::proofs::Faults::memory_is_quiet))]
+fn unparsed(alloc: Global, name: &str, tokens: &[Token], fault: Fault) -> LoadFault
+    requires { IsOfTokens root.Module tokens.now fault }
+    ensures refused { IsAtToken tokens.now name.now result }
+    ensures quiet { IsQuietFault result }
 {
-    match rule {
-        Rule::TooDeep => rule,
-        _ => Rule::Syntax,
+    // for the proof: only the clauses name the tokens
+    let _ = tokens;
+    match fault {
+        Fault::Refused(refusal) => refused(alloc, refusal.rule, refusal.place, name),
+        Fault::Memory => LoadFault::Memory,
     }
 }

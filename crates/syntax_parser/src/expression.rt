@@ -8,6 +8,7 @@ ghost use Rattle.syntax_tree.specs.Depth.{depth_of};
 ghost use Rattle.syntax_tree.specs.ModuleRules.{value_right, block_right};
 ghost use Rattle.syntax_places.specs.Pieces.{pieces, worded_pieces, at_places};
 ghost use Rattle.syntax_expr.specs.Reads.{Spells};
+ghost use Rattle.syntax_machine.specs.declared.thread.Root.TheVariants as root;
 ghost use Rattle.syntax_parser.specs.Refuses.{IsOfTokens};
 
 use crate::refused::fault_from;
@@ -15,19 +16,22 @@ use base_types::Fault;
 use base_types::limits::TREE_DEPTH;
 use std::alloc::Global;
 use syntax_expr::{Parsed, ParsedBound};
+use syntax_machine::Root;
 use syntax_places::{has_bound_places, has_places};
 use syntax_tree::Token;
 
 /// The tree, where each of its places is that of its token. The rules of the parser keep no other
 /// place; it is tested once more on the tree itself.
-fn placed(tokens: &[Token], from: usize, parsed: Parsed) -> Result<Parsed, Fault>
+fn placed(kind: Root, tokens: &[Token], from: usize, parsed: Parsed) -> Result<Parsed, Fault>
     requires order { from ≤ parsed.next }
     requires within { parsed.next < length tokens.now }
     ensures same { IfOk result (λ p. p ≡ parsed) }
     ensures placed { IfOk result (λ p. IsTrue (at_places (pieces p.tree)
         (take (p.next - from) (drop from tokens.now)))) }
-    ensures refused { IfErr result (λ e. IsOfTokens (drop from tokens.now) e) }
+    ensures refused { IfErr result (λ e. IsOfTokens kind (drop from tokens.now) e) }
 {
+    // for the proof: only a clause names the kind
+    let _ = kind;
     if !has_places(&parsed.tree, &tokens[from..parsed.next]) {
         return Err(Fault::Memory);
     }
@@ -41,7 +45,7 @@ fn placed_bound(tokens: &[Token], from: usize, parsed: ParsedBound) -> Result<Pa
     ensures same { IfOk result (λ p. p ≡ parsed) }
     ensures placed { IfOk result (λ p. IsTrue (at_places (worded_pieces p.word p.tree)
         (take (p.next - from) (drop from tokens.now)))) }
-    ensures refused { IfErr result (λ e. IsOfTokens (drop from tokens.now) e) }
+    ensures refused { IfErr result (λ e. IsOfTokens root.Bound (drop from tokens.now) e) }
 {
     if !has_bound_places(parsed.word, &parsed.tree, &tokens[from..parsed.next]) {
         return Err(Fault::Memory);
@@ -53,7 +57,8 @@ fn placed_bound(tokens: &[Token], from: usize, parsed: ParsedBound) -> Result<Pa
 /// depth 250 at most, and keeps the places of its tokens.
 ///
 /// # Errors
-/// `Refused` under `Syntax` or `TooDeep` at a token of the list, or `Memory`.
+/// `Refused` at a token such that no expression begins with the tokens from this place up to it:
+/// none at all under `Syntax`, none within the limit of depth under `TooDeep`. Or `Memory`.
 pub fn parse_expr(alloc: Global, tokens: &[Token], from: usize) -> Result<Parsed, Fault>
     requires ends { EndsWell tokens.now }
     requires in_range { from < length tokens.now }
@@ -61,11 +66,11 @@ pub fn parse_expr(alloc: Global, tokens: &[Token], from: usize) -> Result<Parsed
     ensures placed { IfOk result (λ p. IsTrue (at_places (pieces p.tree)
         (take (p.next - from) (drop from tokens.now)))) }
     ensures right { IfOk result (λ p. IsTrue (value_right TREE_DEPTH p.tree)) }
-    ensures refused { IfErr result (λ e. IsOfTokens (drop from tokens.now) e) }
+    ensures refused { IfErr result (λ e. IsOfTokens root.Expr (drop from tokens.now) e) }
 {
-    match syntax_expr::parse_expr(alloc, tokens, from) {
-        Ok(parsed) => placed(tokens, from, parsed),
-        Err(fault) => Err(fault_from(tokens, from, fault)),
+    match syntax_expr::parse_expr(alloc, tokens, from, TREE_DEPTH as u16) {
+        Ok(parsed) => placed(Root::Expr, tokens, from, parsed),
+        Err(fault) => Err(fault_from(alloc, Root::Expr, tokens, from, fault)),
     }
 }
 
@@ -73,7 +78,8 @@ pub fn parse_expr(alloc: Global, tokens: &[Token], from: usize) -> Result<Parsed
 /// 250 at most, and keeps the places of its tokens.
 ///
 /// # Errors
-/// `Refused` under `Syntax` or `TooDeep` at a token of the list, or `Memory`.
+/// `Refused` at a token such that no bound begins with the tokens from this place up to it:
+/// none at all under `Syntax`, none within the limit of depth under `TooDeep`. Or `Memory`.
 pub fn parse_bound(alloc: Global, tokens: &[Token], from: usize) -> Result<ParsedBound, Fault>
     requires ends { EndsWell tokens.now }
     requires in_range { from < length tokens.now }
@@ -83,11 +89,11 @@ pub fn parse_bound(alloc: Global, tokens: &[Token], from: usize) -> Result<Parse
         (take (p.next - from) (drop from tokens.now)))) }
     ensures right { IfOk result (λ p. IsTrue (levels.is_bound p.tree && nat_le (depth_of p.tree)
         TREE_DEPTH)) }
-    ensures refused { IfErr result (λ e. IsOfTokens (drop from tokens.now) e) }
+    ensures refused { IfErr result (λ e. IsOfTokens root.Bound (drop from tokens.now) e) }
 {
-    match syntax_expr::parse_bound(alloc, tokens, from) {
+    match syntax_expr::parse_bound(alloc, tokens, from, TREE_DEPTH as u16) {
         Ok(parsed) => placed_bound(tokens, from, parsed),
-        Err(fault) => Err(fault_from(tokens, from, fault)),
+        Err(fault) => Err(fault_from(alloc, Root::Bound, tokens, from, fault)),
     }
 }
 
@@ -95,7 +101,8 @@ pub fn parse_bound(alloc: Global, tokens: &[Token], from: usize) -> Result<Parse
 /// 250 at most, and keeps the places of its tokens.
 ///
 /// # Errors
-/// `Refused` under `Syntax` or `TooDeep` at a token of the list, or `Memory`.
+/// `Refused` at a token such that no block begins with the tokens from this place up to it:
+/// none at all under `Syntax`, none within the limit of depth under `TooDeep`. Or `Memory`.
 pub fn parse_block(alloc: Global, tokens: &[Token], from: usize) -> Result<Parsed, Fault>
     requires ends { EndsWell tokens.now }
     requires in_range { from < length tokens.now }
@@ -103,10 +110,10 @@ pub fn parse_block(alloc: Global, tokens: &[Token], from: usize) -> Result<Parse
     ensures placed { IfOk result (λ p. IsTrue (at_places (pieces p.tree)
         (take (p.next - from) (drop from tokens.now)))) }
     ensures right { IfOk result (λ p. IsTrue (block_right TREE_DEPTH p.tree)) }
-    ensures refused { IfErr result (λ e. IsOfTokens (drop from tokens.now) e) }
+    ensures refused { IfErr result (λ e. IsOfTokens root.Block (drop from tokens.now) e) }
 {
-    match syntax_expr::parse_block(alloc, tokens, from) {
-        Ok(parsed) => placed(tokens, from, parsed),
-        Err(fault) => Err(fault_from(tokens, from, fault)),
+    match syntax_expr::parse_block(alloc, tokens, from, TREE_DEPTH as u16) {
+        Ok(parsed) => placed(Root::Block, tokens, from, parsed),
+        Err(fault) => Err(fault_from(alloc, Root::Block, tokens, from, fault)),
     }
 }

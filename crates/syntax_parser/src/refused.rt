@@ -1,56 +1,141 @@
-//! A parser refuses a token of its list, under a rule of the grammar, or memory was wanting.
+//! What the parsers refuse: the least token at which no text goes on.
 
-ghost use Rattle.std.specs.Prelude.{◌≡◌, ◌<◌, length, drop};
-ghost use Rattle.syntax_places.specs.Pieces.{same_place};
-ghost use Rattle.syntax_parser.specs.Refuses.{has_token_at, is_of_grammar, IsOfTokens};
+ghost use Rattle.std.specs.Prelude.{◌≡◌, ◌<◌, ◌+◌, length, drop, take, IfOk, IfSome, IsTrue, None, Some};
+ghost use Rattle.syntax_tree.specs.Spelling.{kinds};
+ghost use Rattle.syntax_machine.specs.Deaths.{NoneBegins};
+ghost use Rattle.syntax_parser.specs.Begins.{Begins};
+ghost use Rattle.syntax_parser.specs.Refuses.{is_of_grammar, AccordsWith, Stops, IsOfTokens};
 
-use base_types::{Fault, Position, Rule};
+use crate::front::begins;
+use base_types::limits::TREE_DEPTH;
+use base_types::{Fault, Refusal, Rule};
+use std::alloc::{AllocError, Global};
+use syntax_machine::{Root, first_death};
 use syntax_tree::Token;
 
-fn same_place(a: Position, b: Position) -> bool
-    ensures { result ≡ same_place a b }
+/// The refusal of a token.
+fn refusal_at(kind: Root, tokens: &[Token], number: usize, rule: Rule) -> Refusal
+    requires within { number < length tokens.now }
+    requires begins { Begins kind TREE_DEPTH (take number (kinds tokens.now)) }
+    requires ends { Begins kind TREE_DEPTH (take (number + 1) (kinds tokens.now)) → ⊥ }
+    requires grammar { IsTrue (is_of_grammar rule) }
+    requires accords { AccordsWith rule kind (take (number + 1) (kinds tokens.now)) }
+    ensures { Stops kind tokens.now result }
 {
-    a.module == b.module && a.line == b.line && a.column == b.column
+    // for the proof: only the clauses name the kind
+    let _ = kind;
+    let token = &tokens[number];
+    Refusal {
+        rule,
+        place: token.place,
+    }
 }
 
-/// Whether some token has this place.
-fn has_token_at(place: Position, tokens: &[Token]) -> bool
-    ensures { result ≡ has_token_at place tokens.now }
-{
-    tokens.iter().any(|token| same_place(place, token.place))
-}
+/// How deep texts may be that show that one goes on past the limit of depth.
+const DEEPER: u16 = 500;
 
-/// Whether the rule is one of the two that the grammar has.
-fn is_of_grammar(rule: Rule) -> bool
-    ensures { result ≡ is_of_grammar rule }
+/// Whether it is the death of the token of this number.
+fn is_at(death: Option<usize>, number: usize) -> bool
+    ensures { IsTrue result → death ≡ Some number }
 {
-    matches!(rule, Rule::Syntax | Rule::TooDeep)
-}
-
-/// A fault in reading these tokens. The rules of the parser refuse nothing but tokens of the list,
-/// under a rule of the grammar; that is tested once more on the list itself, and where it did not
-/// hold the fault would be `Memory`.
-pub fn of_tokens(fault: Fault, tokens: &[Token]) -> Fault
-    ensures { IsOfTokens tokens.now result }
-{
-    match fault {
-        Fault::Memory => Fault::Memory,
-        Fault::Refused(refusal) => {
-            let of_grammar = is_of_grammar(refusal.rule);
-            let at_token = has_token_at(refusal.place, tokens);
-            if of_grammar && at_token {
-                return Fault::Refused(refusal);
+    match death {
+        None => false,
+        Some(first) => {
+            if first == number {
+                return true;
             }
-            Fault::Memory
+            false
         }
     }
 }
 
+/// The rule that this token breaks, at which no text within the limit of depth goes on: `Syntax`
+/// where none of any depth does. There is none where a deeper text may, but none was found.
+fn rule_of(
+    alloc: Global,
+    kind: Root,
+    tokens: &[Token],
+    number: usize,
+) -> Result<Option<Rule>, AllocError>
+    requires { number < length tokens.now }
+    ensures grammar { IfOk result (λ o. IfSome o (λ rule. IsTrue (is_of_grammar rule))) }
+    ensures accords { IfOk result (λ o. IfSome o (λ rule. AccordsWith rule kind
+        (take (number + 1) (kinds tokens.now)))) }
+{
+    let (front, _) = tokens.split_at(number + 1);
+    let death = first_death(alloc, front, kind, None)?;
+    if is_at(death, number) {
+        return Ok(Some(Rule::Syntax));
+    }
+    let found = begins(alloc, kind, front, DEEPER)?;
+    if !found {
+        return Ok(None);
+    }
+    Ok(Some(Rule::TooDeep))
+}
+
+/// The refusal of this token, at which no text within the limit of depth goes on. There is none
+/// where no text was found that begins with the tokens before it.
+fn refusal_behind(
+    alloc: Global,
+    kind: Root,
+    tokens: &[Token],
+    number: usize,
+) -> Result<Option<Refusal>, AllocError>
+    requires within { number < length tokens.now }
+    requires none { NoneBegins kind (Some TREE_DEPTH) (take (number + 1) (kinds tokens.now)) }
+    ensures { IfOk result (λ o. IfSome o (Stops kind tokens.now)) }
+{
+    let (front, _) = tokens.split_at(number);
+    let found = begins(alloc, kind, front, TREE_DEPTH as u16)?;
+    if !found {
+        return Ok(None);
+    }
+    let broken = rule_of(alloc, kind, tokens, number)?;
+    match broken {
+        None => Ok(None),
+        Some(rule) => Ok(Some(refusal_at(kind, tokens, number, rule))),
+    }
+}
+
+/// The refusal of the least token at which no text of this kind within the limit of depth goes on.
+/// There is none where some thread goes along all tokens.
+fn refusal_of(alloc: Global, kind: Root, tokens: &[Token]) -> Result<Option<Refusal>, AllocError>
+    ensures { IfOk result (λ o. IfSome o (Stops kind tokens.now)) }
+{
+    let death = first_death(alloc, tokens, kind, Some(TREE_DEPTH))?;
+    match death {
+        None => Ok(None),
+        Some(number) => Ok(refusal_behind(alloc, kind, tokens, number)?),
+    }
+}
+
+/// Why no text of this kind begins with all of these tokens: the refusal of the least at which none
+/// goes on. Where memory is wanting, or one does go on, it is `Memory`.
+pub fn refuse_tokens(alloc: Global, kind: Root, tokens: &[Token]) -> Fault
+    ensures { IsOfTokens kind tokens.now result }
+{
+    match refusal_of(alloc, kind, tokens) {
+        Ok(Some(refusal)) => Fault::Refused(refusal),
+        _ => Fault::Memory,
+    }
+}
+
+/// A fault in reading these tokens.
+pub fn of_tokens(alloc: Global, kind: Root, tokens: &[Token], fault: Fault) -> Fault
+    ensures { IsOfTokens kind tokens.now result }
+{
+    match fault {
+        Fault::Memory => Fault::Memory,
+        Fault::Refused(_) => refuse_tokens(alloc, kind, tokens),
+    }
+}
+
 /// A fault in reading from this place in the list on.
-pub fn fault_from(tokens: &[Token], from: usize, fault: Fault) -> Fault
+pub fn fault_from(alloc: Global, kind: Root, tokens: &[Token], from: usize, fault: Fault) -> Fault
     requires { from < length tokens.now }
-    ensures { IsOfTokens (drop from tokens.now) result }
+    ensures { IsOfTokens kind (drop from tokens.now) result }
 {
     let (_before, rest) = tokens.split_at(from);
-    of_tokens(fault, rest)
+    of_tokens(alloc, kind, rest, fault)
 }

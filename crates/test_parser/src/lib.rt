@@ -5,3 +5,5 @@
 mod expressions;
 #[cfg(test)]
 mod modules;
+#[cfg(test)]
+mod refusals;
