@@ -1,0 +1,10 @@
+pub mod ListLaws
+pub mod StoreLaws
+pub mod RowLaws
+pub mod ChosenLaws
+pub mod GatherLaws
+pub mod NumberLaws
+pub mod BitLaws
+pub mod TotalLaws
+pub mod RestLaws
+pub mod SumLaws
