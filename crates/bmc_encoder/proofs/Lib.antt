@@ -2,3 +2,4 @@ pub mod LoopLaws
 pub mod DepthLaws
 pub mod RootLaws
 pub mod DecodedLaws
+pub mod LetlessLaws

@@ -107,8 +107,8 @@ in_row P row k n all at = subst P (get_or_from_slice_get row k n n at) (all k n 
 
 -- a root says the same while the circuit grows
 pub says_kept : {S : Type 0} (belongs : S → Node → Type 0) (value : S → (ℕ → Bool) → Node → Bool) (g h : S) → Keeps belongs value g h → (bounds : Bounds) (table : Layout) (scopes : Scopes) (f : Formula) (roots : List Node) (k : ℕ) (n : Node) → AllIn (belongs g) roots → slice_get roots k ≡ Some n → SaysRoot (value g) bounds table scopes f n → SaysRoot (value h) bounds table scopes f n
-says_kept belongs value g h keeps bounds table scopes f roots k n all at says plain few x lasso d =
-    true_same _ _ (keeps.values n (in_row (belongs g) roots k n all at) x) (says plain few x lasso d)
+says_kept belongs value g h keeps bounds table scopes f roots k n all at says x lasso d =
+    true_same _ _ (keeps.values n (in_row (belongs g) roots k n all at) x) (says x lasso d)
 
 -- so many formulas have their roots, behind the first ones
 abbrev pub SaysUpTo : ((ℕ → Bool) → Node → Bool) → Bounds → Layout → Scopes → List Formula → ℕ → ℕ → List Node → Type 0

@@ -11,7 +11,7 @@ use Rattle.bmc_leaves.specs.Table.{Decodes}
 use Rattle.bmc_encoder.specs.Firsts.{SaysRoot}
 
 -- `sure` is true just of the assignments of the table's variables that stand for a lasso; the first root where that lasso keeps
--- the numbers of the scopes; and the others, in order, where the formulas hold, as far as these are plain
+-- the numbers of the scopes; and the others, in order, where the formulas hold
 pub record IsEncoded (bounds : Bounds) (scopes : Scopes) (formulas : List Formula) (table : Layout) (value : (ℕ → Bool) → Node → Bool) (sure : Node) (roots : List Node) : Type 0 where
   pub lassos : (x : ℕ → Bool) → (value x sure ≡ true) ↔ ((lasso : LassoValue) × Decodes bounds table x lasso)
   pub numbers : (n : Node) → slice_get roots 0 ≡ Some n → (x : ℕ → Bool) (lasso : LassoValue) → Decodes bounds table x lasso → (value x n ≡ true) ↔ KeepsNumbers scopes lasso

@@ -1,3 +1,4 @@
 pub mod Depths
 pub mod Firsts
 pub mod Encodes
+pub mod Letless

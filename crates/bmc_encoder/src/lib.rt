@@ -11,7 +11,7 @@
 //! 3. For each formula, in order: its past depth (`past_depth`); the frame, which has the windows
 //!    of all loops with so many rounds (`bmc_windows`); the leaves, which are the sets without
 //!    parts that the formula names, as relations, `univ` and `iden`; and the row of the formula
-//!    over all places (`bmc_translate`).
+//!    over all places (`bmc_walk`).
 //! 4. The root of the formula: of the nodes that the row has at the first places of the windows,
 //!    the one that the choice of the loop takes. So a root says whether its formula holds at
 //!    position 0.
@@ -19,11 +19,11 @@
 //! Each formula has a frame of its own: one without past operators is unrolled by one round, even
 //! where another needs nine. All of them are built in one circuit.
 //!
-//! The root of a formula of the plain forms (`IsPlain`) that nests at most eight past operators is
-//! exact: it is true of just the lassos of which the formula holds at position 0.
-//! Not proved: the same of formulas of other forms.
+//! Each root is exact: it is true of just the lassos of which the formula holds at position 0. What is
+//! no form of the kernel, or nests more than eight past operators, is a fault.
 #![tactic(auto)]
 
+pub mod letless;
 pub mod past_depth;
 pub mod roots;
 

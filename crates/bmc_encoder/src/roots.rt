@@ -11,11 +11,12 @@ ghost use Rattle.bmc_leaves.specs.Loops.{AreChoices};
 ghost use Rattle.bmc_leaves.specs.Shown.{IsUniverseOf};
 ghost use Rattle.bmc_encoder.specs.Encodes.{IsEncoded};
 
+use crate::letless::is_letless;
 use crate::past_depth::depth_of;
 use bmc_leaves::scopes::keeps_numbers;
 use bmc_leaves::setting::Setting;
-use bmc_stack::{empty_store, node_or_false, pop_row};
-use bmc_translate::running::push_formula;
+use bmc_stack::node_or_false;
+use bmc_walk::whole::formula_row;
 use bmc_windows::{Frame, Stretch, frame_of};
 use bound_uppers::numbers::spans_of;
 use bound_uppers::{Bounds, Layout};
@@ -135,7 +136,8 @@ fn value_at_loop<G: Gates>(
     Ok(node)
 }
 
-/// Whether the formula holds at position 0 of the lasso whose loop is chosen.
+/// Whether the formula holds at position 0 of the lasso whose loop is chosen. Its error is want of memory, or that
+/// the formula is no form of the kernel or nests more than eight past operators.
 fn root_of<G: Gates>(
     alloc: Global,
     gates: &mut G,
@@ -154,7 +156,17 @@ fn root_of<G: Gates>(
         table.now.loops choices.now
         → SaysRoot (G.node_value gates.new) bounds.now table.now scopes.now formula.now n) }
 {
-    let frame = frame_of(alloc, bounds.states, depth_of(formula))?;
+    let plain = is_letless(formula);
+    if !plain {
+        return Err(AllocError);
+    }
+    let depth = depth_of(formula);
+    // S48: a formula nests at most eight past operators.
+    let high = depth > 8;
+    if high {
+        return Err(AllocError);
+    }
+    let frame = frame_of(alloc, bounds.states, depth)?;
     let setting = Setting {
         bounds,
         layout: table,
@@ -162,9 +174,7 @@ fn root_of<G: Gates>(
         universe,
         frame: &frame,
     };
-    let mut store = empty_store(alloc, gates);
-    push_formula(alloc, gates, &mut store, &setting, formula)?;
-    let all = pop_row(alloc, gates, &mut store);
+    let all = formula_row(alloc, gates, &setting, formula)?;
     let node = value_at_loop(alloc, gates, choices, &frame, &all)?;
     Ok(node)
 }
@@ -213,8 +223,8 @@ fn add_roots<G: Gates>(
     Ok(())
 }
 
-/// The circuit of a target over the table of its bounds, whose variables have these numbers. Its only
-/// error is want of memory.
+/// The circuit of a target over the table of its bounds, whose variables have these numbers. Its error is want of memory,
+/// or that a formula is no form of the kernel or nests more than eight past operators.
 pub fn encode<G: Gates>(
     alloc: Global,
     target: &Target,

@@ -1,0 +1,28 @@
+use Rattle.core_tree.specs.Trees.{term_of, combine}
+use Rattle.bmc_leaves.proofs.RightLaws.{combine_right}
+use Rattle.bmc_walk.proofs.WalkLaws.{two_parts}
+use Rattle.bmc_places.proofs.StoreLaws.{extends_trans}
+use Rattle.bmc_walk.proofs.sets.combine_sets.Goals as goal
+
+pub returns-clause-right : goal.returns-clause-right
+returns-clause-right g c =
+    let value = g.G.Gates.node_value in
+    let belongs = g.G.Gates.belongs in
+    let ground = c.args.walk.now.ground.now in
+    let known = c.args.known.now in
+    let e = term_of c.args.a.now in
+    let f = term_of c.args.b.now in
+    let now = value c.part_sets-2.new.gates in
+    let new = value c.made_sets.new.gates in
+    two_parts belongs value ground known c.args.gates.now c.part_sets.new.gates c.part_sets-2.new.gates c.made_sets.new.gates c.args.store.now c.part_sets.new.store c.part_sets-2.new.store c.made_sets.new.store e f (combine c.args.op e f) c.in_ok-first.first.items c.in_ok-second.second.items c.in_ok-made.made.items
+    c.part_sets.ensures.keeps c.part_sets-2.ensures.keeps c.requires.stored c.in_ok-first.ensures.stored c.in_ok-first.ensures.extends c.in_ok-second.ensures.extends
+    (λ n le. le) c.in_ok-first.ensures.right c.in_ok-second.ensures.right
+    (λ r left right. combine_right r now new c.part_sets-2.new.store.matrices.items c.made_sets.new.store.matrices.items c.args.op e f c.in_ok-first.first.items c.in_ok-second.second.items c.in_ok-made.made.items left right c.in_ok-made.ensures.made)
+
+pub returns-clause-extends : goal.returns-clause-extends
+returns-clause-extends g c =
+    let a = c.args.store.now in
+    let b = c.part_sets.new.store in
+    let d = c.part_sets-2.new.store in
+    let e = c.made_sets.new.store in
+    extends_trans a b e c.in_ok-first.ensures.extends (extends_trans b d e c.in_ok-second.ensures.extends c.in_ok-made.ensures.extends)

@@ -1,0 +1,7 @@
+pub mod Walked
+pub mod Walks
+pub mod Leaves
+pub mod Variables
+pub mod Choices
+pub mod Arrows
+pub mod Sums

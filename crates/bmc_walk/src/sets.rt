@@ -1,0 +1,314 @@
+//! The rules of expressions whose sets are wanted.
+
+ghost use Rattle.std.specs.Prelude.{IfOk, OnOk};
+ghost use Rattle.gate_trait.specs.Built.{Keeps};
+ghost use Rattle.core_tree.specs.Trees.{term_of, claim_of, choose_term, combine, product, unary, prime};
+ghost use Rattle.bmc_stack.specs.Stored.{AreStored};
+ghost use Rattle.bmc_places.specs.Stores.{Extends};
+ghost use Rattle.bmc_walk.specs.Walked.{HasSets};
+ghost use Rattle.bmc_walk.specs.Walks.{Walks};
+
+use crate::walk::{Answer, Ground, Known, Walk, Wanted, part_row, part_sets};
+use bmc_places::{chosen_sets, made_sets};
+use bmc_stack::Store;
+use bmc_windows::moved;
+use core_tree::{Expr, Formula, Multiplicity, RelationOp, UnaryRelation};
+use gate_sets::SetOperator;
+use gate_trait::Gates;
+use std::alloc::AllocError;
+
+/// The sets of the first expression where a formula holds, else those of the second.
+pub fn choose_sets<
+    G: Gates,
+    F: for<'j> Fn(
+        &'j Ground<'j>,
+        &mut G,
+        &mut Store,
+        Wanted<'_>,
+        &Known<'_>,
+        u32,
+    ) -> Result<Answer, AllocError>,
+>(
+    walk: &Walk<'_, F>,
+    gates: &mut G,
+    store: &mut Store,
+    f: &Formula,
+    a: &Expr,
+    b: &Expr,
+    known: &Known<'_>,
+) -> Result<Vec<usize>, AllocError>
+    requires walks { Walks G.belongs G.node_value walk.now.deep (F.pre walk.now.run)
+        (F.post walk.now.run) }
+    requires stored { AreStored (G.belongs gates.old) store.old }
+    ensures keeps { Keeps G.belongs G.node_value gates.old gates.new }
+    ensures stored { OnOk result (AreStored (G.belongs gates.new) store.new) }
+    ensures extends { OnOk result (Extends store.old store.new) }
+    ensures right { IfOk result (λ v. HasSets walk.now.ground.now known.now
+        (G.node_value gates.old) (G.node_value gates.new) store.old.matrices.items
+        store.new.matrices.items (choose_term (claim_of f.now) (term_of a.now)
+        (term_of b.now)) v.items) }
+{
+    let first = part_sets(walk, gates, store, a, known)?;
+    let second = part_sets(walk, gates, store, b, known)?;
+    let row = part_row(walk, gates, store, f, known)?;
+    let made = chosen_sets(walk.ground.alloc, gates, store, &row, &first, &second)?;
+    Ok(made)
+}
+
+/// The sets of an operator on two relations.
+pub fn combine_sets<
+    G: Gates,
+    F: for<'j> Fn(
+        &'j Ground<'j>,
+        &mut G,
+        &mut Store,
+        Wanted<'_>,
+        &Known<'_>,
+        u32,
+    ) -> Result<Answer, AllocError>,
+>(
+    walk: &Walk<'_, F>,
+    gates: &mut G,
+    store: &mut Store,
+    op: RelationOp,
+    a: &Expr,
+    b: &Expr,
+    known: &Known<'_>,
+) -> Result<Vec<usize>, AllocError>
+    requires walks { Walks G.belongs G.node_value walk.now.deep (F.pre walk.now.run)
+        (F.post walk.now.run) }
+    requires stored { AreStored (G.belongs gates.old) store.old }
+    ensures keeps { Keeps G.belongs G.node_value gates.old gates.new }
+    ensures stored { OnOk result (AreStored (G.belongs gates.new) store.new) }
+    ensures extends { OnOk result (Extends store.old store.new) }
+    ensures right { IfOk result (λ v. HasSets walk.now.ground.now known.now
+        (G.node_value gates.old) (G.node_value gates.new) store.old.matrices.items
+        store.new.matrices.items (combine op (term_of a.now) (term_of b.now)) v.items) }
+{
+    let first = part_sets(walk, gates, store, a, known)?;
+    let second = part_sets(walk, gates, store, b, known)?;
+    let universe = walk.ground.setting.universe;
+    let operator = SetOperator::Combine(op);
+    let made = made_sets(
+        walk.ground.alloc,
+        gates,
+        store,
+        universe,
+        operator,
+        &first,
+        &second,
+    )?;
+    Ok(made)
+}
+
+/// The sets of a product.
+pub fn product_sets<
+    G: Gates,
+    F: for<'j> Fn(
+        &'j Ground<'j>,
+        &mut G,
+        &mut Store,
+        Wanted<'_>,
+        &Known<'_>,
+        u32,
+    ) -> Result<Answer, AllocError>,
+>(
+    walk: &Walk<'_, F>,
+    gates: &mut G,
+    store: &mut Store,
+    a: &Expr,
+    left: Multiplicity,
+    right: Multiplicity,
+    b: &Expr,
+    known: &Known<'_>,
+) -> Result<Vec<usize>, AllocError>
+    requires walks { Walks G.belongs G.node_value walk.now.deep (F.pre walk.now.run)
+        (F.post walk.now.run) }
+    requires stored { AreStored (G.belongs gates.old) store.old }
+    ensures keeps { Keeps G.belongs G.node_value gates.old gates.new }
+    ensures stored { OnOk result (AreStored (G.belongs gates.new) store.new) }
+    ensures extends { OnOk result (Extends store.old store.new) }
+    ensures right { IfOk result (λ v. HasSets walk.now.ground.now known.now
+        (G.node_value gates.old) (G.node_value gates.new) store.old.matrices.items
+        store.new.matrices.items (product (term_of a.now) left right (term_of b.now)) v.items) }
+{
+    // for the proof: only the clauses name the multiplicities
+    let _ = (left, right);
+    let first = part_sets(walk, gates, store, a, known)?;
+    let second = part_sets(walk, gates, store, b, known)?;
+    let universe = walk.ground.setting.universe;
+    let operator = SetOperator::Product;
+    let made = made_sets(
+        walk.ground.alloc,
+        gates,
+        store,
+        universe,
+        operator,
+        &first,
+        &second,
+    )?;
+    Ok(made)
+}
+
+/// The sets of a relation turned round.
+fn transpose_sets<
+    G: Gates,
+    F: for<'j> Fn(
+        &'j Ground<'j>,
+        &mut G,
+        &mut Store,
+        Wanted<'_>,
+        &Known<'_>,
+        u32,
+    ) -> Result<Answer, AllocError>,
+>(
+    walk: &Walk<'_, F>,
+    gates: &mut G,
+    store: &mut Store,
+    a: &Expr,
+    known: &Known<'_>,
+) -> Result<Vec<usize>, AllocError>
+    requires walks { Walks G.belongs G.node_value walk.now.deep (F.pre walk.now.run)
+        (F.post walk.now.run) }
+    requires stored { AreStored (G.belongs gates.old) store.old }
+    ensures keeps { Keeps G.belongs G.node_value gates.old gates.new }
+    ensures stored { OnOk result (AreStored (G.belongs gates.new) store.new) }
+    ensures extends { OnOk result (Extends store.old store.new) }
+    ensures right { IfOk result (λ v. HasSets walk.now.ground.now known.now
+        (G.node_value gates.old) (G.node_value gates.new) store.old.matrices.items
+        store.new.matrices.items (unary UnaryRelation.Transpose (term_of a.now)) v.items) }
+{
+    let first = part_sets(walk, gates, store, a, known)?;
+    let universe = walk.ground.setting.universe;
+    let operator = SetOperator::Transpose;
+    let made = made_sets(
+        walk.ground.alloc,
+        gates,
+        store,
+        universe,
+        operator,
+        &first,
+        &first,
+    )?;
+    Ok(made)
+}
+
+/// The sets of a transitive closure.
+fn closure_sets<
+    G: Gates,
+    F: for<'j> Fn(
+        &'j Ground<'j>,
+        &mut G,
+        &mut Store,
+        Wanted<'_>,
+        &Known<'_>,
+        u32,
+    ) -> Result<Answer, AllocError>,
+>(
+    walk: &Walk<'_, F>,
+    gates: &mut G,
+    store: &mut Store,
+    a: &Expr,
+    known: &Known<'_>,
+) -> Result<Vec<usize>, AllocError>
+    requires walks { Walks G.belongs G.node_value walk.now.deep (F.pre walk.now.run)
+        (F.post walk.now.run) }
+    requires stored { AreStored (G.belongs gates.old) store.old }
+    ensures keeps { Keeps G.belongs G.node_value gates.old gates.new }
+    ensures stored { OnOk result (AreStored (G.belongs gates.new) store.new) }
+    ensures extends { OnOk result (Extends store.old store.new) }
+    ensures right { IfOk result (λ v. HasSets walk.now.ground.now known.now
+        (G.node_value gates.old) (G.node_value gates.new) store.old.matrices.items
+        store.new.matrices.items (unary UnaryRelation.Closure (term_of a.now)) v.items) }
+{
+    let first = part_sets(walk, gates, store, a, known)?;
+    let universe = walk.ground.setting.universe;
+    let operator = SetOperator::Closure;
+    let made = made_sets(
+        walk.ground.alloc,
+        gates,
+        store,
+        universe,
+        operator,
+        &first,
+        &first,
+    )?;
+    Ok(made)
+}
+
+/// The sets of an operator on one relation. Its error is want of memory, or that the kernel hasn't the operator.
+pub fn unary_sets<
+    G: Gates,
+    F: for<'j> Fn(
+        &'j Ground<'j>,
+        &mut G,
+        &mut Store,
+        Wanted<'_>,
+        &Known<'_>,
+        u32,
+    ) -> Result<Answer, AllocError>,
+>(
+    walk: &Walk<'_, F>,
+    gates: &mut G,
+    store: &mut Store,
+    op: UnaryRelation,
+    a: &Expr,
+    known: &Known<'_>,
+) -> Result<Vec<usize>, AllocError>
+    requires walks { Walks G.belongs G.node_value walk.now.deep (F.pre walk.now.run)
+        (F.post walk.now.run) }
+    requires stored { AreStored (G.belongs gates.old) store.old }
+    ensures keeps { Keeps G.belongs G.node_value gates.old gates.new }
+    ensures stored { OnOk result (AreStored (G.belongs gates.new) store.new) }
+    ensures extends { OnOk result (Extends store.old store.new) }
+    ensures right { IfOk result (λ v. HasSets walk.now.ground.now known.now
+        (G.node_value gates.old) (G.node_value gates.new) store.old.matrices.items
+        store.new.matrices.items (unary op (term_of a.now)) v.items) }
+{
+    match op {
+        UnaryRelation::Transpose => {
+            let made = transpose_sets(walk, gates, store, a, known)?;
+            Ok(made)
+        }
+        UnaryRelation::Closure => {
+            let made = closure_sets(walk, gates, store, a, known)?;
+            Ok(made)
+        }
+        UnaryRelation::ReflexiveClosure => Err(AllocError),
+    }
+}
+
+/// The sets of an expression at the next positions.
+pub fn prime_sets<
+    G: Gates,
+    F: for<'j> Fn(
+        &'j Ground<'j>,
+        &mut G,
+        &mut Store,
+        Wanted<'_>,
+        &Known<'_>,
+        u32,
+    ) -> Result<Answer, AllocError>,
+>(
+    walk: &Walk<'_, F>,
+    gates: &mut G,
+    store: &mut Store,
+    a: &Expr,
+    known: &Known<'_>,
+) -> Result<Vec<usize>, AllocError>
+    requires walks { Walks G.belongs G.node_value walk.now.deep (F.pre walk.now.run)
+        (F.post walk.now.run) }
+    requires stored { AreStored (G.belongs gates.old) store.old }
+    ensures keeps { Keeps G.belongs G.node_value gates.old gates.new }
+    ensures stored { OnOk result (AreStored (G.belongs gates.new) store.new) }
+    ensures extends { OnOk result (Extends store.old store.new) }
+    ensures right { IfOk result (λ v. HasSets walk.now.ground.now known.now
+        (G.node_value gates.old) (G.node_value gates.new) store.old.matrices.items
+        store.new.matrices.items (prime (term_of a.now)) v.items) }
+{
+    let first = part_sets(walk, gates, store, a, known)?;
+    let setting = walk.ground.setting;
+    let frame = setting.frame;
+    let made = moved(walk.ground.alloc, &first, &frame.next)?;
+    Ok(made)
+}
