@@ -71,12 +71,6 @@ module _ {S : Type 0} (belongs : S → Node → Type 0) (value : S → (ℕ → 
     | inr of ↦ inr (record { sets = tuples_kept before after _ numbers.items all stay of.sets })
   ]
 
--- sets that stay have the same tuples
-pub of_stays : (r : Reading) (value : (ℕ → Bool) → Node → Bool) (before after : List MatrixEntries) (leaf : Leaf) (numbers : List ℕ) → Stay before after → AreOf r value before leaf numbers → AreOf r value after leaf numbers
-of_stays r value before after leaf numbers stay of = record {
-  sets = λ loop k s place. (let (m, (n, at, stands), means) = of.sets loop k s place in (m, (n, at, stay n m stands), means));
-}
-
 -- an expression's sets beside a row that is put on the stack
 pub again_right : {S : Type 0} (belongs : S → Node → Type 0) (value : S → (ℕ → Bool) → Node → Bool) (r : Reading) (g h : S) → Keeps belongs value g h → (before after : Store) (e : Term) (numbers : List ℕ) → AreStored (belongs g) before → AreBeside before after → AreRight r (value g) before.matrices.items e numbers → AreRight r (value h) after.matrices.items e numbers
 again_right belongs value r g h keeps before after e numbers stored beside right = record {
@@ -93,12 +87,11 @@ kept_more belongs value r g h keeps before after kept new v number all stay long
 ]
 
 pub grows_refl : (s : Store) → Grows s s
-grows_refl s = record { rows = refl; found = refl; matrices = λ k m at. at; integers = λ k b at. at }
+grows_refl s = record { rows = refl; matrices = λ k m at. at; integers = λ k b at. at }
 
 pub grows_trans : (a b c : Store) → Grows a b → Grows b c → Grows a c
 grows_trans a b c first second = record {
   rows = second.rows ∙ first.rows;
-  found = second.found ∙ first.found;
   matrices = λ k m at. second.matrices k m (first.matrices k m at);
   integers = λ k n at. second.integers k n (first.integers k n at);
 }
@@ -106,7 +99,6 @@ grows_trans a b c first second = record {
 pub added_grows : (a b : Store) (m : MatrixEntries) → IsAdded a b m → Grows a b
 added_grows a b m added = record {
   rows = added.rows;
-  found = added.found;
   matrices = λ k n at. ap (λ (ms : List MatrixEntries). slice_get ms k) added.matrices ∙ push_kept a.matrices.items m k n at;
   integers = λ k n at. ap (λ (ns : List (List Node)). slice_get ns k) added.integers ∙ at;
 }

@@ -23,7 +23,7 @@ use Rattle.bmc_stack.specs.declared.numbers.TestOperator.TheVariants.{OfSets as 
 use Rattle.bmc_stack.specs.Rows.{IsSpread}
 use Rattle.bmc_stack.specs.Sets.{StandsAt, AreMade, AreAnswered}
 use Rattle.bmc_stack.specs.Steps.{MakesSet, AnswersSets, AllMade, AllAnswered}
-use Rattle.bmc_stack.proofs.RowLaws.{value_at, two_rows}
+use Rattle.bmc_stack.proofs.RowLaws.{value_at}
 
 pub matrix_belongs : (P : Node → Type 0) (ms : List MatrixEntries) (k : ℕ) (m : MatrixEntries) → AllMatrices P ms → slice_get ms k ≡ Some m → AllBelong P m.entries
 matrix_belongs P ms k m all at = subst (λ (n : MatrixEntries). AllBelong P n.entries) (get_or_from_slice_get ms k m m at) (all k m (slice_get_within ms k m at))
@@ -149,12 +149,3 @@ answered_more belongs value question first g h matrices pairs f new n i pair kee
             (n, push_at f n j (same ∙ sym done.long), subst (λ (p : ℕ × ℕ). AnswersSets question (value first) (value h) matrices p n) one (answers_from belongs value question first g h matrices pair n keeps all says)))
       ];
     })
-
-pub under_belongs : (P : Node → Type 0) (rest : List (List Node)) (f g : List Node) → AllLists P (rest ++ f ∷ g ∷ []) → AllIn P f
-under_belongs P rest f g all = last_belongs P rest f (λ k d lt. rw_all k d lt)
-  where
-    rw_all : (k : ℕ) (d : List Node) → k < length (rest ++ f ∷ []) → AllIn P (get_or (rest ++ f ∷ []) k d)
-    rw_all k d lt =
-        let at : slice_get ((rest ++ f ∷ []) ++ g ∷ []) k ≡ Some (get_or (rest ++ f ∷ []) k d) = push_kept (rest ++ f ∷ []) g k (get_or (rest ++ f ∷ []) k d) (slice_get-get_or (rest ++ f ∷ []) k d lt) in
-        let all_two : AllLists P ((rest ++ f ∷ []) ++ g ∷ []) = subst (λ (rs : List (List Node)). AllLists P rs) (two_rows rest f g) all in
-        subst (λ (r : List Node). AllIn P r) (get_or_from_slice_get ((rest ++ f ∷ []) ++ g ∷ []) k (get_or (rest ++ f ∷ []) k d) d at) (all_two k d (slice_get_within ((rest ++ f ∷ []) ++ g ∷ []) k (get_or (rest ++ f ∷ []) k d) at))

@@ -28,9 +28,6 @@ pub two_rows : {X : Type 0} (rest : List X) (f g : X) → rest ++ f ∷ g ∷ []
 two_rows [] f g = refl
 two_rows (r ∷ rest) f g = ap (λ rs. r ∷ rs) (two_rows rest f g)
 
-pub not_popped : {X : Type 0} (xs rest : List X) (f : X) → xs ≡ [] → xs ≡ rest ++ f ∷ [] → ⊥
-not_popped xs rest f none e = not_empty rest f (sym none ∙ e)
-
 -- ---- values at places
 
 pub value_at : (value : Node → Bool) (row : List Node) (k : ℕ) (n : Node) → slice_get row k ≡ Some n → row_value value row k ≡ value n
@@ -133,16 +130,16 @@ top_of rest rows new row P e f p = (row, e ∙ ap (λ (rs : List (List Node)). r
 -- ---- stores
 
 pub beside_refl : (s : Store) → AreBeside s s
-beside_refl s = record { matrices = refl; integers = refl; found = refl }
+beside_refl s = record { matrices = refl; integers = refl }
 
 pub beside_trans : (a b c : Store) → AreBeside a b → AreBeside b c → AreBeside a c
-beside_trans a b c f g = record { matrices = g.matrices ∙ f.matrices; integers = g.integers ∙ f.integers; found = g.found ∙ f.found }
+beside_trans a b c f g = record { matrices = g.matrices ∙ f.matrices; integers = g.integers ∙ f.integers }
 
 pub grows_refl : (s : Store) → Grows s s
-grows_refl s = record { rows = refl; found = refl; matrices = λ k m e. e; integers = λ k b e. e }
+grows_refl s = record { rows = refl; matrices = λ k m e. e; integers = λ k b e. e }
 
 pub grows_trans : (a b c : Store) → Grows a b → Grows b c → Grows a c
-grows_trans a b c f g = record { rows = g.rows ∙ f.rows; found = g.found ∙ f.found; matrices = λ k m e. g.matrices k m (f.matrices k m e); integers = λ k b e. g.integers k b (f.integers k b e) }
+grows_trans a b c f g = record { rows = g.rows ∙ f.rows; matrices = λ k m e. g.matrices k m (f.matrices k m e); integers = λ k b e. g.integers k b (f.integers k b e) }
 
 pub no_nodes : (row : List Node) → length row ≡ 0 → row ≡ []
 no_nodes [] e = refl

@@ -25,5 +25,4 @@ store_kept belongs value g h keeps s all = record {
   matrices = matrices_kept belongs value g h keeps s.matrices.items all.matrices;
   integers = lists_kept belongs value g h keeps s.integers.items all.integers;
   rows = lists_kept belongs value g h keeps s.rows.items all.rows;
-  found = lists_kept belongs value g h keeps s.found.items all.found;
 }

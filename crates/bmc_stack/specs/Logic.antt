@@ -1,5 +1,5 @@
--- What rows that are made of others say.
-use Rattle.std.specs.Prelude.{◌≡◌, ◌<◌, ◌+◌, ◌&&◌, not, ℕ, Bool, List, length}
+-- Where a row holds only if another does.
+use Rattle.std.specs.Prelude.{◌≡◌, ◌<◌, ◌&&◌, not, ℕ, Bool, List, length}
 use Rattle.gate_trait.specs.declared.node.Node.{Node}
 use Rattle.gate_temporal.specs.Rows.{row_value}
 
@@ -7,23 +7,3 @@ use Rattle.gate_temporal.specs.Rows.{row_value}
 pub record IsImplied (old new : (ℕ → Bool) → Node → Bool) (f g : List Node) (count : ℕ) (row : List Node) : Type 0 where
   pub long : length row ≡ count
   pub values : (x : ℕ → Bool) (i : ℕ) → i < count → row_value (new x) row i ≡ not (row_value (old x) f i && not (row_value (old x) g i))
-
--- at each of so many places: neither without the other
-pub record AreSame (old new : (ℕ → Bool) → Node → Bool) (f g : List Node) (count : ℕ) (row : List Node) : Type 0 where
-  pub long : length row ≡ count
-  pub values : (x : ℕ → Bool) (i : ℕ) → i < count → row_value (new x) row i ≡ (not (row_value (old x) f i && not (row_value (old x) g i)) && not (row_value (old x) g i && not (row_value (old x) f i)))
-
--- at each of so many places: the second where the first is true, else the third
-pub record IsChoice (old new : (ℕ → Bool) → Node → Bool) (f g h : List Node) (count : ℕ) (row : List Node) : Type 0 where
-  pub long : length row ≡ count
-  pub values : (x : ℕ → Bool) (i : ℕ) → i < count → row_value (new x) row i ≡ (not (row_value (old x) f i && not (row_value (old x) g i)) && not (not (row_value (old x) f i) && not (row_value (old x) h i)))
-
--- at each place: the first, and the second where the third is true, whose places begin at `from`
-pub record IsHeldWhere (old new : (ℕ → Bool) → Node → Bool) (f g h : List Node) (from : ℕ) (row : List Node) : Type 0 where
-  pub long : length row ≡ length f
-  pub values : (x : ℕ → Bool) (i : ℕ) → i < length f → row_value (new x) row i ≡ (row_value (old x) f i && not (not (row_value (old x) g i) && row_value (old x) h (from + i)))
-
--- at each of so many places: the first, and the second, whose places begin at `from`
-pub record IsBothPart (old new : (ℕ → Bool) → Node → Bool) (f g : List Node) (from count : ℕ) (row : List Node) : Type 0 where
-  pub long : length row ≡ count
-  pub values : (x : ℕ → Bool) (i : ℕ) → i < count → row_value (new x) row i ≡ (row_value (old x) f i && row_value (old x) g (from + i))

@@ -67,20 +67,17 @@ pub record IsPopped (old new : Store) (row : List Node) : Type 0 where
   pub rows : (rest : List (List Node)) (f : List Node) → old.rows.items ≡ rest ++ f ∷ [] → (row ≡ f) × (new.rows.items ≡ rest)
   pub matrices : new.matrices.items ≡ old.matrices.items
   pub integers : new.integers.items ≡ old.integers.items
-  pub found : new.found.items ≡ old.found.items
 
 -- a row is put on the stack
 pub record IsPushed (old new : Store) (row : List Node) : Type 0 where
   pub rows : new.rows.items ≡ old.rows.items ++ row ∷ []
   pub matrices : new.matrices.items ≡ old.matrices.items
   pub integers : new.integers.items ≡ old.integers.items
-  pub found : new.found.items ≡ old.found.items
 
 -- the sets and integers are as before
 pub record AreBeside (old new : Store) : Type 0 where
   pub matrices : new.matrices.items ≡ old.matrices.items
   pub integers : new.integers.items ≡ old.integers.items
-  pub found : new.found.items ≡ old.found.items
 
 -- one more row than `rest` is on the stack, and it has the property
 abbrev pub HasTop : List (List Node) → List (List Node) → (List Node → Type 0) → Type 0
@@ -91,11 +88,9 @@ pub record IsAdded (old new : Store) (m : MatrixEntries) : Type 0 where
   pub matrices : new.matrices.items ≡ old.matrices.items ++ m ∷ []
   pub rows : new.rows.items ≡ old.rows.items
   pub integers : new.integers.items ≡ old.integers.items
-  pub found : new.found.items ≡ old.found.items
 
 -- the rows are as before, and so are the sets and integers that there were
 pub record Grows (old new : Store) : Type 0 where
   pub rows : new.rows.items ≡ old.rows.items
-  pub found : new.found.items ≡ old.found.items
   pub matrices : (k : ℕ) (m : MatrixEntries) → slice_get old.matrices.items k ≡ Some m → slice_get new.matrices.items k ≡ Some m
   pub integers : (k : ℕ) (b : List Node) → slice_get old.integers.items k ≡ Some b → slice_get new.integers.items k ≡ Some b

@@ -8,4 +8,3 @@ pub record AreStored (belongs : Node → Type 0) (s : Store) : Type 0 where
   pub matrices : AllMatrices belongs s.matrices.items
   pub integers : AllLists belongs s.integers.items
   pub rows : AllLists belongs s.rows.items
-  pub found : AllLists belongs s.found.items

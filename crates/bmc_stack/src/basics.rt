@@ -1,14 +1,13 @@
 //! Adding to the store and taking from it: sets, integers and rows.
 
-ghost use Rattle.std.specs.Prelude.{◌≡◌, ◌∷◌, [], ◌++◌, ℕ, Bool, List, IfOk, OnOk, length, take};
+ghost use Rattle.std.specs.Prelude.{◌≡◌, [], ℕ, Bool, IfOk, OnOk, length};
 ghost use Rattle.gate_trait.specs.Built.{AllIn};
-ghost use Rattle.gate_trait.specs.declared.node.Node.{Node as CircuitNode};
 ghost use Rattle.gate_matrix.specs.Matrices.{AllBelong};
 ghost use Rattle.gate_temporal.specs.Rows.{row_value};
 ghost use Rattle.bmc_stack.specs.Stored.{AreStored};
-ghost use Rattle.bmc_stack.specs.Rows.{IsPopped, IsPushed, AreBeside, IsAdded, Grows};
+ghost use Rattle.bmc_stack.specs.Rows.{IsPopped, IsPushed, IsAdded, Grows};
 
-use crate::store::{Mark, Store};
+use crate::store::Store;
 use gate_integers::Bits;
 use gate_matrix::Matrix;
 use gate_trait::{Gates, Node, NodeList};
@@ -25,7 +24,6 @@ pub fn empty_store<G: Gates>(alloc: Global, gates: &G) -> Store
         matrices: Vec::new(alloc),
         integers: Vec::new(alloc),
         rows: Vec::new(alloc),
-        found: Vec::new(alloc),
     }
 }
 
@@ -93,53 +91,6 @@ pub fn pop_row<G: Gates>(alloc: Global, gates: &G, store: &mut Store) -> NodeLis
     }
 }
 
-/// Takes away the row under the top.
-pub fn drop_below<G: Gates>(alloc: Global, gates: &G, store: &mut Store) -> Result<(), AllocError>
-    requires { AreStored (G.belongs gates.now) store.old }
-    ensures stored { OnOk result (AreStored (G.belongs gates.now) store.new) }
-    ensures beside { OnOk result (AreBeside store.old store.new) }
-    ensures rows { OnOk result ((rest : List (List CircuitNode)) (f g : List CircuitNode) →
-        store.old.rows.items ≡ rest ++ f ∷ g ∷ [] → store.new.rows.items ≡ rest ++ g ∷ []) }
-{
-    let top = pop_row(alloc, gates, store);
-    let _below = pop_row(alloc, gates, store);
-    push_row(gates, store, top)?;
-    Ok(())
-}
-
-/// Moves the row on top to the rows that say where tuples are found.
-pub fn keep_found<G: Gates>(alloc: Global, gates: &G, store: &mut Store) -> Result<(), AllocError>
-    requires { AreStored (G.belongs gates.now) store.old }
-    ensures { OnOk result (AreStored (G.belongs gates.now) store.new) }
-{
-    let top = pop_row(alloc, gates, store);
-    store.found.push(top)?;
-    Ok(())
-}
-
-/// Leaves so many of the rows that say where tuples are found.
-pub fn drop_found<G: Gates>(gates: &G, store: &mut Store, base: usize)
-    requires { AreStored (G.belongs gates.now) store.old }
-    ensures { AreStored (G.belongs gates.now) store.new }
-{
-    // for the proof: only the clauses name the gates
-    let _ = gates;
-    store.found.truncate(base);
-}
-
-/// Leaves the sets and integers that there were.
-pub fn cut<G: Gates>(gates: &G, store: &mut Store, mark: Mark)
-    requires { AreStored (G.belongs gates.now) store.old }
-    ensures stored { AreStored (G.belongs gates.now) store.new }
-    ensures rows { store.new.rows.items ≡ store.old.rows.items }
-    ensures matrices { store.new.matrices.items ≡ take mark.matrices store.old.matrices.items }
-{
-    // for the proof: only the clauses name the gates
-    let _ = gates;
-    store.matrices.truncate(mark.matrices);
-    store.integers.truncate(mark.integers);
-}
-
 /// The node of a list at a place; the constant false where there is none.
 pub fn node_or_false<G: Gates>(gates: &G, row: &NodeList, place: usize) -> Node
     requires { AllIn (G.belongs gates.now) row.now }
@@ -151,29 +102,4 @@ pub fn node_or_false<G: Gates>(gates: &G, row: &NodeList, place: usize) -> Node
         return gates.constant(false);
     }
     row.node(place)
-}
-
-/// The node of a row of the stack at a place; the constant false where there is none.
-pub fn node_at<G: Gates>(gates: &G, store: &Store, row: usize, place: usize) -> Node
-    requires { AreStored (G.belongs gates.now) store.now }
-    ensures { G.belongs gates.now result }
-{
-    if row >= store.rows.len() {
-        return gates.constant(false);
-    }
-    node_or_false(gates, &store.rows[row], place)
-}
-
-/// The code of a node of a row at a place, 0 where there is none: equal nodes have equal codes.
-pub fn code_at(rows: &[NodeList], row: usize, place: usize) -> u64 {
-    match rows.get(row) {
-        None => 0,
-        Some(nodes) => {
-            if place < nodes.len() {
-                nodes.node(place).code
-            } else {
-                0
-            }
-        }
-    }
 }

@@ -1,4 +1,4 @@
-//! The tuples that sets may have at some place, and what stands beside some numbers in a set.
+//! The tuples that sets may have at some place.
 
 ghost use Rattle.std.specs.Prelude.{◌≡◌, ◌++◌, ◌+◌, ◌*◌, ℕ, Bool, List, IfOk, OnOk};
 ghost use Rattle.gate_trait.specs.declared.node.Node.{Node as CircuitNode};
@@ -8,12 +8,12 @@ ghost use Rattle.bmc_stack.specs.Stored.{AreStored};
 ghost use Rattle.bmc_stack.specs.Rows.{IsPushed};
 ghost use Rattle.bmc_stack.specs.Members.{SaysMember, SaysRow, HasMembers, SayMembers, AddsTuples};
 
-use crate::basics::{add_matrix, push_row};
+use crate::basics::push_row;
 use crate::store::Store;
-use bmc_windows::{found_at, moved, pair_at, pairs_of};
+use bmc_windows::{found_at, pair_at, pairs_of};
 use core_tuples::Tuple;
 use gate_matrix::Matrix;
-use gate_sets::{add_tuples, distinct_tuples, rest_of};
+use gate_sets::{add_tuples, distinct_tuples};
 use gate_trait::{Gates, Node, NodeList};
 use std::alloc::{AllocError, Global};
 
@@ -135,44 +135,4 @@ pub fn members_of<G: Gates>(
     let nodes = member_nodes(alloc, gates, store, row, &tuples)?;
     push_row(gates, store, nodes)?;
     Ok(tuples)
-}
-
-/// What follows or stands before some numbers in a set; the empty set where there is no set of this
-/// number.
-fn rest_at<G: Gates>(
-    alloc: Global,
-    gates: &G,
-    store: &Store,
-    number: usize,
-    numbers: &[u32],
-    at_start: bool,
-) -> Result<Matrix, AllocError>
-    requires { AreStored (G.belongs gates.now) store.now }
-    ensures { IfOk result (λ m. AllBelong (G.belongs gates.now) m.entries) }
-{
-    if number >= store.matrices.len() {
-        return Ok(Matrix::empty(alloc, 1));
-    }
-    rest_of(alloc, gates, &store.matrices[number], numbers, at_start)
-}
-
-/// What follows or stands before some numbers in the set at each place.
-pub fn rests<G: Gates>(
-    alloc: Global,
-    gates: &G,
-    store: &mut Store,
-    row: &[usize],
-    numbers: &[u32],
-    at_start: bool,
-) -> Result<Vec<usize>, AllocError>
-    requires { AreStored (G.belongs gates.now) store.old }
-    ensures { OnOk result (AreStored (G.belongs gates.now) store.new) }
-{
-    let pairs = pairs_of(alloc, row, row)?;
-    let mut made = Vec::new(alloc);
-    for pair in &pairs.pairs {
-        let new = rest_at(alloc, gates, store, pair.0, numbers, at_start)?;
-        made.push(add_matrix(gates, store, new)?)?;
-    }
-    moved(alloc, &made, &pairs.row)
 }

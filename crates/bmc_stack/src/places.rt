@@ -13,14 +13,13 @@ ghost use Rattle.bmc_stack.specs.Rows.{IsAdded, Grows, AreBeside, HasTop};
 ghost use Rattle.bmc_stack.specs.Sets.{AreMade, AreAnswered};
 ghost use Rattle.bmc_stack.specs.Steps.{AllMade, AllAnswered};
 
-use crate::basics::{add_integer, add_matrix};
+use crate::basics::add_matrix;
 use crate::numbers::{Operator, TestOperator, apply_at, ask_at};
 use crate::steps::{push_constant, spread_top};
 use crate::store::Store;
 use bmc_windows::{moved, pair_at, pairs_of, repeated};
 use core_tuples::Universe;
 use gate_matrix::Matrix;
-use gate_numbers::constant_bits;
 use gate_trait::Gates;
 use std::alloc::{AllocError, Global};
 
@@ -42,23 +41,6 @@ pub fn one_set<G: Gates>(
     let number = add_matrix(gates, store, matrix)?;
     let row = repeated(alloc, number, count)?;
     Ok(row)
-}
-
-/// The same integer at each of so many places.
-pub fn constant_integers<G: Gates>(
-    alloc: Global,
-    gates: &G,
-    store: &mut Store,
-    value: i64,
-    width: u32,
-    count: usize,
-) -> Result<Vec<usize>, AllocError>
-    requires { AreStored (G.belongs gates.now) store.old }
-    ensures { OnOk result (AreStored (G.belongs gates.now) store.new) }
-{
-    let bits = constant_bits(alloc, gates, value, width)?;
-    let number = add_integer(gates, store, bits)?;
-    repeated(alloc, number, count)
 }
 
 /// What the operator gives of each of these pairs.

@@ -25,10 +25,8 @@
 //! several places is built once.
 #![tactic(auto)]
 
-pub mod choices;
 pub mod frame;
 pub mod pairs;
 
-pub use choices::first_number;
 pub use frame::{Frame, Stretch, frame_of};
-pub use pairs::{Pairs, found_at, key_place, moved, pair_at, pairs_of, repeated};
+pub use pairs::{Pairs, found_at, moved, pair_at, pairs_of, repeated};

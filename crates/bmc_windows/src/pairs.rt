@@ -107,13 +107,3 @@ pub fn moved(alloc: Global, row: &[usize], from: &[usize]) -> Result<Vec<usize>,
     }
     Ok(new)
 }
-
-/// The place of a key in the list.
-pub fn key_place(keys: &[(usize, u64)], key: (usize, u64)) -> Option<usize> {
-    for (place, other) in keys.iter().enumerate() {
-        if other.0 == key.0 && other.1 == key.1 {
-            return Some(place);
-        }
-    }
-    None
-}

@@ -17,24 +17,6 @@ use gate_matrix::Matrix;
 use gate_trait::{Gates, Node, NodeList};
 use std::alloc::{AllocError, Global};
 
-/// The integer with these bits, the least first, wrapped to the width.
-pub fn constant_bits<G: Gates>(
-    alloc: Global,
-    gates: &G,
-    number: i64,
-    width: u32,
-) -> Result<Bits, AllocError>
-    ensures { IfOk result (λ b. AllIn (G.belongs gates.now) b) }
-{
-    let mut bits = Bits::new(alloc);
-    let mut left = number;
-    for _bit in 0..width {
-        bits.push(gates.constant(left & 1 == 1))?;
-        left = left >> 1;
-    }
-    Ok(bits)
-}
-
 /// What the operator gives of two integers, wrapped to their width. Its error is want of memory, or that
 /// the widths differ or are 0.
 pub fn calculate<G: Gates>(

@@ -5,5 +5,5 @@
 pub mod integers;
 pub mod values;
 
-pub use integers::{calculate, compare, constant_bits, count_of, masked_sum};
+pub use integers::{calculate, compare, count_of, masked_sum};
 pub use values::{integer_of, matrix_of};

@@ -13,4 +13,4 @@ pub use choosing::choose;
 pub use listing::{add_tuples, distinct_tuples};
 pub use operators::{SetOperator, apply, combine};
 pub use questions::{Question, ask};
-pub use relation::{atom_matrix, put, range_matrix, relation_matrix, rest_of};
+pub use relation::{atom_matrix, put, range_matrix, relation_matrix};
