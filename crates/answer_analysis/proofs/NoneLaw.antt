@@ -86,14 +86,14 @@ right_of number ready is usual = record {
 }
 
 none_within : (number : ℕ) (prepared : Prepared) → IsPrepared number prepared → (bounds : Bounds) → AreBoundsOf prepared.ready.model prepared.ready.scopes bounds → IsTable bounds → IsRuledOut prepared.target bounds → SatisfyingAreCandidates → NoneWithin prepared bounds.states
-none_within number prepared made bounds are table ruled law covered usual lasso over few trace =
+none_within number prepared made bounds are table ruled law usual lasso over few trace =
     let (r, other, renaming, renamed, candidate, satisfied) = law prepared.ready.model prepared.ready.scopes bounds lasso prepared.ready.model.facts (claim_of trace.command.formula) (right_of number prepared.ready made.ready usual) are over few trace.satisfies in
     let shown : IsTraceOf prepared.ready other = record { command = trace.command; chosen = trace.chosen; satisfies = satisfied } in
-    ruled table covered other candidate (meets number prepared made other shown)
+    ruled table other candidate (meets number prepared made other shown)
 
 pub none_satisfies : (number : ℕ) (prepared : Prepared) → IsPrepared number prepared → IsRuledOut prepared.target prepared.ready.bounds → SatisfyingAreCandidates → NoneSatisfies prepared
 none_satisfies number prepared made ruled law = record {
-  candidates = λ covered lasso candidate trace. ruled made.ready.table covered lasso candidate (meets number prepared made lasso trace);
+  candidates = λ lasso candidate trace. ruled made.ready.table lasso candidate (meets number prepared made lasso trace);
   lassos = subst (NoneWithin prepared) made.ready.states (none_within number prepared made prepared.ready.bounds made.ready.bounds_are made.ready.table ruled law);
 }
 

@@ -23,7 +23,7 @@ use Rattle.bound_definitions.specs.Refusals.{AreKept, Breaks, IsRefusal, command
 use Rattle.form_target.specs.Targets.{IsTargetOf}
 use Rattle.resolve_model.specs.Refused.{IsOfReadings}
 use Rattle.resolve_places.specs.Places.{IsPlaced}
-use Rattle.answer_search.specs.Clauses.{IsCovered, IsRuledOut, SayTarget}
+use Rattle.answer_search.specs.Clauses.{IsRuledOut, SayTarget}
 use Rattle.answer_search.specs.Found.{AreNewWithin}
 use Rattle.answer_texts.specs.Table.{IsTableOf}
 use Rattle.answer_trace.specs.Made.{AreRelationsOf, relation_labels_of, universe_texts}
@@ -77,21 +77,20 @@ pub record IsTraceOf (ready : Ready) (lasso : LassoValue) : Type 0 where
 abbrev pub IsUsual : Model → Type 0
 IsUsual model = AreOwned model
 
--- where all formulas that are searched have plain forms, and the model is usual, no lasso of at most so many states satisfies the
--- model and its command
+-- where the model is usual, no lasso of at most so many states satisfies the model and its command
 abbrev pub NoneWithin : Prepared → ℕ → Type 0
 NoneWithin prepared most =
-    All IsCovered prepared.target.formulas → IsUsual prepared.ready.model →
+    IsUsual prepared.ready.model →
     (lasso : LassoValue) → IsLassoOver prepared.ready.model prepared.ready.scopes lasso → length lasso.states ≤ most → IsTraceOf prepared.ready lasso → ⊥
 
 -- what is ruled out within the bounds of the model over some number of states
 abbrev pub RuledOutMeansNone : Type 0
 RuledOutMeansNone = (number : ℕ) (prepared : Prepared) (states : ℕ) → IsPrepared number prepared → 0 < states → IsRuledOut prepared.target (bounds_over prepared.ready.bounds.relations states) → NoneWithin prepared states
 
--- where all formulas that are searched have plain forms
+-- what the refutation of a search means
 pub record NoneSatisfies (prepared : Prepared) : Type 0 where
   -- no lasso within the bounds, of as many states as they have, satisfies the model and its command
-  pub candidates : All IsCovered prepared.target.formulas → (lasso : LassoValue) → IsCandidate prepared.ready.bounds lasso → IsTraceOf prepared.ready lasso → ⊥
+  pub candidates : (lasso : LassoValue) → IsCandidate prepared.ready.bounds lasso → IsTraceOf prepared.ready lasso → ⊥
   -- and none at all of at most as many states as the scopes say
   pub lassos : NoneWithin prepared prepared.ready.scopes.states
 
@@ -100,15 +99,15 @@ abbrev pub RowsOf : Prepared → List (List ℕ) → Type 0
 RowsOf prepared = λ table. IsTableOf prepared.ready.labels prepared.ready.bounds table
 
 -- A trace satisfies the model and the command, is a lasso of the labels, and has the fewest states that show its sequence. Where
--- there is no lasso, the lines refute the clauses, their lemmas are new and at most as many as the budget, and where all formulas
--- that are searched have plain forms no lasso satisfies the model and the command, as `NoneSatisfies` says. Only a budget that is
+-- there is no lasso, the lines refute the clauses, their lemmas are new and at most as many as the budget, and no lasso satisfies
+-- the model and the command, as `NoneSatisfies` says. Only a budget that is
 -- spent leaves it open: there are just as many lemmas, each new and none empty, and one more would pass; and it is below 3 to the
 -- power of the number of variables. The clauses say what the target does, as `SayTarget` tells, and the rows of the table what
 -- their variables stand for.
 abbrev pub IsFoundIn : Prepared → Option ℕ → Answer → Type 0
 IsFoundIn prepared budget (Trace labels lasso) = (labels ≡ prepared.ready.labels) × IsTraceOf prepared.ready lasso × IsLassoOf prepared.ready.labels lasso × (length lasso.states ≤ prepared.ready.bounds.states) × HasFewestStates lasso
-IsFoundIn prepared budget (Refuted table states cnf lines) = (states ≡ prepared.ready.bounds.states) × Refutes cnf.clauses lines × ((number : ℕ) → IsPrepared number prepared → NoneSatisfies prepared) × SayTarget prepared.target prepared.ready.bounds cnf.clauses × AreNewWithin budget cnf.clauses lines × RowsOf prepared table
-IsFoundIn prepared budget (Unknown table cnf lines) = (budget ≡ Some (length lines)) × Spends cnf.clauses (length lines) lines × (length lines < 3 ^ cnf.variables) × SayTarget prepared.target prepared.ready.bounds cnf.clauses × RowsOf prepared table
+IsFoundIn prepared budget (Refuted table states cnf lines) = (states ≡ prepared.ready.bounds.states) × Refutes cnf.clauses lines × ((number : ℕ) → IsPrepared number prepared → NoneSatisfies prepared) × SayTarget prepared.target prepared.ready.bounds cnf × AreNewWithin budget cnf.clauses lines × RowsOf prepared table
+IsFoundIn prepared budget (Unknown table cnf lines) = (budget ≡ Some (length lines)) × Spends cnf.clauses (length lines) lines × (length lines < 3 ^ cnf.variables) × SayTarget prepared.target prepared.ready.bounds cnf × RowsOf prepared table
 
 -- the same of the model of what is loaded, made ready for its command of this number
 abbrev pub IsFound : Loaded → ℕ → Option ℕ → Answer → Type 0

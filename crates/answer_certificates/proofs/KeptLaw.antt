@@ -1,5 +1,5 @@
 -- What clauses rule out with some facts alone.
-use Rattle.std.proofs.Common.{◌≡◌, ◌∙◌, ℕ, ℤ, zero, suc, ◌+◌, ◌-◌, ◌<◌, ◌≤◌, Bool, true, false, not, ◌||◌, cond, nat_lt, List, [], ◌∷◌, ◌++◌, map, take, length, slice_get, All, Option, Some, None, refl, sym, ap, subst, ⊎_elim, arith, length-append}
+use Rattle.std.proofs.Common.{◌≡◌, ◌∙◌, ℕ, zero, suc, ◌+◌, ◌-◌, ◌<◌, ◌≤◌, Bool, true, false, not, ◌||◌, cond, nat_lt, List, [], ◌∷◌, ◌++◌, map, take, length, slice_get, All, Option, Some, None, refl, sym, ap, subst, ⊎_elim, arith, length-append}
 use Rattle.std.specs.List.{Contains}
 use Rattle.std.proofs.lemmas.Bool.{cases_lt, ltb-true, false_from_ne_true}
 use Rattle.std.proofs.lemmas.List.{length-map}
@@ -13,20 +13,17 @@ use Rattle.core_tree.specs.declared.operators.TemporalUnary.TheVariants.{Always}
 use Rattle.core_tree.specs.Trees.{Claim, claim_of, temporal}
 use Rattle.core_meaning.specs.declared.scopes.SigScope.{SigScope}
 use Rattle.core_meaning.specs.declared.scopes.Scopes.{Scopes}
-use Rattle.core_meaning.specs.declared.target.Target.{Target}
 use Rattle.core_meaning.specs.Called.{no_bodies, bodies_of}
 use Rattle.core_meaning.specs.Kept.{world_of, KeepsNumbers}
 use Rattle.core_meaning.specs.Meaning.{no_names, Holds}
 use Rattle.core_meaning.specs.Sequence.{LassoValue}
 use Rattle.core_meaning.specs.World.{World}
+use Rattle.sat_dimacs.specs.declared.cnf.Cnf.{Cnf}
 use Rattle.bound_uppers.specs.Candidates.{IsCandidate}
 use Rattle.bound_laws.specs.Satisfying.{IsLassoOver, SatisfyingAreCandidates}
 use Rattle.form_target.specs.Targets.{IsWrittenOut, Adds, none_added, one_added, fact_claims, always_claims}
-use Rattle.core_tree.specs.Past.{no_depths, past_of}
-use Rattle.bmc_leaves.specs.Shown.{none_nested}
-use Rattle.bmc_translate.specs.Forms.{IsPlain}
-use Rattle.answer_search.specs.Clauses.{IsCovered, HoldsFirst, Meets}
-use Rattle.answer_certificates.specs.Parts.{is_out, stays, staying, IsPartOf, RuleOut}
+use Rattle.answer_search.specs.Clauses.{HoldsFirst, Meets}
+use Rattle.answer_certificates.specs.Parts.{is_out, stays, staying, RuleOut}
 use Rattle.answer_analysis.specs.declared.ready.Prepared.{Prepared}
 use Rattle.answer_analysis.specs.Found.{IsPrepared, IsReady, IsUsual}
 use Rattle.answer_analysis.proofs.NoneLaw.{right_of, same_item}
@@ -35,12 +32,12 @@ use Rattle.answer_certificates.specs.Kept.{before, facts_at, KeepsFacts, KeptFac
 -- ---- lists
 
 -- what is at a place of two lists
-at_left : {X : Type 0} (xs ys : List X) (k : ℕ) → k < length xs → slice_get (xs ++ ys) k ≡ slice_get xs k
+pub at_left : {X : Type 0} (xs ys : List X) (k : ℕ) → k < length xs → slice_get (xs ++ ys) k ≡ slice_get xs k
 at_left [] ys k low = absurd (omega (arith, low))
 at_left (x ∷ xs) ys zero low = refl
 at_left (x ∷ xs) ys (suc k) low = at_left xs ys k (omega (arith, low))
 
-at_end : {X : Type 0} (xs : List X) (x : X) (k : ℕ) → k ≡ length xs → slice_get (xs ++ x ∷ []) k ≡ Some x
+pub at_end : {X : Type 0} (xs : List X) (x : X) (k : ℕ) → k ≡ length xs → slice_get (xs ++ x ∷ []) k ≡ Some x
 at_end [] x zero is = refl
 at_end [] x (suc k) is = absurd (omega (arith, is))
 at_end (y ∷ xs) x zero is = absurd (omega (arith, is))
@@ -51,25 +48,25 @@ each_claim : {X : Type 0} (P : Claim → Type 0) (claim : X → Claim) (l : List
 each_claim P claim [] h = All-nil (λ x. P (claim x))
 each_claim P claim (x ∷ l) h = All-cons (λ x. P (claim x)) x l (All-head P (claim x) (map claim l) h) (each_claim P claim l (All-tail P (claim x) (map claim l) h))
 
-claim_at : {X : Type 0} (claim : X → Claim) (l : List X) (k : ℕ) (c : Claim) → slice_get (map claim l) k ≡ Some c → (x : X) × (slice_get l k ≡ Some x) × (c ≡ claim x)
+pub claim_at : {X : Type 0} (claim : X → Claim) (l : List X) (k : ℕ) (c : Claim) → slice_get (map claim l) k ≡ Some c → (x : X) × (slice_get l k ≡ Some x) × (c ≡ claim x)
 claim_at claim [] k c e = absurd (cc)
 claim_at claim (x ∷ l) zero c e = (x, refl, (let is : Some (claim x) ≡ Some c = e in cc))
 claim_at claim (x ∷ l) (suc k) c e = claim_at claim l k c e
 
-at_take : {X : Type 0} (xs : List X) (n k : ℕ) → k < n → slice_get (take n xs) k ≡ slice_get xs k
+pub at_take : {X : Type 0} (xs : List X) (n k : ℕ) → k < n → slice_get (take n xs) k ≡ slice_get xs k
 at_take [] zero k low = refl
 at_take [] (suc n) k low = refl
 at_take (x ∷ xs) zero k low = absurd (omega (arith, low))
 at_take (x ∷ xs) (suc n) zero low = refl
 at_take (x ∷ xs) (suc n) (suc k) low = at_take xs n k (omega (arith, low))
 
-take_length : {X : Type 0} (n : ℕ) (xs : List X) → n ≤ length xs → length (take n xs) ≡ n
+pub take_length : {X : Type 0} (n : ℕ) (xs : List X) → n ≤ length xs → length (take n xs) ≡ n
 take_length zero [] low = refl
 take_length zero (x ∷ xs) low = refl
 take_length (suc n) [] low = absurd (omega (arith, low))
 take_length (suc n) (x ∷ xs) low = ap suc (take_length n xs (omega (arith, low)))
 
-at_place : {X : Type 0} (P : X → Type 0) (xs : List X) (k : ℕ) (x : X) → All P xs → slice_get xs k ≡ Some x → P x
+pub at_place : {X : Type 0} (P : X → Type 0) (xs : List X) (k : ℕ) (x : X) → All P xs → slice_get xs k ≡ Some x → P x
 at_place P xs k x h e = subst P (get_or_from_slice_get xs k x x e) (h k x (slice_get_within xs k x e))
 
 -- ---- formulas that stay
@@ -86,13 +83,13 @@ stay_holds P stay (f ∷ fs) n h =
 
 -- ---- formulas that are written out
 
-adds_length : (bodies : List Body) (front now : List Formula) (olds : List Claim) → Adds bodies front now olds → length now ≡ length front + length olds
+pub adds_length : (bodies : List Body) (front now : List Formula) (olds : List Claim) → Adds bodies front now olds → length now ≡ length front + length olds
 adds_length bodies front _ _ none_added = omega arith
 adds_length bodies front _ _ (one_added {now} {olds} {old} f rest is) =
     omega (arith, length-append now (f ∷ []), length-append olds (old ∷ []), adds_length bodies front now olds rest)
 
 -- what a formula behind the front is written out of
-written_at : (bodies : List Body) (front now : List Formula) (olds : List Claim) → Adds bodies front now olds → (k : ℕ) (f : Formula) → slice_get now k ≡ Some f → length front ≤ k
+pub written_at : (bodies : List Body) (front now : List Formula) (olds : List Claim) → Adds bodies front now olds → (k : ℕ) (f : Formula) → slice_get now k ≡ Some f → length front ≤ k
     → (c : Claim) × (slice_get olds (k - length front) ≡ Some c) × IsWrittenOut bodies (claim_of f) c
 written_at bodies front _ _ none_added k f there low = absurd (omega (arith, low, slice_get_within front k f there))
 written_at bodies front _ _ (one_added {now} {olds} {old} g rest is) k f there low =
@@ -141,8 +138,8 @@ not_false false e = refl
 not_less : (a b : ℕ) → b ≤ a → nat_lt a b ≡ false
 not_less a b low = false_from_ne_true (nat_lt a b) (λ e. let less = ltb-true a b e in omega (arith, low, less))
 
-module _ (number : ℕ) (prepared : Prepared) (kept : List ℕ) (clauses : List (List ℤ)) (made : IsPrepared number prepared)
-    (out : RuleOut prepared.target prepared.first_fact (length prepared.ready.model.facts) prepared.ready.bounds kept clauses) (lasso : LassoValue) (keeps : KeepsFacts prepared.ready kept lasso) where
+module _ (number : ℕ) (prepared : Prepared) (kept : List ℕ) (cnf : Cnf) (made : IsPrepared number prepared)
+    (out : RuleOut prepared.target prepared.first_fact (length prepared.ready.model.facts) prepared.ready.bounds kept cnf) (lasso : LassoValue) (keeps : KeepsFacts prepared.ready kept lasso) where
   abbrev ready : IsReady number prepared.ready
   ready = made.ready
 
@@ -227,34 +224,22 @@ module _ (number : ℕ) (prepared : Prepared) (kept : List ℕ) (clauses : List 
       let formulas : All (λ (f : Formula). New (claim_of f)) part.formulas = each_claim New claim_of part.formulas (subst (All New) (sym out.refuted.is_part.formulas) staying_hold) in
       subst (λ (s : Scopes). KeepsNumbers s lasso × All (HoldsFirst s lasso) part.formulas) (sym scopes) (keeps.satisfies.keeps.numbers, formulas)
 
--- a part of what is covered is covered
-abbrev IsCoveredClaim : Claim → Type 0
-IsCoveredClaim c = IsPlain c × (past_of none_nested c no_depths ≤ 8)
-
-part_covered : (target : Target) (first : ℕ) (dropped : List Bool) (part : Target) → IsPartOf target first dropped part → All IsCovered target.formulas → All IsCovered part.formulas
-part_covered target first dropped part is covered =
-    each_claim IsCoveredClaim claim_of part.formulas
-    (subst (All IsCoveredClaim) (sym is.formulas) (stay_holds IsCoveredClaim (stays first dropped) target.formulas 0 (λ k m f at there e. at_place IsCovered target.formulas k f covered there)))
-
-module _ (number : ℕ) (prepared : Prepared) (kept : List ℕ) (clauses : List (List ℤ)) (made : IsPrepared number prepared)
-    (out : RuleOut prepared.target prepared.first_fact (length prepared.ready.model.facts) prepared.ready.bounds kept clauses) where
-  no_candidate : All IsCovered prepared.target.formulas → (lasso : LassoValue) → IsCandidate prepared.ready.bounds lasso → KeepsFacts prepared.ready kept lasso → ⊥
-  no_candidate covered lasso candidate keeps =
-      let part = out.refuted in
-      let plain = part_covered prepared.target prepared.first_fact out.dropped part.part part.is_part covered in
-      part.ruled made.ready.table plain lasso candidate (part_meets number prepared kept clauses made out lasso keeps)
+module _ (number : ℕ) (prepared : Prepared) (kept : List ℕ) (cnf : Cnf) (made : IsPrepared number prepared)
+    (out : RuleOut prepared.target prepared.first_fact (length prepared.ready.model.facts) prepared.ready.bounds kept cnf) where
+  no_candidate : (lasso : LassoValue) → IsCandidate prepared.ready.bounds lasso → KeepsFacts prepared.ready kept lasso → ⊥
+  no_candidate lasso candidate keeps = out.refuted.ruled made.ready.table lasso candidate (part_meets number prepared kept cnf made out lasso keeps)
 
   -- a lasso that keeps the facts has a renaming that is a candidate and keeps them too
-  no_lasso : SatisfyingAreCandidates → All IsCovered prepared.target.formulas → IsUsual prepared.ready.model →
+  no_lasso : SatisfyingAreCandidates → IsUsual prepared.ready.model →
       (lasso : LassoValue) → IsLassoOver prepared.ready.model prepared.ready.scopes lasso → length lasso.states ≤ prepared.ready.bounds.states → KeepsFacts prepared.ready kept lasso → ⊥
-  no_lasso law covered usual lasso over few keeps =
+  no_lasso law usual lasso over few keeps =
       let right = right_of number prepared.ready made.ready usual in
       let (r, other, renaming, renamed, candidate, satisfied) = law prepared.ready.model prepared.ready.scopes prepared.ready.bounds lasso (facts_at prepared.ready.model.facts kept) (claim_of keeps.command.formula) right made.ready.bounds_are over few keeps.satisfies in
       let also : KeepsFacts prepared.ready kept other = record { command = keeps.command; chosen = keeps.chosen; satisfies = satisfied } in
-      no_candidate covered other candidate also
+      no_candidate other candidate also
 
 pub kept_law : SatisfyingAreCandidates → KeptFactsRuleOut
-kept_law law number prepared kept clauses made out = record {
-  candidates = no_candidate number prepared kept clauses made out;
-  lassos = no_lasso number prepared kept clauses made out law;
+kept_law law number prepared kept cnf made out = record {
+  candidates = no_candidate number prepared kept cnf made out;
+  lassos = no_lasso number prepared kept cnf made out law;
 }

@@ -4,3 +4,4 @@ pub mod Staying
 pub mod KeptLaw
 pub mod LeastLaw
 pub mod ShrunkLaw
+pub mod EncodedLaw

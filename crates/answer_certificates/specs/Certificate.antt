@@ -63,13 +63,13 @@ RowsOver prepared states = λ table. IsTableOf prepared.ready.labels (bounds_ove
 -- what clauses say in each search in a prepared model: what its target does within its bounds; within these over some number of
 -- states; or with some of its facts alone
 abbrev pub SayAll : Prepared → Cnf → Type 0
-SayAll prepared cnf = SayTarget prepared.target prepared.ready.bounds cnf.clauses
+SayAll prepared cnf = SayTarget prepared.target prepared.ready.bounds cnf
 
 abbrev pub SayOverStates : Prepared → ℕ → Cnf → Type 0
-SayOverStates prepared states cnf = SayTarget prepared.target (bounds_over prepared.ready.bounds.relations states) cnf.clauses
+SayOverStates prepared states cnf = SayTarget prepared.target (bounds_over prepared.ready.bounds.relations states) cnf
 
 abbrev pub SayOfSome : Prepared → Cnf → Type 0
-SayOfSome prepared cnf = SayPart prepared.target prepared.first_fact (length prepared.ready.model.facts) prepared.ready.bounds cnf.clauses
+SayOfSome prepared cnf = SayPart prepared.target prepared.first_fact (length prepared.ready.model.facts) prepared.ready.bounds cnf
 
 -- the part that is asked for of a trace, of these clauses, and of lines that refute them, whose lemmas are new and at most as many
 -- as the budget; the rows of the table say what the variables stand for
@@ -142,7 +142,7 @@ pub record ShowsCore (prepared : Prepared) (part : Part) (budget : Option ℕ) (
   pub facts : All (λ number. number < length prepared.ready.model.facts) kept
   pub named : AreNamed prepared.ready.loaded prepared.ready.model.facts kept names
   pub cnf : Cnf
-  pub ruled : RuleOut prepared.target prepared.first_fact (length prepared.ready.model.facts) prepared.ready.bounds kept cnf.clauses
+  pub ruled : RuleOut prepared.target prepared.first_fact (length prepared.ready.model.facts) prepared.ready.bounds kept cnf
   pub none : (number : ℕ) → IsPrepared number prepared → NoneKeeps prepared kept
   pub scoped : (number : ℕ) → IsPrepared number prepared → prepared.ready.bounds.states ≡ prepared.ready.scopes.states
   pub shows : ShowsFacts (RowsOf prepared) cnf prepared.ready.bounds.states budget part names text

@@ -22,8 +22,7 @@ use Rattle.answer_certificates.specs.Parts.{AreSaidFor, AreRefutedFor, AreLeftOu
 abbrev pub AreKept : ℕ → List ℕ → Type 0
 AreKept facts kept = IsStrictlyIncreasing kept × All (λ fact. fact < facts) kept
 
--- a lasso shows the sequence of one of as many states as the limits have, within them, that meets the target, as far as it is
--- covered
+-- a lasso shows the sequence of one of as many states as the limits have, within them, that meets the target
 abbrev pub ShowsMeeting : Target → Bounds → LassoValue → Type 0
 ShowsMeeting target limits lasso = IsTable limits → (other : LassoValue) × MeetsWithin target limits other × IsSameSequence other lasso
 
@@ -33,32 +32,32 @@ ShowsMeeting target limits lasso = IsTable limits → (other : LassoValue) × Me
 -- numbers of their variables.
 abbrev pub IsCore : Target → ℕ → ℕ → Bounds → Option ℕ → Core → Type 0
 IsCore target first facts limits budget (Trace lasso) = (length lasso.states ≤ limits.states) × HasFewestStates lasso × ShowsMeeting target limits lasso
-IsCore target first facts limits budget (Refuted kept proof) = AreKept facts kept × IsRefuted limits.states budget proof × RuleOut target first facts limits kept proof.cnf.clauses × IsLaidOut limits proof.layout
-IsCore target first facts limits budget (Unknown proof) = IsSpent limits.states budget proof × SayPart target first facts limits proof.cnf.clauses × IsLaidOut limits proof.layout
+IsCore target first facts limits budget (Refuted kept proof) = AreKept facts kept × IsRefuted limits.states budget proof × RuleOut target first facts limits kept proof.cnf × IsLaidOut limits proof.layout
+IsCore target first facts limits budget (Unknown proof) = IsSpent limits.states budget proof × SayPart target first facts limits proof.cnf × IsLaidOut limits proof.layout
 
 -- what a search without the formulas of the facts that are left out shows
 abbrev pub IsSearchedFor : Target → ℕ → Bounds → List Bool → Found → Type 0
 IsSearchedFor target first limits dropped (found.Trace lasso) = Unit {0}
-IsSearchedFor target first limits dropped (found.Refuted proof) = AreRefutedFor target first limits dropped proof.cnf.clauses × IsLaidOut limits proof.layout
-IsSearchedFor target first limits dropped (found.Unknown proof) = AreSaidFor target first limits dropped proof.cnf.clauses × IsLaidOut limits proof.layout
+IsSearchedFor target first limits dropped (found.Refuted proof) = AreRefutedFor target first limits dropped proof.cnf × IsLaidOut limits proof.layout
+IsSearchedFor target first limits dropped (found.Unknown proof) = AreSaidFor target first limits dropped proof.cnf × IsLaidOut limits proof.layout
 
 -- clauses that are refuted for a target without the facts that are left out
 abbrev pub IsLeft : Target → ℕ → ℕ → Bounds → Option ℕ → Left → Type 0
 IsLeft target first facts limits budget left =
     (length left.dropped.items ≡ facts) × IsRefuted limits.states budget left.proof
-    × AreRefutedFor target first limits left.dropped.items left.proof.cnf.clauses × IsLaidOut limits left.proof.layout
+    × AreRefutedFor target first limits left.dropped.items left.proof.cnf × IsLaidOut limits left.proof.layout
 
 -- what one more search may leave
 abbrev pub IsTried : Target → ℕ → ℕ → Bounds → Option ℕ → Tried → Type 0
 IsTried target first facts limits budget (tried.Left left) = IsLeft target first facts limits budget left
 IsTried target first facts limits budget (tried.Unknown proof) =
-    IsSpent limits.states budget proof × IsLaidOut limits proof.layout × (dropped : List Bool) × AreSaidFor target first limits dropped proof.cnf.clauses × (length dropped ≡ facts)
+    IsSpent limits.states budget proof × IsLaidOut limits proof.layout × (dropped : List Bool) × AreSaidFor target first limits dropped proof.cnf × (length dropped ≡ facts)
 
 -- what all of them may leave
 abbrev pub IsShrunk : Target → ℕ → ℕ → Bounds → Option ℕ → Core → Type 0
 IsShrunk target first facts limits budget (Trace lasso) = ⊥
 IsShrunk target first facts limits budget (Refuted kept proof) =
     AreKept facts kept × IsRefuted limits.states budget proof × IsLaidOut limits proof.layout
-    × (dropped : List Bool) × AreLeftOut facts kept dropped × AreRefutedFor target first limits dropped proof.cnf.clauses
+    × (dropped : List Bool) × AreLeftOut facts kept dropped × AreRefutedFor target first limits dropped proof.cnf
 IsShrunk target first facts limits budget (Unknown proof) =
-    IsSpent limits.states budget proof × IsLaidOut limits proof.layout × (dropped : List Bool) × AreSaidFor target first limits dropped proof.cnf.clauses × (length dropped ≡ facts)
+    IsSpent limits.states budget proof × IsLaidOut limits proof.layout × (dropped : List Bool) × AreSaidFor target first limits dropped proof.cnf × (length dropped ≡ facts)

@@ -1,5 +1,5 @@
 -- What a model means with some of its facts alone.
-use Rattle.std.specs.Prelude.{◌≡◌, ℕ, ℤ, List, [], ◌∷◌, ◌≤◌, length, All, Option, Some, None, slice_get}
+use Rattle.std.specs.Prelude.{◌≡◌, ℕ, List, [], ◌∷◌, ◌≤◌, length, Option, Some, None, slice_get}
 use Rattle.core_tree.specs.declared.model.Command.{Command}
 use Rattle.core_tree.specs.declared.model.Fact.{Fact}
 use Rattle.core_tree.specs.Trees.{claim_of}
@@ -7,7 +7,7 @@ use Rattle.core_meaning.specs.Satisfied.{SatisfiesWith}
 use Rattle.core_meaning.specs.Sequence.{LassoValue}
 use Rattle.bound_uppers.specs.Candidates.{IsCandidate}
 use Rattle.bound_laws.specs.Satisfying.{IsLassoOver}
-use Rattle.answer_search.specs.Clauses.{IsCovered}
+use Rattle.sat_dimacs.specs.declared.cnf.Cnf.{Cnf}
 use Rattle.answer_certificates.specs.Parts.{RuleOut}
 use Rattle.answer_analysis.specs.declared.ready.Prepared.{Prepared}
 use Rattle.answer_analysis.specs.declared.ready.Ready.{Ready}
@@ -28,17 +28,17 @@ pub record KeepsFacts (ready : Ready) (kept : List ℕ) (lasso : LassoValue) : T
   pub chosen : slice_get ready.model.commands ready.command ≡ Some command
   pub satisfies : SatisfiesWith ready.model ready.scopes lasso (facts_at ready.model.facts kept) (claim_of command.formula)
 
--- where all formulas that are searched have plain forms
+-- what a refutation means with some facts alone
 pub record NoneKeeps (prepared : Prepared) (kept : List ℕ) : Type 0 where
   -- no lasso within the bounds does, of as many states as they have
-  pub candidates : All IsCovered prepared.target.formulas → (lasso : LassoValue) → IsCandidate prepared.ready.bounds lasso → KeepsFacts prepared.ready kept lasso → ⊥
+  pub candidates : (lasso : LassoValue) → IsCandidate prepared.ready.bounds lasso → KeepsFacts prepared.ready kept lasso → ⊥
   -- and none at all of at most as many states, where the model is usual
   pub lassos :
-      All IsCovered prepared.target.formulas → IsUsual prepared.ready.model →
+      IsUsual prepared.ready.model →
       (lasso : LassoValue) → IsLassoOver prepared.ready.model prepared.ready.scopes lasso → length lasso.states ≤ prepared.ready.bounds.states →
       KeepsFacts prepared.ready kept lasso → ⊥
 
 -- what clauses rule out with some facts alone
 abbrev pub KeptFactsRuleOut : Type 0
-KeptFactsRuleOut = (number : ℕ) (prepared : Prepared) (kept : List ℕ) (clauses : List (List ℤ)) → IsPrepared number prepared
-    → RuleOut prepared.target prepared.first_fact (length prepared.ready.model.facts) prepared.ready.bounds kept clauses → NoneKeeps prepared kept
+KeptFactsRuleOut = (number : ℕ) (prepared : Prepared) (kept : List ℕ) (cnf : Cnf) → IsPrepared number prepared
+    → RuleOut prepared.target prepared.first_fact (length prepared.ready.model.facts) prepared.ready.bounds kept cnf → NoneKeeps prepared kept

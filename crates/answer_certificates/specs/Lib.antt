@@ -4,3 +4,4 @@ pub mod Core
 pub mod Kept
 pub mod Certificate
 pub mod Named
+pub mod Encoded

@@ -1,10 +1,11 @@
 -- A target without the formulas of some facts.
-use Rattle.std.specs.Prelude.{◌≡◌, ◌<◌, ◌≤◌, ◌-◌, ℕ, ◌+◌, ℤ, Bool, false, not, ◌||◌, nat_lt, if◌then◌else◌, List, [], ◌∷◌, map, length, slice_index_or}
+use Rattle.std.specs.Prelude.{◌≡◌, ◌<◌, ◌≤◌, ◌-◌, ℕ, ◌+◌, Bool, false, not, ◌||◌, nat_lt, if◌then◌else◌, List, [], ◌∷◌, map, length, slice_index_or}
 use Rattle.std.specs.List.{Contains}
 use Rattle.core_tree.specs.declared.tree.Formula.{Formula}
 use Rattle.core_tree.specs.Trees.{Claim, claim_of}
 use Rattle.core_meaning.specs.declared.target.Target.{Target}
 use Rattle.bound_uppers.specs.declared.table.Bounds.{Bounds}
+use Rattle.sat_dimacs.specs.declared.cnf.Cnf.{Cnf}
 use Rattle.answer_search.specs.Clauses.{SayTarget, IsRuledOut}
 
 -- whether a fact is left out
@@ -27,23 +28,23 @@ pub record IsPartOf (target : Target) (first : ℕ) (dropped : List Bool) (part 
   pub formulas : map claim_of part.formulas ≡ staying (stays first dropped) 0 target.formulas
 
 -- clauses say what a target does without the formulas of the facts that are left out, within the limits
-pub record AreSaidFor (target : Target) (first : ℕ) (limits : Bounds) (dropped : List Bool) (clauses : List (List ℤ)) : Type 0 where
+pub record AreSaidFor (target : Target) (first : ℕ) (limits : Bounds) (dropped : List Bool) (cnf : Cnf) : Type 0 where
   pub part : Target
   pub is_part : IsPartOf target first dropped part
-  pub says : SayTarget part limits clauses
+  pub says : SayTarget part limits cnf
 
 -- and they rule it out there
-pub record AreRefutedFor (target : Target) (first : ℕ) (limits : Bounds) (dropped : List Bool) (clauses : List (List ℤ)) : Type 0 where
+pub record AreRefutedFor (target : Target) (first : ℕ) (limits : Bounds) (dropped : List Bool) (cnf : Cnf) : Type 0 where
   pub part : Target
   pub is_part : IsPartOf target first dropped part
-  pub says : SayTarget part limits clauses
+  pub says : SayTarget part limits cnf
   pub ruled : IsRuledOut part limits
 
 -- clauses say what a target does without the formulas of some of its so many facts, within the limits
-pub record SayPart (target : Target) (first facts : ℕ) (limits : Bounds) (clauses : List (List ℤ)) : Type 0 where
+pub record SayPart (target : Target) (first facts : ℕ) (limits : Bounds) (cnf : Cnf) : Type 0 where
   pub dropped : List Bool
   pub few : length dropped ≤ facts
-  pub said : AreSaidFor target first limits dropped clauses
+  pub said : AreSaidFor target first limits dropped cnf
 
 -- of so many facts those are left out whose numbers aren't kept
 pub record AreLeftOut (facts : ℕ) (kept : List ℕ) (dropped : List Bool) : Type 0 where
@@ -51,8 +52,8 @@ pub record AreLeftOut (facts : ℕ) (kept : List ℕ) (dropped : List Bool) : Ty
   pub each : (fact : ℕ) → fact < facts → (Contains kept fact → is_out dropped fact ≡ false) × (is_out dropped fact ≡ false → Contains kept fact)
 
 -- Clauses say what a target does with the kept facts alone, and rule that out: no lasso within the limits, of as many states as
--- they have, keeps these facts and meets the target's other formulas, where all are of plain forms.
-pub record RuleOut (target : Target) (first facts : ℕ) (limits : Bounds) (kept : List ℕ) (clauses : List (List ℤ)) : Type 0 where
+-- they have, keeps these facts and meets the target's other formulas.
+pub record RuleOut (target : Target) (first facts : ℕ) (limits : Bounds) (kept : List ℕ) (cnf : Cnf) : Type 0 where
   pub dropped : List Bool
   pub left_out : AreLeftOut facts kept dropped
-  pub refuted : AreRefutedFor target first limits dropped clauses
+  pub refuted : AreRefutedFor target first limits dropped cnf

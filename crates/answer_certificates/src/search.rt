@@ -14,9 +14,8 @@ use std::alloc::{AllocError, Global};
 /// model, whose number of states becomes that of each search. The budget counts for each search. The only error is want of
 /// memory.
 ///
-/// A lasso lies within the bounds and meets the target, as far as its formulas have only the plain forms. What is refuted
-/// rules out every lasso within these bounds of so many states, if all formulas have only the plain forms; its lemmas are new,
-/// and at most as many as the budget.
+/// A lasso lies within the bounds and meets the target. What is refuted rules out every lasso within these bounds of so many
+/// states; its lemmas are new, and at most as many as the budget.
 pub fn find_least<C: Chooser>(
     alloc: Global,
     target: &Target,

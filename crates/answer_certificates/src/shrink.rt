@@ -176,8 +176,8 @@ fn shrink<C: Chooser>(
 /// The last formula of the target is the command's and stands behind those of the facts. The bounds are those of the model,
 /// and each search is within them. The budget counts for each search. The only error is want of memory.
 ///
-/// A lasso shows the sequence of one within the bounds that meets the target, as far as its formulas have only the plain
-/// forms. The lemmas of a refutation are new, and at most as many as the budget.
+/// A lasso shows the sequence of one within the bounds that meets the target. The lemmas of a refutation are new, and at most
+/// as many as the budget.
 pub fn find_core<C: Chooser>(
     alloc: Global,
     target: &Target,

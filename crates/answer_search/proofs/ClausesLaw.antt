@@ -1,78 +1,99 @@
--- What clauses that are written say of the nodes of a circuit.
-use Rattle.std.proofs.Common.{◌≡◌, ℕ, zero, suc, ℤ, Bool, true, ◌&&◌, List, [], ◌∷◌, ◌++◌, map, get_or, All, Some, slice_get, refl, sym, ap, ◌∙◌, subst, arith}
+-- What assignments of a target's clauses tell.
+use Rattle.std.proofs.Common.{◌≡◌, ℕ, zero, suc, ◌<◌, ℤ, Bool, true, ◌&&◌, List, [], ◌∷◌, map, length, get_or, All, Some, slice_get, refl, sym, ap, ◌∙◌, subst, arith}
 use Rattle.std.specs.List.{list_all}
 use Rattle.std.proofs.Math.Bool.{or-false}
 use Rattle.std.proofs.lemmas.Bool.{and_parts, and_from}
+use Rattle.std.proofs.lemmas.List.Elements.{All-cons, All-head, All-tail}
 use Rattle.std.proofs.lemmas.List.Folds.{list_all-append, list_all-map}
 use Rattle.std.proofs.lemmas.List.Sums.{AllPass-from_list_all, list_all-from_AllPass}
-use Rattle.std.proofs.lemmas.Option.{slice_get-get_or}
-use Rattle.gate_trait.specs.declared.node.Node.{Node}
-use Rattle.gate_trait.specs.declared.gate.Gate.{Gate}
-use Rattle.gate_trait.specs.declared.gate.Gate.TheVariants.{Constant, Input, And, Or, Xor, Choose}
-use Rattle.gate_trait.specs.Circuit.{value_among, gate_value, values_after, value_in}
+use Rattle.std.proofs.lemmas.Option.{slice_get-get_or, slice_get_within}
+use Rattle.core_meaning.specs.declared.target.Target.{Target}
+use Rattle.core_meaning.specs.Sequence.{LassoValue}
+use Rattle.sat_dimacs.specs.declared.cnf.Cnf.{Cnf}
 use Rattle.sat_dimacs.specs.Literal.{literal_value, clause_value, Satisfies}
-use Rattle.gate_tseitin.specs.Named.{satisfied, input_count}
-use Rattle.gate_tseitin.specs.Written.{Agree, AreNumbered, IsWritten}
+use Rattle.bound_uppers.specs.declared.table.Bounds.{Bounds}
+use Rattle.bound_uppers.specs.Table.{IsTable}
+use Rattle.bound_uppers.specs.Candidates.{IsCandidate}
+use Rattle.bound_naming.specs.Naming.{IsCanonical}
+use Rattle.gate_tseitin.specs.Named.{satisfied}
+use Rattle.bmc_leaves.specs.Table.{Decodes}
+use Rattle.answer_search.specs.Clauses.{unit, IsTrueIn, HoldsFirst, Meets, SayTarget}
 
--- ---- the value of a node by the inputs that the gates name
+-- an item at a place below the length
+there : {X : Type 0} (xs : List X) (k : ℕ) → k < length xs → (x : X) × (slice_get xs k ≡ Some x)
+there [] k lt = absurd (omega arith)
+there (x ∷ xs) zero lt = (x, refl)
+there (x ∷ xs) (suc k) lt = there xs k (omega arith)
 
-same_gate : (before : List Bool) (v x : ℕ → Bool) (g : Gate) → ((w : ℕ) → g ≡ Input w → v w ≡ x w) → gate_value before v g ≡ gate_value before x g
-same_gate before v x (Constant b) h = refl
-same_gate before v x (Input w) h = h w refl
-same_gate before v x (And a b) h = refl
-same_gate before v x (Or a b) h = refl
-same_gate before v x (Xor a b) h = refl
-same_gate before v x (Choose c a b) h = refl
+-- what all items are, the one at a place is
+of_all : {X : Type 0} (P : X → Type 0) (xs : List X) (k : ℕ) (x : X) → All P xs → slice_get xs k ≡ Some x → P x
+of_all P [] k x all e = cc
+of_all P (y ∷ xs) zero x all e = let is : y ≡ x = cc in subst P is (all zero y (omega arith))
+of_all P (y ∷ xs) (suc k) x all e = of_all P xs k x (λ j d lt. all (suc j) d (omega arith)) e
 
-same_after : (before : List Bool) (v x : ℕ → Bool) (gates : List Gate) → ((k w : ℕ) → slice_get gates k ≡ Some (Input w) → v w ≡ x w) → values_after before v gates ≡ values_after before x gates
-same_after before v x [] h = refl
-same_after before v x (g ∷ gates) h =
-    ap (λ (b : Bool). values_after (before ++ b ∷ []) v gates) (same_gate before v x g (λ w e. h zero w (ap Some e)))
-    ∙ same_after (before ++ gate_value before x g ∷ []) v x gates (λ k w e. h (suc k) w e)
+-- the clause of one literal
+abbrev unit_value : (ℕ → Bool) → ℤ → Bool
+unit_value v literal = clause_value v (unit literal)
 
-same_value : (gates : List Gate) (v x : ℕ → Bool) → AreNumbered gates → Agree (input_count gates) v x → (n : Node) → value_in gates v n ≡ value_in gates x n
-same_value gates v x numbered agree n =
-    ap (λ (list : List Bool). value_among list n) (same_after [] v x gates (λ k w e. let within = numbered.within k w e in agree w within.0 within.1))
+abbrev IsUnitTrue : (ℕ → Bool) → ℤ → Type 0
+IsUnitTrue v literal = unit_value v literal ≡ true
 
--- ---- the clauses of the roots
+one_literal : (v : ℕ → Bool) (literal : ℤ) → unit_value v literal ≡ literal_value v literal
+one_literal v literal = or-false (literal_value v literal)
 
-one_literal : (v : ℕ → Bool) (l : ℤ) → clause_value v (l ∷ []) ≡ literal_value v l
-one_literal v l = or-false (literal_value v l)
+module _ (target : Target) (bounds : Bounds) (cnf : Cnf) (say : SayTarget target bounds cnf) where
+  abbrev units : List ℤ
+  units = say.name ∷ say.numbers ∷ say.each
 
-module _ (gates : List Gate) (sure : Node) (roots : List Node) (n : ℕ) (clauses : List (List ℤ)) (w : IsWritten gates sure roots n clauses) where
-  -- whether the clause of a root is true
-  abbrev rooted : (ℕ → Bool) → Node → Bool
-  rooted v root = clause_value v (w.literal root ∷ [])
-
-  halves : (v : ℕ → Bool) → satisfied v clauses ≡ (satisfied v w.definitions && list_all (rooted v) roots)
+  halves : (v : ℕ → Bool) → satisfied v cnf.clauses ≡ (satisfied v say.defining && list_all (unit_value v) units)
   halves v =
-      let units = map (λ (root : Node). w.literal root ∷ []) roots in
-      ap (satisfied v) w.divided
-      ∙ list_all-append (clause_value v) w.definitions units
-      ∙ ap (λ (b : Bool). satisfied v w.definitions && b) (list_all-map (clause_value v) (λ (root : Node). w.literal root ∷ []) roots)
+      ap (satisfied v) say.divided
+      ∙ list_all-append (clause_value v) say.defining (map unit units)
+      ∙ ap (λ (b : Bool). satisfied v say.defining && b) (list_all-map (clause_value v) unit units)
 
-  root_true : (v : ℕ → Bool) → satisfied v w.definitions ≡ true → (k : ℕ) (root : Node) → slice_get roots k ≡ Some root → rooted v root ≡ value_in gates v root
-  root_true v defined k root e = one_literal v (w.literal root) ∙ w.valued v defined k root e
+  -- where all clauses are true, so are the definitions and each unit
+  parts : (v : ℕ → Bool) → Satisfies v cnf.clauses → Satisfies v say.defining × All (IsUnitTrue v) units
+  parts v s =
+      let all : satisfied v cnf.clauses ≡ true = list_all-from_AllPass (clause_value v) cnf.clauses s in
+      let (defined, each) = and_parts (satisfied v say.defining) (list_all (unit_value v) units) (sym (halves v) ∙ all) in
+      (AllPass-from_list_all (clause_value v) say.defining defined, AllPass-from_list_all (unit_value v) units each)
 
-  get_all : (P : Node → Type 0) (k : ℕ) (root : Node) (row : List Node) → All P row → slice_get row k ≡ Some root → P root
-  get_all P k root [] all e = cc
-  get_all P zero root (r ∷ row) all e = let is : r ≡ root = cc in subst P is (all zero r (omega arith))
-  get_all P (suc k) root (r ∷ row) all e = get_all P k root row (λ j d lt. all (suc j) d (omega arith)) e
+  pub stands : (v : ℕ → Bool) → IsTable bounds → Satisfies v cnf.clauses → (lasso : LassoValue) × IsCandidate bounds lasso × Decodes bounds say.table v lasso
+  stands v is s = say.stands v is (parts v s).0
 
-  -- where all clauses are true, so are `sure` and each root
-  pub clauses_tell : (v : ℕ → Bool) → Satisfies v clauses → (value_in gates v sure ≡ true) × ((k : ℕ) (root : Node) → slice_get roots k ≡ Some root → value_in gates v root ≡ true)
-  clauses_tell v s =
-      let all : satisfied v clauses ≡ true = list_all-from_AllPass (clause_value v) clauses s in
-      let (defined, units) = and_parts (satisfied v w.definitions) (list_all (rooted v) roots) (sym (halves v) ∙ all) in (
-        w.surely v defined,
-        λ k root e. sym (root_true v defined k root e) ∙ get_all (λ r. rooted v r ≡ true) k root roots (AllPass-from_list_all (rooted v) roots units) e,
+  -- each lasso for which it stands meets the target, and is canonical, where the bounds have a table
+  pub sound : (v : ℕ → Bool) (lasso : LassoValue) → Satisfies v cnf.clauses → Decodes bounds say.table v lasso → Meets target lasso × (IsTable bounds → IsCanonical bounds say.all lasso)
+  sound v lasso s decodes =
+      let (defined, all) = parts v s in
+      let name : IsTrueIn v say.name = sym (one_literal v say.name) ∙ All-head (IsUnitTrue v) say.name (say.numbers ∷ say.each) all in
+      let rest = All-tail (IsUnitTrue v) say.name (say.numbers ∷ say.each) all in
+      let numbers : IsTrueIn v say.numbers = sym (one_literal v say.numbers) ∙ All-head (IsUnitTrue v) say.numbers say.each rest in
+      let each = All-tail (IsUnitTrue v) say.numbers say.each rest in (
+        (
+          (say.keeps v lasso defined decodes).0 numbers,
+          λ k d lt.
+              let (literal, at) = there say.each k (omega (arith, say.one_each, lt)) in
+              let on : IsTrueIn v literal = sym (one_literal v literal) ∙ of_all (IsUnitTrue v) say.each k literal each at in
+              (say.holds v lasso defined decodes k (get_or target.formulas k d) literal (slice_get-get_or target.formulas k d lt) at).0 on,
+        ),
+        λ is. (say.named v lasso is defined decodes).0 name,
       )
 
-  -- inputs under which `sure` and each root is true are those of an assignment of all clauses
-  pub clauses_told : AreNumbered gates → (x : ℕ → Bool) → value_in gates x sure ≡ true → ((k : ℕ) (root : Node) → slice_get roots k ≡ Some root → value_in gates x root ≡ true) → (v : ℕ → Bool) × Satisfies v clauses × Agree (input_count gates) v x
-  clauses_told numbered x surely each =
-      let (v, agree, defined) = w.extended x surely in
-      let units : list_all (rooted v) roots ≡ true = list_all-from_AllPass (rooted v) roots (λ k d lt.
-      let e = slice_get-get_or roots k d lt in
-      root_true v defined k (get_or roots k d) e ∙ same_value gates v x numbered agree (get_or roots k d) ∙ each k (get_or roots k d) e) in
-      (v, AllPass-from_list_all (clause_value v) clauses (halves v ∙ and_from (satisfied v w.definitions) (list_all (rooted v) roots) defined units), agree)
+  -- where the definitions and each unit are true, so are all clauses
+  whole : (v : ℕ → Bool) → Satisfies v say.defining → IsTrueIn v say.name → IsTrueIn v say.numbers → ((k : ℕ) (literal : ℤ) → slice_get say.each k ≡ Some literal → IsTrueIn v literal) → Satisfies v cnf.clauses
+  whole v s name numbers each =
+      let rest : All (IsUnitTrue v) say.each = λ k d lt. one_literal v (get_or say.each k d) ∙ each k (get_or say.each k d) (slice_get-get_or say.each k d lt) in
+      let both = All-cons (IsUnitTrue v) say.numbers say.each (one_literal v say.numbers ∙ numbers) rest in
+      let all : All (IsUnitTrue v) units = All-cons (IsUnitTrue v) say.name (say.numbers ∷ say.each) (one_literal v say.name ∙ name) both in
+      let true_in = and_from (satisfied v say.defining) (list_all (unit_value v) units) (list_all-from_AllPass (clause_value v) say.defining s) (list_all-from_AllPass (unit_value v) units all) in
+      AllPass-from_list_all (clause_value v) cnf.clauses (halves v ∙ true_in)
+
+  -- a canonical lasso within the bounds which meets the target has an assignment of all clauses
+  pub complete : (lasso : LassoValue) → IsTable bounds → IsCandidate bounds lasso → Meets target lasso → IsCanonical bounds say.all lasso → (v : ℕ → Bool) × Satisfies v cnf.clauses
+  complete lasso is candidate meets canonical =
+      let (v, defined, decodes) = say.some lasso is candidate in
+      let each : (k : ℕ) (literal : ℤ) → slice_get say.each k ≡ Some literal → IsTrueIn v literal = λ k literal at.
+      let lt : k < length target.formulas = omega (arith, say.one_each, slice_get_within say.each k literal at) in
+      let (f, at_f) = there target.formulas k lt in
+      (say.holds v lasso defined decodes k f literal at_f at).1 (of_all (HoldsFirst target.scopes lasso) target.formulas k f meets.1 at_f) in
+      (v, whole v defined ((say.named v lasso is defined decodes).1 canonical) ((say.keeps v lasso defined decodes).1 meets.0) each)

@@ -5,4 +5,7 @@ mod MetLaw
 mod NamedLaw
 mod NewLaw
 mod NoneLaw
+mod OnceLaw
+mod RowsLaw
 mod SayLaw
+mod StandsLaw

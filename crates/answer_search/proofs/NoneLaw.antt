@@ -6,16 +6,16 @@ use Rattle.bound_uppers.specs.declared.table.Bounds.{Bounds}
 use Rattle.bound_uppers.specs.Candidates.{HasSets}
 use Rattle.bound_naming.specs.declared.neighbours.TheConstants.{NAMED_PAIRS}
 use Rattle.bound_laws.specs.Canonical.{CandidatesHaveCanonical}
+use Rattle.sat_dimacs.specs.declared.cnf.Cnf.{Cnf}
 use Rattle.sat_lrat.specs.declared.line.Line.{Line}
 use Rattle.sat_lrat.specs.Step.{Refutes, IsUnsatisfiable}
-use Rattle.bmc_laws.specs.TableTold.{CandidatesAreTold}
 use Rattle.answer_search.specs.Clauses.{SayTarget, IsRuledOut}
+use Rattle.answer_search.proofs.ClausesLaw.{complete}
 
-pub ruled_out : (target : Target) (bounds : Bounds) (clauses : List (List ℤ)) (lines : List Line) → ((formula : List (List ℤ)) (refutation : List Line) → Refutes formula refutation → IsUnsatisfiable formula) → CandidatesAreTold → CandidatesHaveCanonical → HasSets bounds
-    → SayTarget target bounds clauses → Refutes clauses lines → IsRuledOut target bounds
-ruled_out target bounds clauses lines sound told named sets say refutes is covered lasso candidate meets =
+pub ruled_out : (target : Target) (bounds : Bounds) (cnf : Cnf) (lines : List Line) → ((formula : List (List ℤ)) (refutation : List Line) → Refutes formula refutation → IsUnsatisfiable formula) → CandidatesHaveCanonical → HasSets bounds
+    → SayTarget target bounds cnf → Refutes cnf.clauses lines → IsRuledOut target bounds
+ruled_out target bounds cnf lines sound named sets say refutes is lasso candidate meets =
     let satisfied : SatisfiesTarget target lasso = record { numbers = meets.0; formulas = meets.1 } in
     let (other, is_candidate, canonical, satisfies) = named target bounds NAMED_PAIRS say.all lasso is sets (say.paired is).only candidate satisfied in
-    let (x, decodes) = told bounds say.table other is (say.laid is) is_candidate in
-    let (v, true_in, same) = say.complete x other is decodes covered (satisfies.numbers, satisfies.formulas) canonical in
-    sound clauses lines refutes v true_in
+    let (v, true_in) = complete target bounds cnf say other is is_candidate (satisfies.numbers, satisfies.formulas) canonical in
+    sound cnf.clauses lines refutes v true_in

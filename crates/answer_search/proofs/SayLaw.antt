@@ -1,19 +1,22 @@
 -- The clauses of a circuit that encodes a target say what the target asks.
-use Rattle.std.proofs.Common.{◌≡◌, ◌↔◌, ℕ, zero, suc, ◌+◌, ◌<◌, ◌≤◌, ℤ, Bool, true, List, [], ◌∷◌, length, get_or, All, Some, slice_get, refl, sym, ◌∙◌, subst, arith}
-use Rattle.std.proofs.lemmas.Option.{slice_get-get_or, slice_get_within}
+use Rattle.std.proofs.Common.{◌≡◌, ◌↔◌, ℕ, zero, suc, ◌+◌, ◌≤◌, ℤ, Bool, true, List, [], ◌∷◌, ◌++◌, map, length, Some, slice_get, refl, sym, ap, ◌∙◌, subst, arith}
+use Rattle.std.proofs.lemmas.List.{length-map}
+use Rattle.std.proofs.lemmas.List.Sums.{AllPass-from_list_all, list_all-from_AllPass}
 use Rattle.gate_trait.specs.declared.node.Node.{Node}
 use Rattle.gate_trait.specs.declared.gate.Gate.{Gate}
 use Rattle.gate_trait.specs.Circuit.{value_in}
+use Rattle.core_tree.specs.declared.tree.Formula.{Formula}
 use Rattle.core_meaning.specs.declared.target.Target.{Target}
 use Rattle.core_meaning.specs.Sequence.{LassoValue}
-use Rattle.core_meaning.specs.Kept.{atom_count}
-use Rattle.sat_dimacs.specs.Literal.{Satisfies}
-use Rattle.gate_tseitin.specs.Named.{input_count}
-use Rattle.gate_tseitin.specs.Written.{Agree, AreNumbered, IsWritten}
+use Rattle.core_meaning.specs.Kept.{KeepsNumbers, atom_count}
+use Rattle.sat_dimacs.specs.declared.cnf.Cnf.{Cnf}
+use Rattle.sat_dimacs.specs.Literal.{literal_value, clause_value, Satisfies}
+use Rattle.gate_tseitin.specs.Named.{satisfied, input_count}
+use Rattle.gate_tseitin.specs.Written.{Agree, IsWritten}
 use Rattle.bound_uppers.specs.declared.places.Layout.{Layout}
 use Rattle.bound_uppers.specs.declared.table.Bounds.{Bounds}
-use Rattle.bound_uppers.specs.Table.{IsTable, IsLaidOut, variables}
-use Rattle.bound_uppers.specs.Candidates.{HasSets}
+use Rattle.bound_uppers.specs.Table.{IsTable, IsLaidOut}
+use Rattle.bound_uppers.specs.Candidates.{HasSets, IsCandidate}
 use Rattle.bound_naming.specs.declared.neighbours.TheConstants.{NAMED_PAIRS}
 use Rattle.bound_naming.specs.declared.pairs.Pair.{Pair}
 use Rattle.bound_naming.specs.Naming.{favours_all, AreAllPairs, IsCanonical}
@@ -21,102 +24,99 @@ use Rattle.bound_naming.specs.Decided.{NamingIsDecided}
 use Rattle.bmc_leaves.specs.Table.{Decodes}
 use Rattle.bmc_encoder.specs.Encodes.{IsEncoded}
 use Rattle.answer_search.specs.Circuit.{IsCircuit}
-use Rattle.answer_search.specs.Clauses.{IsCovered, HoldsFirst, Meets, MeetsCovered, SayTarget}
-use Rattle.answer_search.proofs.ClausesLaw.{clauses_tell, clauses_told}
+use Rattle.answer_search.specs.Clauses.{unit, IsTrueIn, HoldsFirst, SayTarget}
 use Rattle.answer_search.proofs.NamedLaw.{decoded_tells}
+use Rattle.answer_search.proofs.OnceLaw.{stand_once}
+use Rattle.answer_search.proofs.StandsLaw.{TableLaws, candidate_stands}
 
--- an item at a place below the length
-there : {X : Type 0} (xs : List X) (k : ℕ) → k < length xs → (x : X) × (slice_get xs k ≡ Some x)
-there [] k lt = absurd (omega arith)
-there (x ∷ xs) zero lt = (x, refl)
-there (x ∷ xs) (suc k) lt = there xs k (omega arith)
+-- a list with one more than some number has a first
+parted_at : {X : Type 0} (xs : List X) (n : ℕ) → length xs ≡ n + 1 → (x : X) × (ys : List X) × (xs ≡ x ∷ ys) × (length ys ≡ n)
+parted_at [] n e = absurd (omega (arith, e))
+parted_at (x ∷ ys) n e = (x, ys, refl, omega (arith, e))
 
--- what all items are, the one at a place is
-of_all : {X : Type 0} (P : X → Type 0) (xs : List X) (k : ℕ) (x : X) → All P xs → slice_get xs k ≡ Some x → P x
-of_all P [] k x all e = cc
-of_all P (y ∷ xs) zero x all e = let is : y ≡ x = cc in subst P is (all zero y (omega arith))
-of_all P (y ∷ xs) (suc k) x all e = of_all P xs k x (λ j d lt. all (suc j) d (omega arith)) e
+-- what stands at a place is made of what stood there
+unmapped : {X Y : Type 0} (f : X → Y) (xs : List X) (k : ℕ) (y : Y) → slice_get (map f xs) k ≡ Some y → (x : X) × (slice_get xs k ≡ Some x) × (f x ≡ y)
+unmapped f [] k y e = absurd cc
+unmapped f (x ∷ xs) zero y e = let is : f x ≡ y = cc in (x, refl, is)
+unmapped f (x ∷ xs) (suc k) y e = unmapped f xs k y e
 
--- what is within a number is within a greater one
-reaches : (m size most inputs : ℕ) → m ≤ size → size ≡ most → most ≤ inputs → m ≤ inputs
-reaches m size most inputs low same room = omega (arith, low, same, room)
+-- the units of literals
+twice : (g : Node → ℤ) (nodes : List Node) → map (λ (n : Node). g n ∷ []) nodes ≡ map unit (map g nodes)
+twice g [] = refl
+twice g (n ∷ nodes) = ap (λ (rest : List (List ℤ)). (g n ∷ []) ∷ rest) (twice g nodes)
 
--- The clauses are those of a circuit of the target, which has an input for each variable of the table.
-module _ (target : Target) (bounds : Bounds) (table : Layout) (gates : List Gate) (sure : Node) (all_roots : List Node) (n : ℕ) (clauses : List (List ℤ)) (written : IsWritten gates sure all_roots n clauses) (numbered : AreNumbered gates) (room : IsTable bounds → variables bounds ≤ input_count gates) (laid : IsLaidOut bounds table) (circuit : IsCircuit target bounds table (value_in gates) sure all_roots) (sets : HasSets bounds) (decided : NamingIsDecided) where
-  abbrev all : List (List Pair)
-  all = circuit.all
+-- The clauses are those of a circuit of the target, whose inputs are the variables of the table.
+module _ (target : Target) (bounds : Bounds) (table : Layout) (gates : List Gate) (sure name first : Node) (others : List Node) (cnf : Cnf) (w : IsWritten gates sure (name ∷ first ∷ others) cnf.variables cnf.clauses) (room : table.variables ≡ input_count gates) (laid : IsLaidOut bounds table) (all : List (List Pair)) (paired : IsTable bounds → AreAllPairs bounds (atom_count target.scopes.numbers) NAMED_PAIRS all) (favoured : (x : ℕ → Bool) → value_in gates x name ≡ favours_all x all) (count : length others ≡ length target.formulas) (encoded : IsEncoded bounds target.scopes target.formulas table (value_in gates) sure (first ∷ others)) (sets : HasSets bounds) (decided : NamingIsDecided) (laws : TableLaws) where
+  defined : (v : ℕ → Bool) → Satisfies v w.definitions → satisfied v w.definitions ≡ true
+  defined v s = list_all-from_AllPass (clause_value v) w.definitions s
 
-  abbrev name : Node
-  name = circuit.name
+  -- the literal of a root has its value
+  valued : (v : ℕ → Bool) → Satisfies v w.definitions → (k : ℕ) (root : Node) → slice_get (name ∷ first ∷ others) k ≡ Some root → literal_value v (w.literal root) ≡ value_in gates v root
+  valued v s k root e = w.valued v (defined v s) k root e
 
-  abbrev roots : List Node
-  roots = circuit.rest
+  stands : (v : ℕ → Bool) → IsTable bounds → Satisfies v w.definitions → (lasso : LassoValue) × IsCandidate bounds lasso × Decodes bounds table v lasso
+  stands v is s =
+      let (other, found) = (encoded.lassos v).0 (w.surely v (defined v s)) in
+      candidate_stands laws bounds table is (laid is) sets v other found
 
-  w : IsWritten gates sure (name ∷ roots) n clauses
-  w = subst (λ (nodes : List Node). IsWritten gates sure nodes n clauses) circuit.roots_are written
+  some : (lasso : LassoValue) → IsTable bounds → IsCandidate bounds lasso → (v : ℕ → Bool) × Satisfies v w.definitions × Decodes bounds table v lasso
+  some lasso is candidate =
+      let (x, decodes) = laws.told bounds table lasso is (laid is) candidate in
+      let (v, agree, true_in) = w.extended x ((encoded.lassos x).1 (lasso, decodes)) in
+      let same : Agree table.variables v x = λ m above low. agree m above (subst (λ (n : ℕ). m ≤ n) room low) in
+      (v, AllPass-from_list_all (clause_value v) w.definitions true_in, laws.alike bounds table v x lasso is (laid is) same decodes)
 
-  count : length roots ≡ length target.formulas + 1
-  count = circuit.count
+  only : (lasso : LassoValue) (v u : ℕ → Bool) → IsTable bounds → Satisfies v w.definitions → Satisfies u w.definitions → Decodes bounds table v lasso → Decodes bounds table u lasso → Agree cnf.variables v u
+  only lasso v u is s t first_stands second_stands =
+      let same : Agree table.variables v u = stand_once bounds table is (laid is) sets v u lasso first_stands second_stands in
+      w.unique v u (defined v s) (defined u t) (λ m above low. same m above (subst (λ (n : ℕ). m ≤ n) (sym room) low))
 
-  encoded : IsEncoded bounds target.scopes target.formulas table (value_in gates) sure roots
-  encoded = circuit.encoded
-
-  named : (x : ℕ → Bool) → value_in gates x name ≡ favours_all x all
-  named = circuit.named
-
-  paired : IsTable bounds → AreAllPairs bounds (atom_count target.scopes.numbers) NAMED_PAIRS all
-  paired is = circuit.paired is (laid is)
-
-  -- the naming's node is true just where the lasso is canonical
-  canonical : (v : ℕ → Bool) (lasso : LassoValue) → IsTable bounds → Decodes bounds table v lasso → (value_in gates v name ≡ true) ↔ IsCanonical bounds all lasso
-  canonical v lasso is decodes =
+  named : (v : ℕ → Bool) (lasso : LassoValue) → IsTable bounds → Satisfies v w.definitions → Decodes bounds table v lasso → IsTrueIn v (w.literal name) ↔ IsCanonical bounds all lasso
+  named v lasso is s decodes =
+      let same = valued v s zero name refl ∙ favoured v in
       let both = decided bounds (atom_count target.scopes.numbers) NAMED_PAIRS all v lasso (paired is) (decoded_tells bounds table (laid is) sets v lasso decodes) in
-      (λ on. both.0 (sym (named v) ∙ on), λ names. named v ∙ both.1 names)
+      (λ on. both.0 (sym same ∙ on), λ canonical. same ∙ both.1 canonical)
 
-  stands : (v : ℕ → Bool) → Satisfies v clauses → (lasso : LassoValue) × Decodes bounds table v lasso
-  stands v s = (encoded.lassos v).0 (clauses_tell gates sure (name ∷ roots) n clauses w v s).0
+  keeps : (v : ℕ → Bool) (lasso : LassoValue) → Satisfies v w.definitions → Decodes bounds table v lasso → IsTrueIn v (w.literal first) ↔ KeepsNumbers target.scopes lasso
+  keeps v lasso s decodes =
+      let same = valued v s (suc zero) first refl in
+      let both = encoded.numbers first refl v lasso decodes in
+      (λ on. both.0 (sym same ∙ on), λ kept. same ∙ both.1 kept)
 
-  sound : (v : ℕ → Bool) (lasso : LassoValue) → Satisfies v clauses → Decodes bounds table v lasso → MeetsCovered target lasso × (IsTable bounds → IsCanonical bounds all lasso)
-  sound v lasso s decodes =
-      let (surely, each) = clauses_tell gates sure (name ∷ roots) n clauses w v s in
-      let (first, at_first) = there roots zero (omega (arith, count)) in (
-        (
-          (encoded.numbers first at_first v lasso decodes).0 (each (suc zero) first at_first),
-          λ k d lt covered.
-              let (node, at_node) = there roots (k + 1) (omega (arith, count, lt)) in
-              (encoded.holds k (get_or target.formulas k d) node (slice_get-get_or target.formulas k d lt) at_node covered.0 covered.1 v lasso decodes).0 (each (suc (k + 1)) node at_node),
-        ),
-        λ is. (canonical v lasso is decodes).0 (each zero name refl),
-      )
-
-  root_holds : (x : ℕ → Bool) (lasso : LassoValue) → Decodes bounds table x lasso → All IsCovered target.formulas → Meets target lasso → (k : ℕ) (root : Node) → slice_get roots k ≡ Some root → value_in gates x root ≡ true
-  root_holds x lasso decodes covered meets zero root e = (encoded.numbers root e x lasso decodes).1 meets.0
-  root_holds x lasso decodes covered meets (suc k) root e =
-      let lt : k < length target.formulas = omega (arith, count, slice_get_within roots (suc k) root e) in
+  holds : (v : ℕ → Bool) (lasso : LassoValue) → Satisfies v w.definitions → Decodes bounds table v lasso → (k : ℕ) (f : Formula) (literal : ℤ) → slice_get target.formulas k ≡ Some f → slice_get (map w.literal others) k ≡ Some literal → IsTrueIn v literal ↔ HoldsFirst target.scopes lasso f
+  holds v lasso s decodes k f literal at_f at =
+      let (node, at_node, is) = unmapped w.literal others k literal at in
+      let same : literal_value v literal ≡ value_in gates v node = ap (literal_value v) (sym is) ∙ valued v s (suc (suc k)) node at_node in
       let step : suc k ≡ k + 1 = omega arith in
-      let at : slice_get roots (k + 1) ≡ Some root = subst (λ (m : ℕ). slice_get roots m ≡ Some root) step e in
-      let (f, at_f) = there target.formulas k lt in
-      let (plain, deep) = of_all IsCovered target.formulas k f covered at_f in
-      (encoded.holds k f root at_f at plain deep x lasso decodes).1 (of_all (HoldsFirst target.scopes lasso) target.formulas k f meets.1 at_f)
+      let at_root : slice_get (first ∷ others) (k + 1) ≡ Some node = subst (λ (m : ℕ). slice_get (first ∷ others) m ≡ Some node) step at_node in
+      let both = encoded.holds k f node at_f at_root v lasso decodes in
+      (λ on. both.0 (sym same ∙ on), λ held. same ∙ both.1 held)
 
-  each_holds : (x : ℕ → Bool) (lasso : LassoValue) → IsTable bounds → Decodes bounds table x lasso → All IsCovered target.formulas → Meets target lasso → IsCanonical bounds all lasso → (k : ℕ) (root : Node) → slice_get (name ∷ roots) k ≡ Some root → value_in gates x root ≡ true
-  each_holds x lasso is decodes covered meets names zero root e =
-      let same : name ≡ root = cc in
-      subst (λ (m : Node). value_in gates x m ≡ true) same ((canonical x lasso is decodes).1 names)
-  each_holds x lasso is decodes covered meets names (suc k) root e = root_holds x lasso decodes covered meets k root e
-
-  complete : (x : ℕ → Bool) (lasso : LassoValue) → IsTable bounds → Decodes bounds table x lasso → All IsCovered target.formulas → Meets target lasso → IsCanonical bounds all lasso → (v : ℕ → Bool) × Satisfies v clauses × Agree table.variables v x
-  complete x lasso is decodes covered meets names =
-      let (v, true_in, same) = clauses_told gates sure (name ∷ roots) n clauses w numbered x ((encoded.lassos x).1 (lasso, decodes)) (each_holds x lasso is decodes covered meets names) in
-      (v, true_in, λ m some low. same m some (reaches m table.variables (variables bounds) (input_count gates) low (laid is).count (room is)))
-
-  pub say_target : SayTarget target bounds clauses
-  say_target = record {
+  say_at : SayTarget target bounds cnf
+  say_at = record {
     table = table;
     all = all;
     laid = laid;
     paired = paired;
+    defining = w.definitions;
+    name = w.literal name;
+    numbers = w.literal first;
+    each = map w.literal others;
+    divided = w.divided ∙ ap (λ (units : List (List ℤ)). w.definitions ++ units) (twice w.literal (name ∷ first ∷ others));
+    one_each = length-map others w.literal ∙ count;
+    some = some;
+    only = only;
     stands = stands;
-    sound = sound;
-    complete = complete;
+    named = named;
+    keeps = keeps;
+    holds = holds;
   }
+
+pub say_target : (target : Target) (bounds : Bounds) (table : Layout) (gates : List Gate) (sure : Node) (roots : List Node) (cnf : Cnf) → IsWritten gates sure roots cnf.variables cnf.clauses → table.variables ≡ input_count gates → IsLaidOut bounds table
+    → IsCircuit target bounds table (value_in gates) sure roots → HasSets bounds → NamingIsDecided → TableLaws → SayTarget target bounds cnf
+say_target target bounds table gates sure roots cnf written room laid circuit sets decided laws =
+    let (first, others, parted, count) = parted_at circuit.rest (length target.formulas) circuit.count in
+    let whole : roots ≡ circuit.name ∷ first ∷ others = circuit.roots_are ∙ ap (λ (nodes : List Node). circuit.name ∷ nodes) parted in
+    let w = subst (λ (nodes : List Node). IsWritten gates sure nodes cnf.variables cnf.clauses) whole written in
+    let encoded = subst (λ (nodes : List Node). IsEncoded bounds target.scopes target.formulas table (value_in gates) sure nodes) parted circuit.encoded in
+    say_at target bounds table gates sure circuit.name first others cnf w room laid circuit.all (λ is. circuit.paired is (laid is)) circuit.named count encoded sets decided laws

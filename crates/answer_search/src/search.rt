@@ -9,7 +9,7 @@ ghost use Rattle.answer_search.specs.Found.{IsFound, IsFoundWithin};
 use crate::found::{Found, Proof};
 use crate::written::clauses_of;
 use base_types::Assignment;
-use bmc_laws::{candidates_are_told, values_tell};
+use bmc_laws::values_tell;
 use bound_laws::candidates_have_canonical;
 use bound_naming::have_sets;
 use bound_uppers::{Bounds, Layout, decode, layout, shortest};
@@ -23,10 +23,9 @@ use std::alloc::{AllocError, Global};
 /// Searches for a lasso of the target within the bounds, of just as many states as these have. The only error is want of
 /// memory.
 ///
-/// A lasso lies within the bounds and meets the target, as far as its formulas have only the plain forms. Where the lines refute
-/// the clauses, no lasso within the bounds of so many states meets the target, if all formulas have only these. The clauses ask
-/// for a canonical lasso; where there is any, there is one. The lemmas of a refutation are new, and at most as many as the
-/// budget. The numbers of the variables are made once, and stay beside the clauses.
+/// A lasso lies within the bounds and meets the target. Where the lines refute the clauses, no lasso within the bounds of so
+/// many states meets the target. The clauses ask for a canonical lasso; where there is any, there is one. The lemmas of a
+/// refutation are new, and at most as many as the budget. The numbers of the variables are made once, and stay beside the clauses.
 pub fn search_lasso<C: Chooser>(
     alloc: Global,
     target: &Target,
@@ -49,7 +48,6 @@ pub fn search_lasso<C: Chooser>(
         }
         Outcome::Refutation(lines) => {
             refutation_is_sound();
-            candidates_are_told();
             candidates_have_canonical();
             have_sets(bounds);
             let rest = trim(alloc, &cnf, lines)?;

@@ -1,5 +1,5 @@
-pub mod Told
 mod Agreeing
+mod Alike
 mod Decided
 mod Places
 mod TableTold

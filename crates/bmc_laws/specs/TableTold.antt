@@ -1,5 +1,5 @@
 -- Lassos that assignments of a table's variables tell.
-use Rattle.std.specs.Prelude.{ℕ, Bool, List}
+use Rattle.std.specs.Prelude.{◌≡◌, ◌<◌, ◌≤◌, ℕ, Bool, List}
 use Rattle.core_meaning.specs.Sequence.{LassoValue}
 use Rattle.bound_uppers.specs.declared.places.Layout.{Layout}
 use Rattle.bound_uppers.specs.declared.table.Bounds.{Bounds}
@@ -19,3 +19,9 @@ StandingHaveOneLoop = (bounds : Bounds) (table : Layout) (values : List Bool) (l
 -- a lasso within the bounds of which values tell is one for which they stand
 abbrev pub AgreeingAreDecoded : Type 0
 AgreeingAreDecoded = (bounds : Bounds) (table : Layout) (values : List Bool) (lasso : LassoValue) → IsTable bounds → IsLayout bounds table → IsCandidate bounds lasso → Agrees bounds values lasso → Decodes bounds table (value_of values) lasso
+
+-- values that are the same on the variables of the table stand for the same lassos
+abbrev pub AlikeStand : Type 0
+AlikeStand =
+    (bounds : Bounds) (table : Layout) (v x : ℕ → Bool) (lasso : LassoValue) → IsTable bounds → IsLayout bounds table → ((m : ℕ) → 0 < m → m ≤ table.variables → v m ≡ x m) →
+    Decodes bounds table x lasso → Decodes bounds table v lasso

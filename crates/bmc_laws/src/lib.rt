@@ -1,18 +1,8 @@
-//! When clauses encode a model and a command, and what their assignments tell of lassos.
+//! What values of a table's variables tell of lassos.
 //! Each lasso within the bounds is one for which some values of the table's variables stand.
 #![tactic(auto)]
 
-ghost use Rattle.bmc_laws.specs.Encoding.{EncodingsAreSound, EncodingsAreComplete};
-
-/// Where clauses encode a model with some facts, and a command, each assignment that satisfies them tells of a canonical lasso
-/// that satisfies both; and each canonical lasso within the bounds that satisfies both has an assignment that satisfies the
-/// clauses and tells of it.
-pub fn encodings_tell()
-    ensures sound { EncodingsAreSound }
-    ensures complete { EncodingsAreComplete }
-{}
-
-ghost use Rattle.bmc_laws.specs.TableTold.{CandidatesAreTold, StandingHaveOneLoop, AgreeingAreDecoded};
+ghost use Rattle.bmc_laws.specs.TableTold.{CandidatesAreTold, StandingHaveOneLoop, AgreeingAreDecoded, AlikeStand};
 
 use bound_uppers::rows_rise;
 
@@ -23,9 +13,12 @@ pub fn candidates_are_told()
     rows_rise();
 }
 
-/// A law: values of the table's variables that stand for a lasso choose one loop; and a lasso within the bounds of which they
-/// tell is one for which they stand.
+/// A law: values of the table's variables that stand for a lasso choose one loop; a lasso within the bounds of which they
+/// tell is one for which they stand; and values that are the same on these variables stand for the same lassos.
 pub fn values_tell()
     ensures one_loop { StandingHaveOneLoop }
     ensures decoded { AgreeingAreDecoded }
-{}
+    ensures alike { AlikeStand }
+{
+    rows_rise();
+}

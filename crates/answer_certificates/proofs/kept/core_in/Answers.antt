@@ -22,7 +22,7 @@ returns-in_ok-text-in-Unknown g c =
     let found = subst (λ (x : Core). IsCore p.target p.first_fact c.in_ok-facts.facts p.ready.bounds c.args.budget x) c.in-Unknown.is c.in_ok-lasso.ensures in
     record {
       cnf = c.in-Unknown.proof.cnf;
-      says = subst (λ (n : ℕ). SayPart p.target p.first_fact n p.ready.bounds c.in-Unknown.proof.cnf.clauses) c.in_ok-facts.ensures found.1;
+      says = subst (λ (n : ℕ). SayPart p.target p.first_fact n p.ready.bounds c.in-Unknown.proof.cnf) c.in_ok-facts.ensures found.1;
       shows = c.in_ok-text-in-Unknown.ensures;
     }
 
@@ -31,7 +31,7 @@ returns-in_ok-text-in-Refuted g c =
     let p = c.args.prepared.now in
     let proof = c.in-Refuted.proof in
     let found = subst (λ (x : Core). IsCore p.target p.first_fact c.in_ok-facts.facts p.ready.bounds c.args.budget x) c.in-Refuted.is c.in_ok-lasso.ensures in
-    let ruled = subst (λ (n : ℕ). RuleOut p.target p.first_fact n p.ready.bounds c.in-Refuted.kept proof.cnf.clauses) c.in_ok-facts.ensures found.2 in
+    let ruled = subst (λ (n : ℕ). RuleOut p.target p.first_fact n p.ready.bounds c.in-Refuted.kept proof.cnf) c.in_ok-facts.ensures found.2 in
     record {
       kept = c.in-Refuted.kept;
       names = c.in_ok-names-in-Refuted.names;
@@ -40,7 +40,7 @@ returns-in_ok-text-in-Refuted g c =
       named = c.in_ok-names-in-Refuted.ensures;
       cnf = proof.cnf;
       ruled = ruled;
-      none = λ number made. c.kept_facts_rule_out.ensures number p c.in-Refuted.kept proof.cnf.clauses made ruled;
+      none = λ number made. c.kept_facts_rule_out.ensures number p c.in-Refuted.kept proof.cnf made ruled;
       scoped = λ number made. made.ready.states;
       shows = subst (λ (n : ℕ). ShowsFacts (IsTableOf p.ready.labels p.ready.bounds) proof.cnf n c.args.budget c.args.part c.in_ok-names-in-Refuted.names c.in_ok-text-in-Refuted.text) found.1.0
           (c.in_ok-text-in-Refuted.ensures c.args.budget found.1.2);

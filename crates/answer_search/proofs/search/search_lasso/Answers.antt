@@ -26,7 +26,7 @@ returns-in_ok-lasso-in-Assignment-clause-says g c = λ is.
     let cnf = c.in_ok-cnf.cnf in
     let solution = subst (IsAnswer cnf.variables cnf.clauses c.args.budget) c.in-Assignment.is c.in_ok-assignment.ensures.answer in
     let found = c.in_ok-lasso-in-Assignment.ensures in
-    solution_meets c.args.target.now c.args.bounds.now cnf.variables cnf.clauses c.in-Assignment.assignment c.in_ok-lasso-in-Assignment.lasso c.values_tell.ensures.one_loop c.values_tell.ensures.decoded (c.in_ok-cnf.ensures.says c.in_ok-layout.ensures.exact) solution is (found.candidate (c.in_ok-layout.ensures.exact is)) (found.agrees (c.in_ok-layout.ensures.exact is))
+    solution_meets c.args.target.now c.args.bounds.now cnf c.in-Assignment.assignment c.in_ok-lasso-in-Assignment.lasso c.values_tell.ensures.one_loop c.values_tell.ensures.decoded (c.in_ok-cnf.ensures.says c.in_ok-layout.ensures.exact) solution is (found.candidate (c.in_ok-layout.ensures.exact is)) (found.agrees (c.in_ok-layout.ensures.exact is))
 
 pub returns-in_ok-rest-in-Refutation-clause-says : goal.returns-in_ok-rest-in-Refutation-clause-says
 returns-in_ok-rest-in-Refutation-clause-says g c = (c.in_ok-cnf.ensures.says c.in_ok-layout.ensures.exact, c.in_ok-layout.ensures.exact)
@@ -45,4 +45,4 @@ returns-in_ok-rest-in-Refutation-clause-found g c =
 pub returns-in_ok-rest-in-Refutation-clause-none : goal.returns-in_ok-rest-in-Refutation-clause-none
 returns-in_ok-rest-in-Refutation-clause-none g c =
     let refutes = subst (IsAnswer c.in_ok-cnf.cnf.variables c.in_ok-cnf.cnf.clauses c.args.budget) c.in-Refutation.is c.in_ok-assignment.ensures.answer in
-    ruled_out c.args.target.now c.args.bounds.now c.in_ok-cnf.cnf.clauses c.in-Refutation.lines c.refutation_is_sound.ensures c.candidates_are_told.ensures c.candidates_have_canonical.ensures c.have_sets.ensures (c.in_ok-cnf.ensures.says c.in_ok-layout.ensures.exact) refutes
+    ruled_out c.args.target.now c.args.bounds.now c.in_ok-cnf.cnf c.in-Refutation.lines c.refutation_is_sound.ensures c.candidates_have_canonical.ensures c.have_sets.ensures (c.in_ok-cnf.ensures.says c.in_ok-layout.ensures.exact) refutes
