@@ -1,3 +1,5 @@
+//! Expressions and bounds that are taken.
+
 use std::alloc::Global;
 use std::test::Fail;
 use syntax_lexer::lex;

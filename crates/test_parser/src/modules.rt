@@ -1,3 +1,5 @@
+//! Modules that are taken, and their paragraphs.
+
 use std::test::Fail;
 use syntax_lexer::lex;
 use syntax_parser::parse_module;

@@ -1,3 +1,5 @@
+//! Modules that are refused: the rule, and the column.
+
 use base_types::{Fault, Rule};
 use std::alloc::Global;
 use std::test::Fail;

@@ -1,6 +1,6 @@
-//! Tests of `sat_decide`.
+//! What no clause says of a chooser: which variable it picks.
 
-use sat_decide::{Activity, Boxed, Chooser};
+use sat_decide::{Activity, Chooser};
 use std::test::Fail;
 
 #[test]
@@ -41,20 +41,5 @@ fn weights_stay_in_range(rt: HostRuntime) -> Result<(), Fail> {
         chooser.bump(2);
     }
     assert_eq!(rt; chooser.pick(&[0, 0]), 2);
-    Ok(())
-}
-
-#[test]
-fn a_boxed_chooser_hands_each_call_on(rt: HostRuntime) -> Result<(), Fail> {
-    let mut chooser = Boxed {
-        chooser: Box::new(rt.alloc(), Activity::new(rt.alloc()))?,
-    };
-    chooser.start(3)?;
-    chooser.bump(3);
-    chooser.bump(-2);
-    chooser.decay();
-    chooser.bump(-2);
-    assert_eq!(rt; chooser.pick(&[0, 0, 0]), -2);
-    assert_eq!(rt; chooser.pick(&[0, -1, 0]), 3);
     Ok(())
 }
