@@ -5,6 +5,8 @@ pub mod bounds;
 pub mod calls;
 pub mod choices;
 pub mod forms;
+pub mod future;
+pub mod past;
 pub mod times;
 pub mod walk;
 pub mod within;

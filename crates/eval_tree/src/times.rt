@@ -1,16 +1,15 @@
-//! The temporal operators: a walk ahead for `until`, and one back for `since`.
+//! The temporal operators, by two walks: ahead (`forward`) and back (`backward`).
 
 ghost use Rattle.std.specs.Prelude.{◌↔◌, ◌+◌, IfOk, IsTrue};
 ghost use Rattle.core_tree.specs.Trees.{claim_of, temporal, temporal_pair};
-ghost use Rattle.core_meaning.specs.Operators.{UntilAt, SinceAt};
-ghost use Rattle.eval_steps.specs.Judged.{scope_names, HoldsIn, Says, SaysFirst};
+ghost use Rattle.eval_steps.specs.Judged.{scope_names, HoldsIn, SaysFirst};
 ghost use Rattle.eval_tree.specs.Evaluates.{Evaluates};
 
 use crate::walk::Walk;
 use core_meaning::Environment;
 use core_tree::{Expr, Formula, TemporalBinary, TemporalUnary};
 use eval_sets::EvaluationFault;
-use eval_steps::{First, Held, Judge, after, deeper, limit, says};
+use eval_steps::{First, Held, Judge, after, says};
 
 impl<
     'a,
@@ -133,7 +132,7 @@ impl<
     }
 
     /// Whether the first formula, where there is one, has a truth value.
-    fn goes_on(
+    pub(crate) fn goes_on(
         &self,
         first: First,
         sense: bool,
@@ -152,73 +151,5 @@ impl<
                 Ok(says(sense, truth))
             }
         }
-    }
-
-    /// Whether at some position from one on the second formula has a truth value, and the first, where
-    /// there is one, at each position from that one to before it.
-    fn forward(
-        &self,
-        first: First,
-        second: &Formula,
-        sense: bool,
-        scope: &Environment,
-        position: u64,
-    ) -> Result<bool, EvaluationFault>
-        requires { Evaluates self.now.deep (T.pre self.now.term) (T.post self.now.term)
-            (H.pre self.now.claim) (H.post self.now.claim) }
-        ensures { IfOk result (λ b. IsTrue b ↔ UntilAt
-            (SaysFirst self.now.judge.now first.entry sense
-            (scope_names self.now.judge.now scope.now))
-            (λ j. Says sense (HoldsIn self.now.judge.now (claim_of second.now)
-            (scope_names self.now.judge.now scope.now) j)) position) }
-    {
-        let end = limit(self.judge, second, scope, position)?;
-        for place in position..end {
-            let truth = self.holds(second, scope, place)?;
-            let here = says(sense, truth);
-            if here {
-                return Ok(true);
-            }
-            let on = self.goes_on(first, sense, scope, place)?;
-            if !on {
-                return Ok(false);
-            }
-        }
-        Ok(false)
-    }
-
-    /// Whether at some position up to one the second formula has a truth value, and the first, where
-    /// there is one, at each position after it up to that one.
-    fn backward(
-        &self,
-        first: First,
-        second: &Formula,
-        sense: bool,
-        scope: &Environment,
-        position: u64,
-        deep: u32,
-    ) -> Result<bool, EvaluationFault>
-        requires { Evaluates self.now.deep (T.pre self.now.term) (T.post self.now.term)
-            (H.pre self.now.claim) (H.post self.now.claim) }
-        ensures { IfOk result (λ b. IsTrue b ↔ SinceAt
-            (SaysFirst self.now.judge.now first.entry sense
-            (scope_names self.now.judge.now scope.now))
-            (λ j. Says sense (HoldsIn self.now.judge.now (claim_of second.now)
-            (scope_names self.now.judge.now scope.now) j)) position) }
-    {
-        let next = deeper(deep)?;
-        let truth = self.holds(second, scope, position)?;
-        let here = says(sense, truth);
-        if here {
-            return Ok(true);
-        }
-        if position == 0 {
-            return Ok(false);
-        }
-        let on = self.goes_on(first, sense, scope, position)?;
-        if !on {
-            return Ok(false);
-        }
-        self.backward(first, second, sense, scope, position - 1, next)
     }
 }
