@@ -1,4 +1,3 @@
-pub mod LoopLaws
 pub mod DepthLaws
 pub mod RootLaws
 pub mod DecodedLaws

@@ -19,10 +19,10 @@ use Rattle.bmc_windows.specs.Frames.{rounds_of}
 use Rattle.bmc_windows.proofs.PushLemmas.{push_cases}
 use Rattle.bmc_leaves.specs.Loops.{AreChoices}
 use Rattle.bmc_leaves.specs.Table.{Decodes}
-use Rattle.bmc_leaves.specs.Shown.{Reading, under, IsReading, Shows, HasPlace, IsRight}
+use Rattle.bmc_leaves.specs.Shown.{Reading, under, IsReading, HasPlace, IsRight}
 use Rattle.bmc_encoder.specs.Firsts.{AreFirsts, SaysRoot}
 use Rattle.bmc_leaves.proofs.RowLaws.{row_kept, push_last, push_before}
-use Rattle.bmc_encoder.proofs.LoopLaws.{only_same}
+use Rattle.bmc_leaves.proofs.LoopLaws.{only_same}
 use Rattle.bmc_leaves.proofs.PlaceLaws.{round_more}
 use Rattle.bmc_leaves.proofs.RightLaws.{true_same}
 
@@ -76,9 +76,6 @@ firsts_all value windows all firsts i over under h = record {
 
 -- ---- the root
 
-shows_of : (bounds : Bounds) (table : Layout) (x : ℕ → Bool) (lasso : LassoValue) → Decodes bounds table x lasso → Shows bounds table x lasso
-shows_of bounds table x lasso d = record { states = d.states; loop = d.loop.0; relations = d.relations }
-
 no_stretch : Stretch
 no_stretch = record { start = 0; end = 0; back = 0 }
 
@@ -98,7 +95,7 @@ root_says belongs value r first g h ok keeps choices all are f row n right is x 
     let round = round_more r.depth (r.bounds.states - l) in
     let place : HasPlace r.frame l s 0 = (at, omega (arith, end, round, some)) in
     let same : s.start ≡ s.start + 0 = omega arith in
-    true_same _ _ (is x l s at only ∙ ap (λ (i : ℕ). row_value (value g x) row i) same) (right.holds l 0 s place x lasso (shows_of r.bounds r.table x lasso d) refl)
+    true_same _ _ (is x l s at only ∙ ap (λ (i : ℕ). row_value (value g x) row i) same) (right.holds l 0 s place x lasso d refl)
 
 -- ---- more roots
 

@@ -13,6 +13,7 @@ ghost use Rattle.bmc_encoder.specs.Encodes.{IsEncoded};
 
 use crate::letless::is_letless;
 use crate::past_depth::depth_of;
+use bmc_leaves::loops::loop_choices;
 use bmc_leaves::scopes::keeps_numbers;
 use bmc_leaves::setting::Setting;
 use bmc_stack::node_or_false;
@@ -49,35 +50,6 @@ fn universe_of(alloc: Global, scopes: &Scopes) -> Result<Universe, AllocError>
     let spans = spans_of(alloc, scopes)?;
     let atoms = spans.integers.first;
     Ok(Universe { atoms, bits })
-}
-
-/// For each state, whether the loop begins there: the variables of the loop indices. With one state there
-/// is no choice. Its error is want of memory, or that there is no state or a variable's number would be too
-/// great.
-fn loop_choices<G: Gates>(
-    alloc: Global,
-    gates: &mut G,
-    states: u32,
-    loops: u64,
-) -> Result<NodeList, AllocError>
-    ensures keeps { Keeps G.belongs G.node_value gates.old gates.new }
-    ensures belongs { IfOk result (λ row. AllIn (G.belongs gates.new) row) }
-    ensures some { OnOk result (0 < states) }
-    ensures choices { IfOk result (λ row. AreChoices (G.node_value gates.new) states loops row) }
-{
-    if states == 0 || u64::MAX - loops < u64::from(states) {
-        return Err(AllocError);
-    }
-    let mut row = NodeList::new(alloc);
-    if states == 1 {
-        row.push(gates.constant(true))?;
-        return Ok(row);
-    }
-    for state in 0..states {
-        let node = gates.input(loops + u64::from(state))?;
-        row.push(node)?;
-    }
-    Ok(row)
 }
 
 /// The first place of a window, 0 where there is none of this number.

@@ -7,3 +7,4 @@ pub mod LyingLaws
 pub mod PlaceLaws
 pub mod RightLaws
 pub mod RowLaws
+pub mod LoopLaws

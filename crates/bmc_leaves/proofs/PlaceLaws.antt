@@ -1,6 +1,6 @@
 -- The places of windows show positions, and formulas have the same truth at the next place as at
 -- the next position.
-use Rattle.std.proofs.Common.{◌≡◌, ◌↔◌, ◌<◌, ◌≤◌, ◌+◌, ◌-◌, ◌*◌, ◌%◌, ℕ, nat_lt, eqb, Bool, true, false, List, [], ◌∷◌, length, Some, slice_get, refl, sym, ap, ◌∙◌, subst, arith, inl, inr, if◌then◌else◌}
+use Rattle.std.proofs.Common.{◌≡◌, ◌↔◌, ◌⊎◌, ◌<◌, ◌≤◌, ◌+◌, ◌-◌, ◌*◌, ◌%◌, ℕ, nat_lt, eqb, Bool, true, false, List, [], ◌∷◌, length, Some, slice_get, refl, sym, ap, ◌∙◌, subst, arith, inl, inr, if◌then◌else◌}
 use Rattle.std.proofs.Math.Nat.{mod_self}
 use Rattle.std.proofs.lemmas.Bool.{cases_lt, cond_below, cond_above}
 use Rattle.std.proofs.lemmas.Option.{slice_get_within}
@@ -14,7 +14,9 @@ use Rattle.core_meaning.specs.Called.{no_bodies}
 use Rattle.core_window.proofs.FoldLemmas.{fold_below, holds_folded, term_folded}
 use Rattle.bmc_windows.specs.declared.frame.Stretch.{Stretch}
 use Rattle.bmc_windows.specs.Frames.{IsStretch, window_length, place_next}
-use Rattle.bmc_leaves.specs.Shown.{Atoms, names_of, Reading, IsReading, Shows, HasPlace, none_nested}
+use Rattle.bmc_leaves.specs.Shown.{Atoms, names_of, Reading, IsReading, HasPlace, none_nested}
+use Rattle.bmc_leaves.specs.Loops.{IsNextIn}
+use Rattle.bmc_leaves.specs.Table.{Decodes}
 use Rattle.core_window.specs.Repeats.{SameTuples, uncounted, HasLoop, RepeatNames, RepeatBodies, repeats_from, window_end, fold_of}
 
 -- ---- the window law, where nothing is called and names stand for atoms
@@ -48,20 +50,20 @@ term_folds w atoms e h i some few le = term_folded w some no_bodies none_nested 
 
 -- ---- windows
 
-pub loop_of : (r : Reading) (x : ℕ → Bool) (lasso : LassoValue) → Shows r.bounds r.table x lasso → HasLoop lasso
-loop_of r x lasso shows = let a = shows.states in let b = shows.loop in omega (arith, a, b)
+pub loop_of : (r : Reading) (x : ℕ → Bool) (lasso : LassoValue) → Decodes r.bounds r.table x lasso → HasLoop lasso
+loop_of r x lasso shows = let a = shows.states in let b = shows.loop.0 in omega (arith, a, b)
 
 pub round_more : (h p : ℕ) → (h + 1) * p ≡ h * p + p
 round_more h p = grind arith
 
 -- how long the window of a loop is
-pub window_is : (r : Reading) (x : ℕ → Bool) (lasso : LassoValue) (loop : ℕ) → Shows r.bounds r.table x lasso → lasso.loop_start ≡ loop → window_length r.bounds.states (r.depth + 1) loop ≡ window_end lasso r.depth
+pub window_is : (r : Reading) (x : ℕ → Bool) (lasso : LassoValue) (loop : ℕ) → Decodes r.bounds r.table x lasso → lasso.loop_start ≡ loop → window_length r.bounds.states (r.depth + 1) loop ≡ window_end lasso r.depth
 window_is r x lasso loop shows at =
     let round : r.bounds.states - loop ≡ period lasso = ap (λ (n : ℕ). n - loop) (sym shows.states) ∙ ap (λ (n : ℕ). length lasso.states - n) (sym at) in
     let whole = round_more r.depth (period lasso) in
     ap (λ (p : ℕ). loop + (r.depth + 1) * p) round ∙ ap (λ (n : ℕ). n + (r.depth + 1) * period lasso) (sym at) ∙ (omega (arith, whole))
 
-pub round_is : (r : Reading) (x : ℕ → Bool) (lasso : LassoValue) (loop : ℕ) → Shows r.bounds r.table x lasso → lasso.loop_start ≡ loop → r.bounds.states - loop ≡ period lasso
+pub round_is : (r : Reading) (x : ℕ → Bool) (lasso : LassoValue) (loop : ℕ) → Decodes r.bounds r.table x lasso → lasso.loop_start ≡ loop → r.bounds.states - loop ≡ period lasso
 round_is r x lasso loop shows at = ap (λ (n : ℕ). n - loop) (sym shows.states) ∙ ap (λ (n : ℕ). length lasso.states - n) (sym at)
 
 pub stretch_of : (r : Reading) → IsReading r → (loop k : ℕ) (s : Stretch) → HasPlace r.frame loop s k → IsStretch r.bounds.states (r.depth + 1) loop r.frame.shown.items r.frame.next.items s
@@ -87,7 +89,7 @@ folds_to m p w k e lt = elim (cases_lt (k + 1) w) [
 ]
 
 -- the place of the next position
-pub next_is : (r : Reading) → IsReading r → (x : ℕ → Bool) (lasso : LassoValue) (loop k : ℕ) (s : Stretch) → Shows r.bounds r.table x lasso → lasso.loop_start ≡ loop → HasPlace r.frame loop s k → place_next r.bounds.states (r.depth + 1) loop k ≡ fold_of lasso r.depth (k + 1)
+pub next_is : (r : Reading) → IsReading r → (x : ℕ → Bool) (lasso : LassoValue) (loop k : ℕ) (s : Stretch) → Decodes r.bounds r.table x lasso → lasso.loop_start ≡ loop → HasPlace r.frame loop s k → place_next r.bounds.states (r.depth + 1) loop k ≡ fold_of lasso r.depth (k + 1)
 next_is r ok x lasso loop k s shows at place =
     let long = length_of r ok loop k s place in
     let lt = place.1 in
@@ -119,8 +121,21 @@ next_at r ok loop k s place =
     let lt = place.1 in
     (stretch_of r ok loop k s place).nexts k (omega (arith, lt, long))
 
+next_either : (w p i start end back : ℕ) (k : ℕ) → p ≤ w → end ≡ start + w → back ≡ end - p → i ≡ start + k → (start + (if nat_lt (k + 1) w then k + 1 else w - p) ≡ i + 1) ⊎ (start + (if nat_lt (k + 1) w then k + 1 else w - p) ≡ back)
+next_either w p i start end back k less e b here = elim (cases_lt (k + 1) w) [
+  | inl below ↦ inl (ap (λ (n : ℕ). start + n) (sym (cond_below (k + 1) w (k + 1) (w - p) below)) ∙ omega (arith, here))
+  | inr above ↦ inr (ap (λ (n : ℕ). start + n) (sym (cond_above (k + 1) w (k + 1) (w - p) _ above refl)) ∙ omega (arith, less, e, b))
+]
+
+pub next_in : (r : Reading) → IsReading r → (loop k : ℕ) (s : Stretch) → HasPlace r.frame loop s k → IsNextIn s (s.start + k) (s.start + place_next r.bounds.states (r.depth + 1) loop k)
+next_in r ok loop k s place =
+    let st = stretch_of r ok loop k s place in
+    let round : ℕ = r.bounds.states - loop in
+    let more = round_more r.depth round in
+    next_either (window_length r.bounds.states (r.depth + 1) loop) round (s.start + k) s.start s.end s.back k (omega (arith, more)) st.end st.back refl
+
 -- the place to which a position is folded
-pub fold_place : (r : Reading) → IsReading r → (x : ℕ → Bool) (lasso : LassoValue) (loop k : ℕ) (s : Stretch) → Shows r.bounds r.table x lasso → lasso.loop_start ≡ loop → HasPlace r.frame loop s k → (j : ℕ) → HasPlace r.frame loop s (fold_of lasso r.depth j)
+pub fold_place : (r : Reading) → IsReading r → (x : ℕ → Bool) (lasso : LassoValue) (loop k : ℕ) (s : Stretch) → Decodes r.bounds r.table x lasso → lasso.loop_start ≡ loop → HasPlace r.frame loop s k → (j : ℕ) → HasPlace r.frame loop s (fold_of lasso r.depth j)
 fold_place r ok x lasso loop k s shows at place j =
     let long = length_of r ok loop k s place in
     let e = window_is r x lasso loop shows at in
@@ -128,7 +143,7 @@ fold_place r ok x lasso loop k s shows at place j =
     (place.0, omega (arith, long, e, below))
 
 -- from where the window goes round
-pub back_is : (r : Reading) → IsReading r → (x : ℕ → Bool) (lasso : LassoValue) (loop k : ℕ) (s : Stretch) → Shows r.bounds r.table x lasso → lasso.loop_start ≡ loop → HasPlace r.frame loop s k → (s.back - s.start ≡ repeats_from lasso r.depth) × (s.end - s.start - (s.back - s.start) ≡ period lasso)
+pub back_is : (r : Reading) → IsReading r → (x : ℕ → Bool) (lasso : LassoValue) (loop k : ℕ) (s : Stretch) → Decodes r.bounds r.table x lasso → lasso.loop_start ≡ loop → HasPlace r.frame loop s k → (s.back - s.start ≡ repeats_from lasso r.depth) × (s.end - s.start - (s.back - s.start) ≡ period lasso)
 back_is r ok x lasso loop k s shows at place =
     let st = stretch_of r ok loop k s place in
     let long = length_of r ok loop k s place in

@@ -25,12 +25,14 @@ use Rattle.gate_temporal.specs.Rows.{row_value, folded}
 use Rattle.gate_temporal.specs.Times.{UntilAt, SinceAt}
 use Rattle.bmc_windows.specs.Frames.{place_next}
 use Rattle.bmc_windows.proofs.PushLemmas.{push_last}
-use Rattle.bmc_windows.specs.Pairing.{IsMoved}
-use Rattle.bmc_stack.specs.declared.windows.TimeOperator.TheVariants.{Before, Since, Until}
-use Rattle.bmc_stack.specs.Rows.{AreBoth, IsSpread, IsAlong, IsNegated, IsConstant}
-use Rattle.bmc_stack.specs.Sets.{AreMade, AreAnswered}
+use Rattle.bmc_stack.specs.declared.windows.TimeOperator.TheVariants.{Before, Since}
+use Rattle.bmc_windows.specs.declared.frame.Stretch.{Stretch}
+use Rattle.bmc_stack.specs.Rows.{AreBoth, IsAlong, IsNegated, IsConstant}
+use Rattle.bmc_stack.specs.Sets.{StandsAt, AreMade, AreAnswered}
 use Rattle.bmc_leaves.specs.Shown.{Atoms, names_of, atom_in, Reading, under, IsReading, HasPlace, IsRight, HaveTuples, AreRight, none_nested}
-use Rattle.bmc_leaves.proofs.PlaceLaws.{holds_folds, term_folds, loop_of, place_within, next_is, next_place, next_at, loop_below, fold_place, back_is}
+use Rattle.bmc_leaves.specs.Loops.{GoesRound, IsNextIn}
+use Rattle.bmc_leaves.proofs.LoopLaws.{IsShownIn, shown_in}
+use Rattle.bmc_leaves.proofs.PlaceLaws.{holds_folds, term_folds, loop_of, place_within, next_is, next_place, next_at, next_in, loop_below, fold_place, back_is}
 use Rattle.core_window.specs.Repeats.{repeats_from, fold_of}
 
 -- the same reading where names stand for atoms
@@ -87,24 +89,28 @@ more_right r old new g gs a b row first second both = record {
       ((λ t. let p = h.0 t in (p.1, p.0)), (λ p. h.1 (p.1, p.0)));
 }
 
-pub after_right : (r : Reading) (value : (ℕ → Bool) → Node → Bool) (f : Claim) (row new : List Node) → IsReading r → past_of none_nested f no_depths ≤ r.depth → IsRight r value f row → IsSpread value row r.frame.next.items new → IsRight r value (temporal AfterOf f) new
-after_right r value f row new ok le right spread = record {
-  inside = λ loop k s place. (let a = place_within r ok loop k s place in let b = spread.long in let c = ok.frame.together in omega (arith, a, b, c));
+pub after_right : (r : Reading) (old new : (ℕ → Bool) → Node → Bool) (f : Claim) (row next : List Node) → IsReading r → past_of none_nested f no_depths ≤ r.depth → IsRight r old f row → length next ≡ length r.frame.next.items
+    → ((x : ℕ → Bool) (s : Stretch) (i j : ℕ) → IsShownIn r x s → slice_get r.frame.next.items i ≡ Some j → IsNextIn s i j → row_value (new x) next i ≡ row_value (old x) row j)
+    → IsRight r new (temporal AfterOf f) next
+after_right r old new f row next ok le right long nexts = record {
+  inside = λ loop k s place. (let a = place_within r ok loop k s place in let c = ok.frame.together in omega (arith, a, long, c));
   holds = λ loop k s place x lasso shows at.
       let some = loop_below r ok loop k s place in
       let n = place_next r.bounds.states (r.depth + 1) loop k in
       let there = next_place r ok loop k s some place in
-      let same = spread.values x (s.start + k) (s.start + n) (next_at r ok loop k s place) in
+      let same = nexts x s (s.start + k) (s.start + n) (shown_in r x lasso loop k s shows at place) (next_at r ok loop k s place) (next_in r ok loop k s place) in
       let folds = holds_folds (world_of r.scopes lasso) r.atoms f r.depth (k + 1) (loop_of r x lasso shows) ok.few le in
       let is = next_is r ok x lasso loop k s shows at place in
       let here = right.holds loop n s there x lasso shows at in
-      true_same _ _ same (same_trans (subst (λ (j : ℕ). IsTrue (row_value (value x) row (s.start + n)) ↔ Holds (world_of r.scopes lasso) no_bodies f (names_of r.atoms) j) is here) folds);
+      true_same _ _ same (same_trans (subst (λ (j : ℕ). IsTrue (row_value (old x) row (s.start + n)) ↔ Holds (world_of r.scopes lasso) no_bodies f (names_of r.atoms) j) is here) folds);
 }
 
--- along a window
-pub until_right : (r : Reading) (old new : (ℕ → Bool) → Node → Bool) (f g : Claim) (a b row : List Node) → IsReading r → past_of none_nested f no_depths ≤ r.depth → past_of none_nested g no_depths ≤ r.depth → IsRight r old f a → IsRight r old g b → IsAlong Until old new r.frame a b row → IsRight r new (temporal_pair UntilOf f g) row
-until_right r old new f g a b row ok le le_g first second along = record {
-  inside = λ loop k s place. (let l = place_within r ok loop k s place in let m = along.long in omega (arith, l, m));
+-- along the window of the loop
+pub until_right : (r : Reading) (old new : (ℕ → Bool) → Node → Bool) (f g : Claim) (a b row : List Node) → IsReading r → past_of none_nested f no_depths ≤ r.depth → past_of none_nested g no_depths ≤ r.depth → IsRight r old f a → IsRight r old g b → length row ≡ length r.frame.shown.items
+    → ((x : ℕ → Bool) (s : Stretch) → IsShownIn r x s → GoesRound (old x) (new x) s a b row)
+    → IsRight r new (temporal_pair UntilOf f g) row
+until_right r old new f g a b row ok le le_g first second long along = record {
+  inside = λ loop k s place. (let l = place_within r ok loop k s place in omega (arith, l, long));
   holds = λ loop k s place x lasso shows at.
       let w = world_of r.scopes lasso in
       let back = back_is r ok x lasso loop k s shows at place in
@@ -113,7 +119,7 @@ until_right r old new f g a b row ok le le_g first second along = record {
       let there = fold_place r ok x lasso loop k s shows at place in
       let left = λ (j : ℕ). same_trans (true_same _ _ (ap (λ (n : ℕ). row_value (old x) a (s.start + n)) (is j)) (first.holds loop (fold_of lasso r.depth j) s (there j) x lasso shows at)) (holds_folds w r.atoms f r.depth j some ok.few le) in
       let right = λ (j : ℕ). same_trans (true_same _ _ (ap (λ (n : ℕ). row_value (old x) b (s.start + n)) (is j)) (second.holds loop (fold_of lasso r.depth j) s (there j) x lasso shows at)) (holds_folds w r.atoms g r.depth j some ok.few le_g) in
-      until_means _ _ (λ j. Holds w no_bodies f (names_of r.atoms) j) (λ j. Holds w no_bodies g (names_of r.atoms) j) k _ (along.values x loop s place.0 k place.1) left right;
+      until_means _ _ (λ j. Holds w no_bodies f (names_of r.atoms) j) (λ j. Holds w no_bodies g (names_of r.atoms) j) k _ (along x s (shown_in r x lasso loop k s shows at place) k place.1) left right;
 }
 
 pub since_right : (r : Reading) (old new : (ℕ → Bool) → Node → Bool) (f g : Claim) (a b row : List Node) → IsReading r → IsRight r old f a → IsRight r old g b → IsAlong Since old new r.frame a b row → IsRight r new (temporal_pair SinceOf f g) row
@@ -179,20 +185,24 @@ transpose_right r old new before after a first row left made = record {
       );
 }
 
-pub prime_right : (r : Reading) (value : (ℕ → Bool) → Node → Bool) (matrices : List MatrixEntries) (e : Term) (numbers new : List ℕ) → IsReading r → past_in none_nested e no_depths ≤ r.depth → AreRight r value matrices e numbers → IsMoved numbers r.frame.next.items new → AreRight r value matrices (prime e) new
-prime_right r value matrices e numbers new ok le right moved = record {
+pub prime_right : (r : Reading) (old new : (ℕ → Bool) → Node → Bool) (before after : List MatrixEntries) (e : Term) (numbers next : List ℕ) → IsReading r → past_in none_nested e no_depths ≤ r.depth → AreRight r old before e numbers
+    → ((s : Stretch) (i j : ℕ) (p : MatrixEntries) → slice_get r.frame.next.items i ≡ Some j → IsNextIn s i j → StandsAt before numbers j p → (m : MatrixEntries) × StandsAt after next i m × ((x : ℕ → Bool) → IsShownIn r x s → MeansSet (new x) m (set_of (old x) p)))
+    → AreRight r new after (prime e) next
+prime_right r old new before after e numbers next ok le right nexts = record {
   sets = λ loop k s place.
       let some = loop_below r ok loop k s place in
       let n = place_next r.bounds.states (r.depth + 1) loop k in
       let there = next_place r ok loop k s some place in
-      let (m, (number, at, stands), means) = right.sets loop n s there in (
+      let (p, at_p, means_p) = right.sets loop n s there in
+      let (m, at_m, means) = nexts s (s.start + k) (s.start + n) p (next_at r ok loop k s place) (next_in r ok loop k s place) at_p in (
         m,
-        (number, moved (s.start + k) (s.start + n) number (next_at r ok loop k s place) at, stands),
+        at_m,
         λ x lasso shows loops t.
             let is = next_is r ok x lasso loop k s shows loops place in
             let folds = term_folds (world_of r.scopes lasso) r.atoms e r.depth (k + 1) (loop_of r x lasso shows) ok.few le in
-            let here = means x lasso shows loops t in
-            same_trans (subst (λ (j : ℕ). (truth (value x) m t ≡ true) ↔ InTerm (world_of r.scopes lasso) no_bodies e (names_of r.atoms) j t) is here) (folds t),
+            let here = means_p x lasso shows loops t in
+            let moved = same_trans (means x (shown_in r x lasso loop k s shows loops place) t) here in
+            same_trans (subst (λ (j : ℕ). (truth (new x) m t ≡ true) ↔ InTerm (world_of r.scopes lasso) no_bodies e (names_of r.atoms) j t) is moved) (folds t),
       );
 }
 

@@ -12,7 +12,8 @@ use Rattle.core_meaning.specs.World.{World, InRelation, IsInteger, IsTop}
 use Rattle.core_meaning.specs.Kept.{world_of}
 use Rattle.core_meaning.specs.Operators.{Tuples}
 use Rattle.bmc_windows.specs.declared.frame.Stretch.{Stretch}
-use Rattle.bmc_leaves.specs.Shown.{Reading, HasPlace, Shows}
+use Rattle.bmc_leaves.specs.Shown.{Reading, HasPlace}
+use Rattle.bmc_leaves.specs.Table.{Decodes}
 
 -- how formulas are read in a setting
 abbrev pub reading_of : Setting → ℕ → Reading
@@ -32,7 +33,7 @@ AtShown value matrices bound cells states shown numbers = (i state : ℕ) → sl
 
 -- the relation has tuples of one number alone, in every lasso that is shown
 abbrev pub HasOneColumn : Reading → ℕ → Type 0
-HasOneColumn r relation = (loop k : ℕ) (s : Stretch) → HasPlace r.frame loop s k → (x : ℕ → Bool) (lasso : LassoValue) → Shows r.bounds r.table x lasso → lasso.loop_start ≡ loop → (t : List ℕ) → InRelation (world_of r.scopes lasso) relation k t → length t ≡ 1
+HasOneColumn r relation = (loop k : ℕ) (s : Stretch) → HasPlace r.frame loop s k → (x : ℕ → Bool) (lasso : LassoValue) → Decodes r.bounds r.table x lasso → lasso.loop_start ≡ loop → (t : List ℕ) → InRelation (world_of r.scopes lasso) relation k t → length t ≡ 1
 
 -- an integer, or an atom of a top-level sig whose number is below this
 abbrev pub InUniverseBelow : World → ℕ → ℕ → ℕ → Type 0

@@ -15,7 +15,6 @@ use Rattle.core_meaning.specs.Called.{no_bodies}
 use Rattle.gate_matrix.specs.Matrices.{MatrixEntries}
 use Rattle.gate_operators.specs.Sets.{MeansSet, IsUniverse}
 use Rattle.gate_temporal.specs.Rows.{row_value}
-use Rattle.bound_uppers.specs.declared.places.Cells.{Cells}
 use Rattle.bound_uppers.specs.declared.places.Layout.{Layout}
 use Rattle.bound_uppers.specs.declared.table.Bound.{Bound}
 use Rattle.bound_uppers.specs.declared.table.Bounds.{Bounds}
@@ -23,7 +22,7 @@ use Rattle.bmc_windows.specs.declared.frame.Stretch.{Stretch}
 use Rattle.bmc_windows.specs.declared.frame.Frame.{Frame}
 use Rattle.bmc_windows.specs.Frames.{IsFrame}
 use Rattle.bmc_stack.specs.Sets.{StandsAt}
-use Rattle.bmc_leaves.specs.Table.{InState, InTable}
+use Rattle.bmc_leaves.specs.Table.{Decodes}
 
 -- for which atoms names stand, the latest first
 abbrev pub Atoms : Type 0
@@ -70,13 +69,6 @@ pub record IsReading (r : Reading) : Type 0 where
   pub few : r.depth ≤ 8
   pub universe : IsUniverseOf r.scopes r.universe
 
--- the assignment shows a lasso, whatever its loop: as many states as the bounds say, and in each relation at
--- each state just the tuples whose variables are true
-pub record Shows (bounds : Bounds) (table : Layout) (x : ℕ → Bool) (lasso : LassoValue) : Type 0 where
-  pub states : length lasso.states ≡ bounds.states
-  pub loop : lasso.loop_start < bounds.states
-  pub relations : (r k : ℕ) (bound : Bound) (cells : Cells) → slice_get bounds.relations r ≡ Some bound → slice_get table.relations.items r ≡ Some cells → k < bounds.states → (t : List ℕ) → InState lasso r k t ↔ InTable x bound cells k t
-
 -- a window has this place
 abbrev pub HasPlace : Frame → ℕ → Stretch → ℕ → Type 0
 HasPlace frame loop s k = (slice_get frame.windows.items loop ≡ Some s) × (k < s.end - s.start)
@@ -84,13 +76,13 @@ HasPlace frame loop s k = (slice_get frame.windows.items loop ≡ Some s) × (k 
 -- a row is true at the places of each window where a formula holds in the lassos whose loop begins there
 pub record IsRight (r : Reading) (value : (ℕ → Bool) → Node → Bool) (f : Claim) (row : List Node) : Type 0 where
   pub inside : (loop k : ℕ) (s : Stretch) → HasPlace r.frame loop s k → s.start + k < length row
-  pub holds : (loop k : ℕ) (s : Stretch) → HasPlace r.frame loop s k → (x : ℕ → Bool) (lasso : LassoValue) → Shows r.bounds r.table x lasso → lasso.loop_start ≡ loop → IsTrue (row_value (value x) row (s.start + k)) ↔ Holds (world_of r.scopes lasso) no_bodies f (names_of r.atoms) k
+  pub holds : (loop k : ℕ) (s : Stretch) → HasPlace r.frame loop s k → (x : ℕ → Bool) (lasso : LassoValue) → Decodes r.bounds r.table x lasso → lasso.loop_start ≡ loop → IsTrue (row_value (value x) row (s.start + k)) ↔ Holds (world_of r.scopes lasso) no_bodies f (names_of r.atoms) k
 
 -- at each place of each window stands a set, which has the tuples that are given for the position
 abbrev pub HaveTuples : Reading → ((ℕ → Bool) → Node → Bool) → List MatrixEntries → (LassoValue → ℕ → Tuples) → List ℕ → Type 0
 HaveTuples r value matrices has numbers =
     (loop k : ℕ) (s : Stretch) → HasPlace r.frame loop s k → (m : MatrixEntries) × StandsAt matrices numbers (s.start + k) m
-    × ((x : ℕ → Bool) (lasso : LassoValue) → Shows r.bounds r.table x lasso → lasso.loop_start ≡ loop → MeansSet (value x) m (has lasso k))
+    × ((x : ℕ → Bool) (lasso : LassoValue) → Decodes r.bounds r.table x lasso → lasso.loop_start ≡ loop → MeansSet (value x) m (has lasso k))
 
 -- the tuples of an expression
 pub record AreRight (r : Reading) (value : (ℕ → Bool) → Node → Bool) (matrices : List MatrixEntries) (e : Term) (numbers : List ℕ) : Type 0 where

@@ -5,6 +5,7 @@
 
 pub mod kept;
 pub mod leaves;
+pub mod loops;
 pub mod mentions;
 pub mod scopes;
 pub mod setting;

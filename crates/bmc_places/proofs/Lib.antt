@@ -8,3 +8,5 @@ pub mod BitLaws
 pub mod TotalLaws
 pub mod RestLaws
 pub mod SumLaws
+pub mod RoundLaws
+pub mod LoopSetLaws

@@ -5,3 +5,5 @@ pub mod Gathered
 pub mod Numbers
 pub mod Rests
 pub mod Sums
+pub mod Rounds
+pub mod RoundRows

@@ -9,6 +9,8 @@ pub mod members;
 pub mod numbers;
 pub mod operators;
 pub mod rests;
+pub mod round_rows;
+pub mod rounds;
 pub mod rows;
 pub mod sums;
 pub mod tests_of_sets;

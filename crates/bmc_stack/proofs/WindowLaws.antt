@@ -1,81 +1,46 @@
 -- Operators in windows.
-use Rattle.std.proofs.Common.{◌≡◌, ◌↔◌, ◌⊎◌, ◌<◌, ◌≤◌, ◌+◌, ◌-◌, ◌*◌, ◌%◌, ℕ, zero, suc, nat_lt, cond, Bool, true, false, List, [], ◌∷◌, ◌++◌, length, slice_get, Some, IsTrue, refl, sym, ap, ◌∙◌, subst, arith, inl, inr, length-append}
+use Rattle.std.proofs.Common.{◌≡◌, ◌↔◌, ◌<◌, ◌≤◌, ◌+◌, ◌-◌, ℕ, zero, suc, Bool, List, [], ◌++◌, length, slice_get, Some, IsTrue, refl, sym, ap, ◌∙◌, subst, arith, inl, inr, length-append}
 use Rattle.std.proofs.lemmas.Bool.{cases_lt}
-use Rattle.std.proofs.lemmas.Bool.Decides.{nat_tests}
-use Rattle.std.proofs.lemmas.Nat.{mod_below}
 use Rattle.std.proofs.lemmas.Option.{slice_get_within}
 use Rattle.gate_trait.specs.declared.node.Node.{Node}
 use Rattle.gate_trait.specs.Built.{Keeps, AllIn}
-use Rattle.gate_temporal.specs.Rows.{row_value, folded}
-use Rattle.gate_temporal.specs.Times.{UntilAt, SinceAt, BeforeAt}
+use Rattle.gate_temporal.specs.Rows.{row_value}
 use Rattle.bmc_windows.specs.declared.frame.Stretch.{Stretch}
 use Rattle.bmc_windows.specs.declared.frame.Frame.{Frame}
-use Rattle.bmc_windows.specs.Frames.{IsFrame, IsStretch, start_of, window_length}
+use Rattle.bmc_windows.specs.Frames.{IsFrame, start_of, window_length}
 use Rattle.bmc_stack.specs.declared.windows.TimeOperator.{TimeOperator}
-use Rattle.bmc_stack.specs.declared.windows.TimeOperator.TheVariants.{Before, Since, Until}
+use Rattle.bmc_stack.specs.declared.windows.TimeOperator.TheVariants.{Before, Since}
 use Rattle.bmc_stack.specs.Rows.{GoesOn, GoesIn, IsMoving, IsMoved, IsAlong, IsPart}
 use Rattle.bmc_stack.proofs.RowLaws.{row_kept, value_append_before, value_append_after}
 
 as_true : (a b : Bool) → a ≡ b → IsTrue a → IsTrue b
 as_true a b e t = subst (λ (c : Bool). IsTrue c) e t
 
-fold_below : (first count i : ℕ) → first < count → folded first (count - first) i < count
-fold_below first count i lt = elim (cases_lt i (first + (count - first))) [
-  | inl less ↦ (let t : nat_lt i (first + (count - first)) ≡ true = grind (arith, nat_tests, less) in
-      subst (λ (b : Bool). cond b i (first + (i - first) % (count - first)) < count) (sym t) (omega (arith, less, lt)))
-  | inr ge ↦ (let t : nat_lt i (first + (count - first)) ≡ false = grind (arith, nat_tests, ge) in
-      let small : (i - first) % (count - first) < count - first = mod_below (i - first) (count - first) (omega (arith, lt)) in
-      subst (λ (b : Bool). cond b i (first + (i - first) % (count - first)) < count) (sym t) (omega (arith, small, lt)))
-]
-
 -- an operator looks at the places of its window alone
-pub goes_within : (op : TimeOperator) (first count : ℕ) (f g h k : ℕ → Bool) (i : ℕ) → first < count → i < count → ((j : ℕ) → j < count → f j ≡ h j) → ((j : ℕ) → j < count → g j ≡ k j) → GoesOn op first count f g i → GoesOn op first count h k i
-goes_within Before first count f g h k i inside lt same alike b = (b.0, as_true (g (i - 1)) (k (i - 1)) (alike (i - 1) (omega (arith, lt))) b.1)
-goes_within Since first count f g h k i inside lt same alike s = (
+pub goes_within : (op : TimeOperator) (count : ℕ) (f g h k : ℕ → Bool) (i : ℕ) → i < count → ((j : ℕ) → j < count → f j ≡ h j) → ((j : ℕ) → j < count → g j ≡ k j) → GoesOn op f g i → GoesOn op h k i
+goes_within Before count f g h k i lt same alike b = (b.0, as_true (g (i - 1)) (k (i - 1)) (alike (i - 1) (omega (arith, lt))) b.1)
+goes_within Since count f g h k i lt same alike s = (
   s.0,
   s.1,
   as_true (g s.0) (k s.0) (alike s.0 (let le = s.1 in omega (arith, le, lt))) s.2,
   (λ j over under. as_true (f j) (h j) (same j (omega (arith, under, lt))) (s.3 j over under)),
 )
-goes_within Until first count f g h k i inside lt same alike s = (
-  s.0,
-  s.1,
-  as_true (g (folded first (count - first) s.0)) (k (folded first (count - first) s.0)) (alike (folded first (count - first) s.0) (fold_below first count s.0 inside)) s.2,
-  (λ j over under. as_true (f (folded first (count - first) j)) (h (folded first (count - first) j)) (same (folded first (count - first) j) (fold_below first count j inside)) (s.3 j over under)),
-)
 
 -- the same of values that are equal at all places
-pub goes_same : (op : TimeOperator) (first count : ℕ) (f g h k : ℕ → Bool) (i : ℕ) → ((j : ℕ) → f j ≡ h j) → ((j : ℕ) → g j ≡ k j) → GoesOn op first count f g i → GoesOn op first count h k i
-goes_same Before first count f g h k i same alike b = (b.0, as_true (g (i - 1)) (k (i - 1)) (alike (i - 1)) b.1)
-goes_same Since first count f g h k i same alike s = (
-  s.0,
-  s.1,
-  as_true (g s.0) (k s.0) (alike s.0) s.2,
-  (λ j over under. as_true (f j) (h j) (same j) (s.3 j over under)),
-)
-goes_same Until first count f g h k i same alike s = (
-  s.0,
-  s.1,
-  as_true (g (folded first (count - first) s.0)) (k (folded first (count - first) s.0)) (alike (folded first (count - first) s.0)) s.2,
-  (λ j over under. as_true (f (folded first (count - first) j)) (h (folded first (count - first) j)) (same (folded first (count - first) j)) (s.3 j over under)),
-)
+pub goes_same : (op : TimeOperator) (f g h k : ℕ → Bool) (i : ℕ) → ((j : ℕ) → f j ≡ h j) → ((j : ℕ) → g j ≡ k j) → GoesOn op f g i → GoesOn op h k i
+goes_same op f g h k i same alike o = goes_within op (suc i) f g h k i (omega arith) (λ j lt. same j) (λ j lt. alike j) o
 
 -- the parts of two rows in a window
-pub moved_law : (op : TimeOperator) (old new : (ℕ → Bool) → Node → Bool) (s : Stretch) (first : ℕ) (f g p q made : List Node) → first ≡ s.back - s.start → IsPart old f s.start (s.end - s.start) p → IsPart old g s.start (s.end - s.start) q → first < length p → IsMoving op old new first p q made → IsMoved op old new s f g made
-moved_law op old new s first f g p q made is left right inside h =
+pub moved_law : (op : TimeOperator) (old new : (ℕ → Bool) → Node → Bool) (s : Stretch) (f g p q made : List Node) → IsPart old f s.start (s.end - s.start) p → IsPart old g s.start (s.end - s.start) q → IsMoving op old new p q made → IsMoved op old new s f g made
+moved_law op old new s f g p q made left right h =
     let count = s.end - s.start in
     let wide : length p ≡ count = left.long in
-    let back = s.back - s.start in
     record {
       long = h.long ∙ wide;
       values = λ x k lt.
-          let at = h.values x k (omega (arith, lt, wide)) in
-          let within : back < count = omega (arith, inside, is, wide) in
-          let as_count = λ (n : ℕ). GoesOn op n count (row_value (old x) p) (row_value (old x) q) k in (
-            (λ t. goes_within op back count (row_value (old x) p) (row_value (old x) q) (λ j. row_value (old x) f (s.start + j)) (λ j. row_value (old x) g (s.start + j)) k within lt (left.values x) (right.values x)
-                (subst (λ (n : ℕ). GoesOn op n count (row_value (old x) p) (row_value (old x) q) k) is (subst (λ (n : ℕ). GoesOn op first n (row_value (old x) p) (row_value (old x) q) k) wide (at.0 t)))),
-            (λ o. at.1 (subst (λ (n : ℕ). GoesOn op first n (row_value (old x) p) (row_value (old x) q) k) (sym wide) (subst (λ (n : ℕ). GoesOn op n count (row_value (old x) p) (row_value (old x) q) k) (sym is)
-                (goes_within op back count (λ j. row_value (old x) f (s.start + j)) (λ j. row_value (old x) g (s.start + j)) (row_value (old x) p) (row_value (old x) q) k within lt (λ j under. sym (left.values x j under)) (λ j under. sym (right.values x j under)) o)))),
+          let at = h.values x k (omega (arith, lt, wide)) in (
+            (λ t. goes_within op count (row_value (old x) p) (row_value (old x) q) (λ j. row_value (old x) f (s.start + j)) (λ j. row_value (old x) g (s.start + j)) k lt (left.values x) (right.values x) (at.0 t)),
+            (λ o. at.1 (goes_within op count (λ j. row_value (old x) f (s.start + j)) (λ j. row_value (old x) g (s.start + j)) (row_value (old x) p) (row_value (old x) q) k lt (λ j under. sym (left.values x j under)) (λ j under. sym (right.values x j under)) o)),
           );
     }
 
@@ -112,13 +77,13 @@ along_more belongs value first mid last before after op states rounds frame f g 
         | inr ge ↦ (let which : loop ≡ i = omega (arith, lt, ge) in
             let one : Some s ≡ Some w = sym at ∙ ap (λ (j : ℕ). slice_get frame.windows.items j) which ∙ here in
             let equal : w ≡ s = cc in
-            subst (λ (t : Stretch). (j : ℕ) → j < t.end - t.start → IsTrue (row_value (value last x) (row ++ more) (t.start + j)) ↔ GoesOn op (t.back - t.start) (t.end - t.start) (λ m. row_value (value first x) f (t.start + m)) (λ m. row_value (value first x) g (t.start + m)) j) equal (λ j low.
+            subst (λ (t : Stretch). (j : ℕ) → j < t.end - t.start → IsTrue (row_value (value last x) (row ++ more) (t.start + j)) ↔ GoesOn op (λ m. row_value (value first x) f (t.start + m)) (λ m. row_value (value first x) g (t.start + m)) j) equal (λ j low.
             let place : row_value (value last x) (row ++ more) (w.start + j) ≡ row_value (value last x) more j = ap (λ (n : ℕ). row_value (value last x) (row ++ more) (n + j)) start ∙ value_append_after (value last x) row more j in
             let there = moved.values x j low in
             let f_same = λ (m : ℕ). row_kept belongs value first mid before f f_all x (w.start + m) in
             let g_same = λ (m : ℕ). row_kept belongs value first mid before g g_all x (w.start + m) in (
-              (λ t. goes_same op (w.back - w.start) (w.end - w.start) (λ m. row_value (value mid x) f (w.start + m)) (λ m. row_value (value mid x) g (w.start + m)) (λ m. row_value (value first x) f (w.start + m)) (λ m. row_value (value first x) g (w.start + m)) j f_same g_same (there.0 (as_true _ _ place t))),
-              (λ o. as_true _ _ (sym place) (there.1 (goes_same op (w.back - w.start) (w.end - w.start) (λ m. row_value (value first x) f (w.start + m)) (λ m. row_value (value first x) g (w.start + m)) (λ m. row_value (value mid x) f (w.start + m)) (λ m. row_value (value mid x) g (w.start + m)) j (λ m. sym (f_same m)) (λ m. sym (g_same m)) o))),
+              (λ t. goes_same op (λ m. row_value (value mid x) f (w.start + m)) (λ m. row_value (value mid x) g (w.start + m)) (λ m. row_value (value first x) f (w.start + m)) (λ m. row_value (value first x) g (w.start + m)) j f_same g_same (there.0 (as_true _ _ place t))),
+              (λ o. as_true _ _ (sym place) (there.1 (goes_same op (λ m. row_value (value first x) f (w.start + m)) (λ m. row_value (value first x) g (w.start + m)) (λ m. row_value (value mid x) f (w.start + m)) (λ m. row_value (value mid x) g (w.start + m)) j (λ m. sym (f_same m)) (λ m. sym (g_same m)) o))),
             )) k under)
       ];
     })

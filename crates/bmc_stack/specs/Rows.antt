@@ -2,13 +2,13 @@
 use Rattle.std.specs.Prelude.{◌≡◌, ◌↔◌, ◌<◌, ◌+◌, ◌-◌, ◌&&◌, not, ℕ, Bool, List, [], ◌∷◌, ◌++◌, length, slice_get, Some, IsTrue}
 use Rattle.gate_trait.specs.declared.node.Node.{Node}
 use Rattle.gate_matrix.specs.Matrices.{MatrixEntries}
-use Rattle.gate_temporal.specs.Rows.{row_value, folded}
-use Rattle.gate_temporal.specs.Times.{UntilAt, SinceAt, BeforeAt}
+use Rattle.gate_temporal.specs.Rows.{row_value}
+use Rattle.gate_temporal.specs.Times.{SinceAt, BeforeAt}
 use Rattle.bmc_windows.specs.declared.frame.Stretch.{Stretch}
 use Rattle.bmc_windows.specs.declared.frame.Frame.{Frame}
 use Rattle.bmc_stack.specs.declared.store.Store.{Store}
 use Rattle.bmc_stack.specs.declared.windows.TimeOperator.{TimeOperator}
-use Rattle.bmc_stack.specs.declared.windows.TimeOperator.TheVariants.{Before, Since, Until}
+use Rattle.bmc_stack.specs.declared.windows.TimeOperator.TheVariants.{Before, Since}
 
 -- the row is as long as the other two, and true where both are
 pub record AreBoth (old new : (ℕ → Bool) → Node → Bool) (f g row : List Node) : Type 0 where
@@ -26,26 +26,24 @@ pub record IsPart (value : (ℕ → Bool) → Node → Bool) (f : List Node) (fr
   pub long : length row ≡ count
   pub values : (x : ℕ → Bool) (i : ℕ) → i < count → row_value (value x) row i ≡ row_value (value x) f (from + i)
 
--- what an operator says at a place of a window of so many places, from whose end one goes back to the place
--- `first`, where the operands have these values
-abbrev pub GoesOn : TimeOperator → ℕ → ℕ → (ℕ → Bool) → (ℕ → Bool) → ℕ → Type 0
-GoesOn Before first count f g i = BeforeAt (λ j. IsTrue (g j)) i
-GoesOn Since first count f g i = SinceAt (λ j. IsTrue (f j)) (λ j. IsTrue (g j)) i
-GoesOn Until first count f g i = UntilAt (λ j. IsTrue (f (folded first (count - first) j))) (λ j. IsTrue (g (folded first (count - first) j))) i
+-- what an operator says at a place of a window, where the operands have these values
+abbrev pub GoesOn : TimeOperator → (ℕ → Bool) → (ℕ → Bool) → ℕ → Type 0
+GoesOn Before f g i = BeforeAt (λ j. IsTrue (g j)) i
+GoesOn Since f g i = SinceAt (λ j. IsTrue (f j)) (λ j. IsTrue (g j)) i
 
 -- what the operator gives in one window
-pub record IsMoving (op : TimeOperator) (old new : (ℕ → Bool) → Node → Bool) (first : ℕ) (f g row : List Node) : Type 0 where
+pub record IsMoving (op : TimeOperator) (old new : (ℕ → Bool) → Node → Bool) (f g row : List Node) : Type 0 where
   pub long : length row ≡ length f
-  pub values : (x : ℕ → Bool) (i : ℕ) → i < length f → IsTrue (row_value (new x) row i) ↔ GoesOn op first (length f) (row_value (old x) f) (row_value (old x) g) i
+  pub values : (x : ℕ → Bool) (i : ℕ) → i < length f → IsTrue (row_value (new x) row i) ↔ GoesOn op (row_value (old x) f) (row_value (old x) g) i
 
 -- what it gives at the places of one window
 abbrev pub GoesIn : TimeOperator → (Node → Bool) → (Node → Bool) → Stretch → List Node → List Node → List Node → Type 0
-GoesIn op old new s f g row = (k : ℕ) → k < s.end - s.start → IsTrue (row_value new row (s.start + k)) ↔ GoesOn op (s.back - s.start) (s.end - s.start) (λ j. row_value old f (s.start + j)) (λ j. row_value old g (s.start + j)) k
+GoesIn op old new s f g row = (k : ℕ) → k < s.end - s.start → IsTrue (row_value new row (s.start + k)) ↔ GoesOn op (λ j. row_value old f (s.start + j)) (λ j. row_value old g (s.start + j)) k
 
 -- a row for one window alone
 pub record IsMoved (op : TimeOperator) (old new : (ℕ → Bool) → Node → Bool) (s : Stretch) (f g more : List Node) : Type 0 where
   pub long : length more ≡ s.end - s.start
-  pub values : (x : ℕ → Bool) (k : ℕ) → k < s.end - s.start → IsTrue (row_value (new x) more k) ↔ GoesOn op (s.back - s.start) (s.end - s.start) (λ j. row_value (old x) f (s.start + j)) (λ j. row_value (old x) g (s.start + j)) k
+  pub values : (x : ℕ → Bool) (k : ℕ) → k < s.end - s.start → IsTrue (row_value (new x) more k) ↔ GoesOn op (λ j. row_value (old x) f (s.start + j)) (λ j. row_value (old x) g (s.start + j)) k
 
 -- what it gives at the places of all windows
 pub record IsAlong (op : TimeOperator) (old new : (ℕ → Bool) → Node → Bool) (frame : Frame) (f g row : List Node) : Type 0 where

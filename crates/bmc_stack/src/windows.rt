@@ -1,11 +1,10 @@
-//! Rows over the windows of all loops: `before`, `since` and `until` go along each by itself.
+//! Rows over the windows of all loops: `before` and `since` go along each by itself.
 
-ghost use Rattle.std.specs.Prelude.{◌≡◌, ◌↔◌, ◌<◌, ◌≤◌, ◌+◌, ◌-◌, ◌++◌, ℕ, Bool, List, IfOk, OnOk, IsTrue, length, replicate, slice_get, Some, take, drop};
+ghost use Rattle.std.specs.Prelude.{◌≡◌, ◌<◌, ◌+◌, ◌-◌, ◌++◌, ℕ, List, IfOk, OnOk, length, replicate};
 ghost use Rattle.gate_trait.specs.Built.{Keeps, AllIn};
 ghost use Rattle.gate_trait.specs.declared.node.Node.{Node as CircuitNode};
-ghost use Rattle.gate_temporal.specs.Rows.{row_value};
 ghost use Rattle.bmc_windows.specs.Frames.{IsFrame};
-ghost use Rattle.bmc_stack.specs.declared.windows.TimeOperator.TheVariants.{Before, Since, Until};
+ghost use Rattle.bmc_stack.specs.declared.windows.TimeOperator.TheVariants.{Before, Since};
 ghost use Rattle.bmc_stack.specs.Rows.{AreBoth, IsSpread, IsPart, IsMoving, IsAlong, IsMoved, IsConstant};
 
 use crate::basics::node_or_false;
@@ -20,8 +19,6 @@ pub enum TimeOperator {
     Before,
     /// Whether the second has held, and the first since then.
     Since,
-    /// Whether the second will hold, and the first until then.
-    Until,
 }
 
 /// The same node at each place.
@@ -118,8 +115,8 @@ pub fn spread<G: Gates>(
     Ok(new)
 }
 
-/// Adds the nodes of a row at the end.
-fn append<G: Gates>(gates: &G, row: &mut NodeList, more: &NodeList) -> Result<(), AllocError>
+/// Adds the nodes of a row at the end. Its error is want of memory.
+pub fn append<G: Gates>(gates: &G, row: &mut NodeList, more: &NodeList) -> Result<(), AllocError>
     requires row { AllIn (G.belongs gates.now) row.old }
     requires more { AllIn (G.belongs gates.now) more.now }
     ensures belongs { AllIn (G.belongs gates.now) row.new }
@@ -137,21 +134,19 @@ fn append<G: Gates>(gates: &G, row: &mut NodeList, more: &NodeList) -> Result<()
 fn before_in<G: Gates>(
     alloc: Global,
     gates: &mut G,
-    first: usize,
     f: &NodeList,
     g: &NodeList,
 ) -> Result<NodeList, AllocError>
     requires f_belongs { AllIn (G.belongs gates.old) f.now }
     requires g_belongs { AllIn (G.belongs gates.old) g.now }
     requires lengths { length f.now ≡ length g.now }
-    requires inside { first < length f.now }
+    requires some { 0 < length f.now }
     ensures keeps { Keeps G.belongs G.node_value gates.old gates.new }
     ensures belongs { IfOk result (λ row. AllIn (G.belongs gates.new) row) }
     ensures moving { IfOk result (λ row. IsMoving Before (G.node_value gates.old)
-        (G.node_value gates.new) first f.now g.now row) }
+        (G.node_value gates.new) f.now g.now row) }
 {
-    // for the proof: only the clauses name the first place and the first operand
-    let _ = first;
+    // for the proof: only the clauses name the first operand
     let _ = f.len();
     let made = gate_temporal::before(alloc, gates, g)?;
     Ok(made)
@@ -161,53 +156,27 @@ fn before_in<G: Gates>(
 fn since_in<G: Gates>(
     alloc: Global,
     gates: &mut G,
-    first: usize,
     f: &NodeList,
     g: &NodeList,
 ) -> Result<NodeList, AllocError>
     requires f_belongs { AllIn (G.belongs gates.old) f.now }
     requires g_belongs { AllIn (G.belongs gates.old) g.now }
     requires lengths { length f.now ≡ length g.now }
-    requires inside { first < length f.now }
     ensures keeps { Keeps G.belongs G.node_value gates.old gates.new }
     ensures belongs { IfOk result (λ row. AllIn (G.belongs gates.new) row) }
     ensures moving { IfOk result (λ row. IsMoving Since (G.node_value gates.old)
-        (G.node_value gates.new) first f.now g.now row) }
+        (G.node_value gates.new) f.now g.now row) }
 {
-    // for the proof: only the clauses name the first place
-    let _ = first;
     let made = gate_temporal::since(alloc, gates, f, g)?;
     Ok(made)
 }
 
-/// Whether the second operand will hold, and the first until then.
-fn until_in<G: Gates>(
-    alloc: Global,
-    gates: &mut G,
-    first: usize,
-    f: &NodeList,
-    g: &NodeList,
-) -> Result<NodeList, AllocError>
-    requires f_belongs { AllIn (G.belongs gates.old) f.now }
-    requires g_belongs { AllIn (G.belongs gates.old) g.now }
-    requires lengths { length f.now ≡ length g.now }
-    requires inside { first < length f.now }
-    ensures keeps { Keeps G.belongs G.node_value gates.old gates.new }
-    ensures belongs { IfOk result (λ row. AllIn (G.belongs gates.new) row) }
-    ensures moving { IfOk result (λ row. IsMoving Until (G.node_value gates.old)
-        (G.node_value gates.new) first f.now g.now row) }
-{
-    let made = gate_temporal::until(alloc, gates, first, f, g)?;
-    Ok(made)
-}
-
-/// The operator in one window, where one goes round to the place `first`. Its error is want of memory,
-/// or that the rows are of different lengths or have no such place.
+/// The operator in one window. Its error is want of memory, or that the rows are of different lengths or
+/// have no place.
 fn in_window<G: Gates>(
     alloc: Global,
     gates: &mut G,
     op: TimeOperator,
-    first: usize,
     f: &NodeList,
     g: &NodeList,
 ) -> Result<NodeList, AllocError>
@@ -215,17 +184,15 @@ fn in_window<G: Gates>(
     requires g_belongs { AllIn (G.belongs gates.old) g.now }
     ensures keeps { Keeps G.belongs G.node_value gates.old gates.new }
     ensures belongs { IfOk result (λ row. AllIn (G.belongs gates.new) row) }
-    ensures inside { OnOk result (first < length f.now) }
     ensures moving { IfOk result (λ row. IsMoving op (G.node_value gates.old)
-        (G.node_value gates.new) first f.now g.now row) }
+        (G.node_value gates.new) f.now g.now row) }
 {
-    if f.len() != g.len() || first >= f.len() {
+    if f.len() != g.len() || f.len() == 0 {
         return Err(AllocError);
     }
     match op {
-        TimeOperator::Before => before_in(alloc, gates, first, f, g),
-        TimeOperator::Since => since_in(alloc, gates, first, f, g),
-        TimeOperator::Until => until_in(alloc, gates, first, f, g),
+        TimeOperator::Before => before_in(alloc, gates, f, g),
+        TimeOperator::Since => since_in(alloc, gates, f, g),
     }
 }
 
@@ -247,8 +214,7 @@ fn along_window<G: Gates>(
 {
     let first = part(alloc, gates, f, window.start, window.end)?;
     let second = part(alloc, gates, g, window.start, window.end)?;
-    let back = window.back.saturating_sub(window.start);
-    let made = in_window(alloc, gates, op, back, &first, &second)?;
+    let made = in_window(alloc, gates, op, &first, &second)?;
     Ok(made)
 }
 

@@ -1,5 +1,5 @@
 -- Rows while a circuit grows.
-use Rattle.std.proofs.Common.{◌≡◌, ◌⊎◌, ℕ, zero, suc, ◌+◌, ◌<◌, Bool, List, [], ◌∷◌, ◌++◌, length, All, Some, refl, sym, ◌∙◌, ap, subst, arith, slice_get, get_or, length-append, Contains, inl, inr, Result, Ok, Err, IfOk}
+use Rattle.std.proofs.Common.{◌≡◌, ℕ, zero, suc, ◌+◌, ◌<◌, Bool, List, [], ◌∷◌, ◌++◌, length, All, Some, refl, sym, ◌∙◌, ap, subst, arith, slice_get, get_or, length-append, Contains, inl, inr, Result, Ok, Err, IfOk}
 use Rattle.std.proofs.lemmas.Bool.{cases_lt}
 use Rattle.std.proofs.lemmas.List.{get_or_default}
 use Rattle.std.proofs.lemmas.Option.{slice_get_within, get_or_from_slice_get}
@@ -106,10 +106,3 @@ all_from P row new all from k d lt =
 pub if_ok_to : {X E : Type 0} (P Q : X → Type 0) → ((x : X) → P x → Q x) → (r : Result X E) → IfOk r P → IfOk r Q
 if_ok_to P Q f (Ok x) h = f x h
 if_ok_to P Q f (Err e) h = tt
-
--- and those that come from one of two rows do where the nodes of both do
-pub all_of_either : (P : Node → Type 0) (a b new : List Node) → AllIn P a → AllIn P b → All (λ n. Contains a n ⊎ Contains b n) new → AllIn P new
-all_of_either P a b new in_a in_b from k d lt = elim (from k d lt) [
-  | inl here ↦ let (j, l, e) = here in subst P e (in_a j _ l)
-  | inr there ↦ let (j, l, e) = there in subst P e (in_b j _ l)
-]

@@ -179,14 +179,33 @@ until_passes value f g first i v last same loops inside el ev =
     ) in
     subst (λ (r : ℕ). IsTrue v ↔ UntilAt (IsAt value f first) (λ k. IsTrue (G (folded first (r - first) k))) i) same by
 
-pub until_both : (F H G K : ℕ → Bool) (b : Bool) (n i : ℕ) → ((k : ℕ) → F k ≡ H k) → ((k : ℕ) → G k ≡ K k) → until_to F G b n i ≡ until_to H K b n i
-until_both F H G K b zero i f g = refl
-until_both F H G K b (suc n) i f g =
-    let ef = f i in
-    let eg = g i in
-    let rest = until_both F H G K b n (i + 1) f g in
-    cc
-
 pub fold_end : (first round i : ℕ) → 0 < round → i ≡ first + round → folded first round i ≡ first
 fold_end first round i some at =
     ap (λ (k : ℕ). folded first round k) at ∙ fold_again first round first some (omega arith) ∙ fold_inside first round first (omega arith)
+
+same_truth : (a b : Bool) → IsTrue a ↔ IsTrue b → a ≡ b
+same_truth true b h = sym (h.0 refl)
+same_truth false true h = h.1 refl
+same_truth false false h = refl
+
+-- up to the place where rounds begin the first pass tells it
+pub until_first : (value : Node → Bool) (f g : List Node) (first i : ℕ) (v : Bool) → length f ≡ length g → first < length f → i ≤ first
+    → v ≡ until_to (row_value value f) (row_value value g) false (length f - i) i
+    → IsTrue v ↔ UntilAt (IsAt value f first) (IsAt value g first) i
+until_first value f g first i v same loops low ev =
+    let last = until_to (row_value value f) (row_value value g) false (length f - first) first in
+    until_passes value f g first i v last same loops (omega arith) refl
+    (ev ∙ until_once (row_value value f) (row_value value g) first (length f) i last low (omega arith) refl)
+
+-- behind any place the second pass tells it, where the truth at the place where rounds begin is known
+pub until_second : (value : Node → Bool) (f g : List Node) (first i : ℕ) (v last : Bool) → length f ≡ length g → first < length f → i < length f
+    → IsTrue last ↔ UntilAt (IsAt value f first) (IsAt value g first) first
+    → v ≡ until_to (row_value value f) (row_value value g) last (length f - i) i
+    → IsTrue v ↔ UntilAt (IsAt value f first) (IsAt value g first) i
+until_second value f g first i v last same loops inside tells ev =
+    let F = row_value value f in
+    let G = row_value value g in
+    let found = until_to F G false (length f - first) first in
+    let known = until_first value f g first first found same loops (omega arith) refl in
+    let is : last ≡ found = same_truth last found (iff_trans tells (known.1, known.0)) in
+    until_passes value f g first i v last same loops inside is ev

@@ -1,10 +1,11 @@
 //! The operator `until`, which looks ahead: a pass from the last place to the first, and another back to the loop.
 
-ghost use Rattle.std.specs.Prelude.{◌≡◌, ◌<◌, ◌≤◌, ◌-◌, ◌⊎◌, ◌↔◌, ℕ, Bool, length, IfOk, IsTrue, All, Contains};
+ghost use Rattle.std.specs.Prelude.{◌≡◌, ◌<◌, ◌≤◌, ◌-◌, ℕ, Bool, length, IfOk, All, Contains};
 ghost use Rattle.gate_trait.specs.Built.{Keeps, AllIn};
 ghost use Rattle.gate_trait.specs.declared.node.Node.{Node as CircuitNode};
-ghost use Rattle.gate_temporal.specs.Rows.{row_value, IsAt};
-ghost use Rattle.gate_temporal.specs.Times.{UntilAt, until_to};
+ghost use Rattle.gate_temporal.specs.Rows.{row_value};
+ghost use Rattle.gate_temporal.specs.Times.{until_to};
+ghost use Rattle.gate_temporal.specs.Rounds.{TellsUntil};
 
 use crate::step::step;
 use gate_trait::{Gates, Node, NodeList};
@@ -24,25 +25,6 @@ fn reversed(alloc: Global, nodes: &NodeList) -> Result<NodeList, AllocError>
         row.push(nodes.node(rest))?;
     }
     Ok(row)
-}
-
-/// The nodes of a row, and behind them those that another row has there.
-fn gone_on(row: NodeList, other: &NodeList) -> Result<NodeList, AllocError>
-    requires { length row ≤ length other.now }
-    ensures length { IfOk result (λ whole. length whole ≡ length other.now) }
-    ensures front { IfOk result (λ whole. (value : CircuitNode → Bool) (i : ℕ) → i < length row
-        → row_value value whole i ≡ row_value value row i) }
-    ensures rest { IfOk result (λ whole. (value : CircuitNode → Bool) (i : ℕ) → length row ≤ i
-        → i < length other.now → row_value value whole i ≡ row_value value other.now i) }
-    ensures same_nodes { IfOk result (λ whole.
-        All (λ n. Contains row n ⊎ Contains other.now n) whole) }
-{
-    let mut whole = row;
-    let start = whole.len();
-    for place in start..other.len() {
-        whole.push(other.node(place))?;
-    }
-    Ok(whole)
 }
 
 /// The values of `until` at the places from one on, the last first, where past the end it has the
@@ -80,34 +62,59 @@ fn backward<G: Gates>(
     Ok(row)
 }
 
-/// At each place, whether `g` is true at some position from there on, and `f` at all before that
-/// one. The positions go round from the end of the row to the place `first`.
-///
-/// From a place up to `first` on, what is found by going round stands already between `first` and
-/// the end. So only the places behind `first` are passed again.
-pub fn until<G: Gates>(
+/// At each place, whether `g` is true at some position from there on, and `f` at all before that one: the
+/// first pass, as if nothing were true past the end. What is found by going round from there to the place
+/// `first` stands already between `first` and the end. So it is right at the places up to each such `first`.
+pub fn until_once<G: Gates>(
     alloc: Global,
     gates: &mut G,
-    first: usize,
     f: &NodeList,
     g: &NodeList,
 ) -> Result<NodeList, AllocError>
     requires f_belongs { AllIn (G.belongs gates.old) f.now }
     requires g_belongs { AllIn (G.belongs gates.old) g.now }
     requires lengths { length f.now ≡ length g.now }
-    requires first { first < length f.now }
     ensures keeps { Keeps G.belongs G.node_value gates.old gates.new }
     ensures belongs { IfOk result (λ row. AllIn (G.belongs gates.new) row) }
     ensures length { IfOk result (λ row. length row ≡ length f.now) }
-    ensures truth { IfOk result (λ row. (x : ℕ → Bool) (i : ℕ) → i < length f.now
-        → IsTrue (row_value (G.node_value gates.new x) row i)
-        ↔ UntilAt (IsAt (G.node_value gates.old x) f.now first)
-        (IsAt (G.node_value gates.old x) g.now first) i) }
+    ensures truth { IfOk result (λ row. (x : ℕ → Bool) (first i : ℕ) → first < length f.now
+        → i ≤ first → TellsUntil (G.node_value gates.old x) f.now g.now first i
+        (row_value (G.node_value gates.new x) row i)) }
 {
     let never = gates.constant(false);
     let once = backward(alloc, gates, f, g, 0, never)?;
-    let round = once.node(f.len() - first - 1);
-    let later = backward(alloc, gates, f, g, first + 1, round)?;
-    let twice = gone_on(later, &once)?;
-    reversed(alloc, &twice)
+    reversed(alloc, &once)
+}
+
+/// The second pass, where past the end stands the value `round` of the place `first`, to which one goes back.
+/// So it is right at each place. At place 0 stands what the first pass has there, `once`.
+pub fn until_again<G: Gates>(
+    alloc: Global,
+    gates: &mut G,
+    f: &NodeList,
+    g: &NodeList,
+    once: &NodeList,
+    round: Node,
+) -> Result<NodeList, AllocError>
+    requires f_belongs { AllIn (G.belongs gates.old) f.now }
+    requires g_belongs { AllIn (G.belongs gates.old) g.now }
+    requires once_belongs { AllIn (G.belongs gates.old) once.now }
+    requires round_belongs { G.belongs gates.old round }
+    requires lengths { length f.now ≡ length g.now }
+    requires once_long { length once.now ≡ length f.now }
+    requires some { 0 < length f.now }
+    ensures keeps { Keeps G.belongs G.node_value gates.old gates.new }
+    ensures belongs { IfOk result (λ row. AllIn (G.belongs gates.new) row) }
+    ensures length { IfOk result (λ row. length row ≡ length f.now) }
+    ensures truth { IfOk result (λ row. (x : ℕ → Bool) (first i : ℕ) → first < length f.now
+        → i < length f.now → TellsUntil (G.node_value gates.old x) f.now g.now first first
+        (G.node_value gates.old x round)
+        → TellsUntil (G.node_value gates.old x) f.now g.now first 0
+        (row_value (G.node_value gates.old x) once.now 0)
+        → TellsUntil (G.node_value gates.old x) f.now g.now first i
+        (row_value (G.node_value gates.new x) row i)) }
+{
+    let mut turned = backward(alloc, gates, f, g, 1, round)?;
+    turned.push(once.node(0))?;
+    reversed(alloc, &turned)
 }

@@ -4,7 +4,7 @@ use Rattle.gate_trait.specs.declared.node.Node.{Node}
 use Rattle.gate_trait.proofs.KeptLemmas.{keeps_trans, all_more}
 use Rattle.core_tree.specs.declared.tree.Formula.{Formula}
 use Rattle.bmc_windows.proofs.PushLemmas.{push_kept}
-use Rattle.bmc_encoder.proofs.LoopLaws.{choices_kept}
+use Rattle.bmc_leaves.proofs.LoopLaws.{choices_kept}
 use Rattle.bmc_encoder.proofs.RootLaws.{roots_more}
 use Rattle.bmc_encoder.proofs.roots.add_roots.Goals as goal
 

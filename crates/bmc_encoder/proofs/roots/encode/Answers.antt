@@ -3,7 +3,7 @@ use Rattle.gate_trait.specs.declared.node.Node.{Node}
 use Rattle.gate_trait.proofs.KeptLemmas.{keeps_trans}
 use Rattle.core_meaning.specs.Kept.{world_of, KeepsNumbers}
 use Rattle.bmc_encoder.proofs.DecodedLaws.{decoded}
-use Rattle.bmc_encoder.proofs.LoopLaws.{choices_kept}
+use Rattle.bmc_leaves.proofs.LoopLaws.{choices_kept}
 use Rattle.bmc_encoder.proofs.RootLaws.{says_kept}
 use Rattle.bmc_encoder.proofs.roots.encode.Goals as goal
 

@@ -1,7 +1,7 @@
 use Rattle.std.proofs.Common.{◌≡◌, ◌<◌, ◌+◌, ℕ, Bool, length}
 use Rattle.gate_trait.specs.Built.{Keeps, AllIn}
 use Rattle.gate_temporal.specs.Rows.{row_value}
-use Rattle.bmc_encoder.proofs.roots.loop_choices.Given as goal
+use Rattle.bmc_leaves.proofs.loops.loop_choices.Given as goal
 
 -- the states so far
 abbrev pub invariant-loop-state : goal.invariant-loop-state

@@ -1,9 +1,13 @@
 -- The choice of a loop.
-use Rattle.std.proofs.Common.{◌≡◌, ◌↔◌, ◌<◌, ℕ, Bool, true, List, length, refl, sym, ap, ◌∙◌, arith}
+use Rattle.std.proofs.Common.{◌≡◌, ◌↔◌, ◌<◌, ℕ, Bool, true, List, Some, slice_get, length, refl, sym, ap, ◌∙◌, arith}
 use Rattle.gate_trait.specs.declared.node.Node.{Node}
 use Rattle.gate_trait.specs.Built.{Keeps, AllIn}
 use Rattle.gate_temporal.specs.Rows.{row_value, IsOnlyOf}
-use Rattle.bmc_leaves.specs.Loops.{AreChoices}
+use Rattle.core_meaning.specs.Sequence.{LassoValue}
+use Rattle.bmc_windows.specs.declared.frame.Stretch.{Stretch}
+use Rattle.bmc_leaves.specs.Loops.{AreChoices, IsChosen}
+use Rattle.bmc_leaves.specs.Table.{Decodes}
+use Rattle.bmc_leaves.specs.Shown.{Reading, HasPlace}
 use Rattle.bmc_leaves.proofs.RowLaws.{row_kept}
 
 -- the only choice that is true is where the loop begins
@@ -33,3 +37,14 @@ choices_kept belongs value g h keeps row all states loops are = record {
     (λ p. only_same (row_value (value g x) row) (row_value (value h x) row) (length row) l (λ k. sym (row_kept belongs value g h keeps row all x k)) ((are.only x l).1 p)),
   );
 }
+
+-- the assignment stands for a lasso, whose loop has this window
+abbrev pub IsShownIn : Reading → (ℕ → Bool) → Stretch → Type 0
+IsShownIn r x s = (lasso : LassoValue) × Decodes r.bounds r.table x lasso × (slice_get r.frame.windows.items lasso.loop_start ≡ Some s)
+
+pub shown_in : (r : Reading) (x : ℕ → Bool) (lasso : LassoValue) (loop k : ℕ) (s : Stretch) → Decodes r.bounds r.table x lasso → lasso.loop_start ≡ loop → HasPlace r.frame loop s k → IsShownIn r x s
+shown_in r x lasso loop k s shows at place = (lasso, shows, ap (λ (l : ℕ). slice_get r.frame.windows.items l) at ∙ place.0)
+
+-- the choice of that window is the only one
+pub chosen_of : (r : Reading) (value : (ℕ → Bool) → Node → Bool) (choices : List Node) (x : ℕ → Bool) (s : Stretch) → AreChoices value r.bounds.states r.table.loops choices → IsShownIn r x s → IsChosen value r.frame choices x s
+chosen_of r value choices x s are shown = (shown.0.loop_start, (are.only x shown.0.loop_start).1 shown.1.loop, shown.2)

@@ -2,8 +2,8 @@ use Rattle.std.proofs.Common.{◌≡◌, ◌∙◌, ◌+◌, ◌<◌, ℕ, lengt
 use Rattle.gate_trait.proofs.KeptLemmas.{keeps_trans, all_more}
 use Rattle.gate_temporal.specs.Rows.{row_value}
 use Rattle.bmc_leaves.proofs.RowLaws.{long_more, values_push, row_kept}
-use Rattle.bmc_encoder.proofs.LoopLaws.{only_loop}
-use Rattle.bmc_encoder.proofs.roots.loop_choices.Goals as goal
+use Rattle.bmc_leaves.proofs.LoopLaws.{only_loop}
+use Rattle.bmc_leaves.proofs.loops.loop_choices.Goals as goal
 
 pub loop-state-preserved : goal.loop-state-preserved
 loop-state-preserved g c =
