@@ -20,13 +20,13 @@ use Rattle.bmc_walk.specs.Walked.{atoms_of, read_in, HasRow, AddsFront}
 use Rattle.bmc_places.proofs.StoreLaws.{stays_extends}
 use Rattle.bmc_walk.proofs.WalkLaws.{max_left, max_right, ground_kept}
 
-drop_all : {X : Type 0} (xs : List X) (k : ℕ) → k ≡ length xs → drop k xs ≡ []
+pub drop_all : {X : Type 0} (xs : List X) (k : ℕ) → k ≡ length xs → drop k xs ≡ []
 drop_all [] zero e = refl
 drop_all [] (suc k) e = absurd (omega arith)
 drop_all (x ∷ xs) zero e = absurd (omega arith)
 drop_all (x ∷ xs) (suc k) e = drop_all xs k (omega arith)
 
-drop_front : {X : Type 0} (xs : List X) (k : ℕ) (x : X) → slice_get xs k ≡ Some x → drop k xs ≡ x ∷ drop (suc k) xs
+pub drop_front : {X : Type 0} (xs : List X) (k : ℕ) (x : X) → slice_get xs k ≡ Some x → drop k xs ≡ x ∷ drop (suc k) xs
 drop_front [] k x at = absurd cc
 drop_front (y ∷ xs) zero x at = (let same : y ≡ x = cc in ap (λ z. z ∷ xs) same)
 drop_front (y ∷ xs) (suc k) x at = drop_front xs k x at

@@ -2,6 +2,7 @@ pub mod FoundLaws
 pub mod WalkLaws
 pub mod RightLaws
 pub mod EveryLaws
+pub mod LevelLaws
 pub mod LeafLaws
 pub mod NameLaws
 pub mod ApartLaws

@@ -17,7 +17,8 @@ use Rattle.gate_temporal.specs.Rows.{row_value}
 use Rattle.bmc_windows.specs.declared.frame.Stretch.{Stretch}
 use Rattle.bmc_stack.specs.Sets.{StandsAt}
 use Rattle.bmc_leaves.specs.Lying.{IsFree, AsksNothing}
-use Rattle.bmc_leaves.specs.Shown.{names_of, Reading, HasPlace, Shows, none_nested}
+use Rattle.bmc_leaves.specs.Shown.{names_of, Reading, HasPlace, none_nested}
+use Rattle.bmc_leaves.specs.Table.{Decodes}
 use Rattle.bmc_walk.specs.declared.walk.Known.{Known}
 use Rattle.bmc_walk.specs.declared.walk.Ground.{Ground}
 use Rattle.bmc_walk.specs.Variables.{SayIn}
@@ -35,7 +36,7 @@ IsSilent word e = IsFree word × AsksNothing e
 abbrev pub MarksSets : Reading → ((ℕ → Bool) → Node → Bool) → ((ℕ → Bool) → Node → Bool) → List MatrixEntries → List ℕ → (LassoValue → ℕ → Tuples → Type 0) → List Node → Type 0
 MarksSets r old new matrices set P row =
     (loop k : ℕ) (s : Stretch) → HasPlace r.frame loop s k → (m : MatrixEntries) → StandsAt matrices set (s.start + k) m → (s.start + k < length row)
-    × ((x : ℕ → Bool) (lasso : LassoValue) → Shows r.bounds r.table x lasso → lasso.loop_start ≡ loop → IsTrue (row_value (new x) row (s.start + k)) ↔ P lasso k (set_of (old x) m))
+    × ((x : ℕ → Bool) (lasso : LassoValue) → Decodes r.bounds r.table x lasso → lasso.loop_start ≡ loop → IsTrue (row_value (new x) row (s.start + k)) ↔ P lasso k (set_of (old x) m))
 
 -- what the arrow at the end asks of each tuple in turn
 abbrev pub EndHolds : World → Names → ℕ → Bool → Multiplicity → Term → Tuples → (List ℕ → Type 0) → Type 0

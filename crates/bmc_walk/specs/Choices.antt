@@ -11,7 +11,8 @@ use Rattle.core_meaning.specs.Called.{no_bodies}
 use Rattle.gate_matrix.specs.Matrices.{MatrixEntries}
 use Rattle.gate_temporal.specs.Rows.{row_value}
 use Rattle.bmc_windows.specs.declared.frame.Stretch.{Stretch}
-use Rattle.bmc_leaves.specs.Shown.{names_of, Reading, HasPlace, Shows, none_nested}
+use Rattle.bmc_leaves.specs.Shown.{names_of, Reading, HasPlace, none_nested}
+use Rattle.bmc_leaves.specs.Table.{Decodes}
 use Rattle.bmc_places.specs.Gathered.{IsFound}
 use Rattle.bmc_walk.specs.declared.walk.Known.{Known}
 use Rattle.bmc_walk.specs.declared.walk.Ground.{Ground}
@@ -26,7 +27,7 @@ chosen_of (a ∷ earlier) = chosen_of earlier ++ a ∷ []
 
 -- a fact at the places of windows, of the lassos that an assignment shows
 abbrev pub AtPlaces : Reading → ((ℕ → Bool) → LassoValue → ℕ → ℕ → Type 0) → Type 0
-AtPlaces r P = (loop k : ℕ) (s : Stretch) → HasPlace r.frame loop s k → (x : ℕ → Bool) (lasso : LassoValue) → Shows r.bounds r.table x lasso → lasso.loop_start ≡ loop → P x lasso k (s.start + k)
+AtPlaces r P = (loop k : ℕ) (s : Stretch) → HasPlace r.frame loop s k → (x : ℕ → Bool) (lasso : LassoValue) → Decodes r.bounds r.table x lasso → lasso.loop_start ≡ loop → P x lasso k (s.start + k)
 
 -- the atoms are a choice at which the formula holds
 abbrev pub PickedHere : World → Names → ℕ → List ℕ → Variables → Claim → List ℕ → Type 0

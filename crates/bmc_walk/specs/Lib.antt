@@ -1,4 +1,5 @@
 pub mod Walked
+pub mod Levels
 pub mod Walks
 pub mod Leaves
 pub mod Variables

@@ -11,7 +11,8 @@ use Rattle.core_meaning.specs.Called.{no_bodies}
 use Rattle.gate_matrix.specs.Matrices.{MatrixEntries}
 use Rattle.gate_temporal.specs.Rows.{row_value}
 use Rattle.bmc_windows.specs.declared.frame.Stretch.{Stretch}
-use Rattle.bmc_leaves.specs.Shown.{names_of, Reading, HasPlace, Shows, none_nested}
+use Rattle.bmc_leaves.specs.Shown.{names_of, Reading, HasPlace, none_nested}
+use Rattle.bmc_leaves.specs.Table.{Decodes}
 use Rattle.bmc_walk.specs.declared.walk.Known.{Known}
 use Rattle.bmc_walk.specs.declared.walk.Ground.{Ground}
 use Rattle.bmc_walk.specs.declared.variables.Earlier.{Earlier}
@@ -34,9 +35,9 @@ AtomsHold w names k earlier v rest f tuples =
 
 -- the row says for each of the tuples where it is in the expression
 pub record SayIn (r : Reading) (value : (ℕ → Bool) → Node → Bool) (e : Term) (tuples : List (List ℕ)) (nodes : List Node) : Type 0 where
-  pub values : (loop k : ℕ) (s : Stretch) → HasPlace r.frame loop s k → (x : ℕ → Bool) (lasso : LassoValue) → Shows r.bounds r.table x lasso → lasso.loop_start ≡ loop → (j : ℕ) (t : List ℕ) → slice_get tuples j ≡ Some t
+  pub values : (loop k : ℕ) (s : Stretch) → HasPlace r.frame loop s k → (x : ℕ → Bool) (lasso : LassoValue) → Decodes r.bounds r.table x lasso → lasso.loop_start ≡ loop → (j : ℕ) (t : List ℕ) → slice_get tuples j ≡ Some t
       → IsTrue (row_value (value x) nodes (j * length r.frame.shown.items + (s.start + k))) ↔ InTerm (world_of r.scopes lasso) no_bodies e (names_of r.atoms) k t
-  pub all : (loop k : ℕ) (s : Stretch) → HasPlace r.frame loop s k → (x : ℕ → Bool) (lasso : LassoValue) → Shows r.bounds r.table x lasso → lasso.loop_start ≡ loop → (t : List ℕ) → InTerm (world_of r.scopes lasso) no_bodies e (names_of r.atoms) k t → Contains tuples t
+  pub all : (loop k : ℕ) (s : Stretch) → HasPlace r.frame loop s k → (x : ℕ → Bool) (lasso : LassoValue) → Decodes r.bounds r.table x lasso → lasso.loop_start ≡ loop → (t : List ℕ) → InTerm (world_of r.scopes lasso) no_bodies e (names_of r.atoms) k t → Contains tuples t
 
 -- the row says where the formula holds for all atoms
 pub record HasEach (ground : Ground) (known : Known) (earlier : List ℕ) (old new : (ℕ → Bool) → Node → Bool) (before : List MatrixEntries) (vs : Variables) (f : Claim) (row : List Node) : Type 0 where

@@ -1,7 +1,8 @@
 -- What a walk along an expression or a formula leaves.
 use Rattle.std.specs.Prelude.{◌≡◌, ◌↔◌, ◌≤◌, ◌<◌, ◌+◌, ℕ, ℤ, Bool, List, [], ◌∷◌, length, slice_get, Some, IsTrue}
 use Rattle.gate_trait.specs.declared.node.Node.{Node}
-use Rattle.core_tree.specs.Trees.{Term, Claim, Claims, every, more_claims}
+use Rattle.core_tree.specs.declared.operators.RelationOp.{RelationOp}
+use Rattle.core_tree.specs.Trees.{Term, Claim, Claims, combine, every, more_claims}
 use Rattle.core_tree.specs.Past.{no_depths, past_in, past_of}
 use Rattle.core_meaning.specs.Sequence.{LassoValue}
 use Rattle.core_meaning.specs.Kept.{world_of}
@@ -13,7 +14,8 @@ use Rattle.gate_matrix.specs.Matrices.{MatrixEntries}
 use Rattle.gate_integers.specs.Numbers.{signed}
 use Rattle.gate_temporal.specs.Rows.{row_value}
 use Rattle.bmc_windows.specs.declared.frame.Stretch.{Stretch}
-use Rattle.bmc_leaves.specs.Shown.{Atoms, names_of, Reading, under, none_nested, IsReading, Shows, HasPlace, IsRight, AreRight, AreKept}
+use Rattle.bmc_leaves.specs.Shown.{Atoms, names_of, Reading, under, none_nested, IsReading, HasPlace, IsRight, AreRight, AreKept}
+use Rattle.bmc_leaves.specs.Table.{Decodes}
 use Rattle.bmc_leaves.specs.Relations.{reading_of}
 use Rattle.bmc_walk.specs.declared.walk.Known.{Known}
 use Rattle.bmc_walk.specs.declared.walk.Known.TheVariants.{Nothing, Atom'}
@@ -31,7 +33,7 @@ read_in ground known h = under (reading_of ground.setting h) (atoms_of known)
 -- a row is true at the places of each window where a fact holds in the lassos whose loop begins there
 pub record Marks (r : Reading) (value : (ℕ → Bool) → Node → Bool) (P : LassoValue → ℕ → Type 0) (row : List Node) : Type 0 where
   pub inside : (loop k : ℕ) (s : Stretch) → HasPlace r.frame loop s k → s.start + k < length row
-  pub holds : (loop k : ℕ) (s : Stretch) → HasPlace r.frame loop s k → (x : ℕ → Bool) (lasso : LassoValue) → Shows r.bounds r.table x lasso → lasso.loop_start ≡ loop → IsTrue (row_value (value x) row (s.start + k)) ↔ P lasso k
+  pub holds : (loop k : ℕ) (s : Stretch) → HasPlace r.frame loop s k → (x : ℕ → Bool) (lasso : LassoValue) → Decodes r.bounds r.table x lasso → lasso.loop_start ≡ loop → IsTrue (row_value (value x) row (s.start + k)) ↔ P lasso k
 
 -- the integer that stands at a place of a row of numbers
 abbrev pub StandsThere : List (List Node) → List ℕ → ℕ → List Node → Type 0
@@ -41,7 +43,7 @@ StandsThere integers row i b = (k : ℕ) × (slice_get row i ≡ Some k) × (sli
 abbrev pub HaveIntegers : Reading → ((ℕ → Bool) → Node → Bool) → List (List Node) → (LassoValue → ℕ → ℤ → Type 0) → List ℕ → Type 0
 HaveIntegers r value integers Is numbers =
     (loop k : ℕ) (s : Stretch) → HasPlace r.frame loop s k → (b : List Node) × StandsThere integers numbers (s.start + k) b × (length b ≡ r.scopes.bits)
-    × ((x : ℕ → Bool) (lasso : LassoValue) → Shows r.bounds r.table x lasso → lasso.loop_start ≡ loop → Is lasso k (signed (value x) b))
+    × ((x : ℕ → Bool) (lasso : LassoValue) → Decodes r.bounds r.table x lasso → lasso.loop_start ≡ loop → Is lasso k (signed (value x) b))
 
 -- the integers for which an expression stands in an integer place
 pub record AreNumbers (r : Reading) (value : (ℕ → Bool) → Node → Bool) (integers : List (List Node)) (e : Term) (numbers : List ℕ) : Type 0 where
@@ -59,6 +61,10 @@ pub record IsGround (ground : Ground) (value : (ℕ → Bool) → Node → Bool)
 -- the sets are those of the expression
 pub record HasSets (ground : Ground) (known : Known) (old new : (ℕ → Bool) → Node → Bool) (before after : List MatrixEntries) (e : Term) (numbers : List ℕ) : Type 0 where
   pub right : (h : ℕ) → IsGround ground old before h → past_in none_nested e no_depths ≤ h → AreRight (read_in ground known h) new after e numbers
+
+-- the sets are those of an operator between an expression, of which the first sets are, and another
+pub record AddsOperand (ground : Ground) (known : Known) (old new : (ℕ → Bool) → Node → Bool) (before after : List MatrixEntries) (op : RelationOp) (f : Term) (first numbers : List ℕ) : Type 0 where
+  pub right : (h : ℕ) → IsGround ground old before h → past_in none_nested f no_depths ≤ h → (e : Term) → AreRight (read_in ground known h) old before e first → AreRight (read_in ground known h) new after (combine op e f) numbers
 
 -- the integers are those for which the expression stands
 pub record HasNumbers (ground : Ground) (known : Known) (old new : (ℕ → Bool) → Node → Bool) (before : List MatrixEntries) (integers : List (List Node)) (e : Term) (numbers : List ℕ) : Type 0 where

@@ -113,8 +113,8 @@ pub fn sets_at<
         store.new.matrices.items (term_of expr.now) v.items) }
 {
     match expr {
-        Expr::Combine(op, a, b) => {
-            let made = combine_sets(walk, gates, store, *op, a, b, known)?;
+        Expr::Combine(_, _, _) => {
+            let made = combine_sets(walk, gates, store, expr, known)?;
             Ok(made)
         }
         Expr::Product(a, left, right, b) => {

@@ -9,9 +9,11 @@ ghost use Rattle.bmc_walk.specs.Walked.{HasRow, AddsFront};
 ghost use Rattle.bmc_walk.specs.Walks.{Walks};
 
 use crate::walk::{Answer, Ground, Known, Walk, Wanted, part_row, part_sets};
+use bmc_leaves::loops::loop_choices;
+use bmc_places::round_rows::{self, next_row};
 use bmc_places::rows::{if_else, iff, opposite};
 use bmc_places::{equal_row, inside_row, tested_row};
-use bmc_stack::windows::{both, constantly, moving, spread};
+use bmc_stack::windows::{both, constantly, moving};
 use bmc_stack::{Store, TimeOperator};
 use core_tree::{Connective, Expr, Formula, Quantity, TemporalBinary, TemporalUnary};
 use gate_trait::{Gates, NodeList};
@@ -382,7 +384,13 @@ fn after_row<
     let first = part_row(walk, gates, store, f, known)?;
     let setting = walk.ground.setting;
     let frame = setting.frame;
-    let row = spread(walk.ground.alloc, gates, &first, &frame.next)?;
+    let choices = loop_choices(
+        walk.ground.alloc,
+        gates,
+        setting.bounds.states,
+        setting.layout.loops,
+    )?;
+    let row = next_row(walk.ground.alloc, gates, frame, &choices, &first)?;
     Ok(row)
 }
 
@@ -507,8 +515,13 @@ fn until_row<
     let second = part_row(walk, gates, store, g, known)?;
     let setting = walk.ground.setting;
     let frame = setting.frame;
-    let op = TimeOperator::Until;
-    let row = moving(walk.ground.alloc, gates, frame, op, &first, &second)?;
+    let choices = loop_choices(
+        walk.ground.alloc,
+        gates,
+        setting.bounds.states,
+        setting.layout.loops,
+    )?;
+    let row = round_rows::until_row(walk.ground.alloc, gates, frame, &choices, &first, &second)?;
     Ok(row)
 }
 

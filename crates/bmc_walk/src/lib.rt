@@ -10,6 +10,7 @@ pub mod forms;
 pub mod formulas;
 pub mod integers;
 pub mod leaves;
+pub mod levels;
 pub mod sets;
 pub mod sums;
 pub mod tied;

@@ -8,6 +8,7 @@ ghost use Rattle.bmc_places.specs.Stores.{Extends, Stays};
 ghost use Rattle.bmc_walk.specs.Walked.{HasSets, HasNumbers, HasRow};
 ghost use Rattle.bmc_walk.specs.Walks.{IsAnswer, Walks};
 
+use crate::levels::without_doubles;
 use bmc_leaves::setting::Setting;
 use bmc_stack::Store;
 use core_tree::{Expr, Formula};
@@ -160,7 +161,7 @@ pub fn part_integers<
     }
 }
 
-/// Where a part holds.
+/// Where a part holds. Two negations before it take no level.
 pub fn part_row<
     G: Gates,
     F: for<'j> Fn(
@@ -189,7 +190,8 @@ pub fn part_row<
         (G.node_value gates.old) (G.node_value gates.new) store.old.matrices.items
         (claim_of formula.now) row) }
 {
-    let wanted = Wanted::Holds(formula);
+    let inner = without_doubles(formula);
+    let wanted = Wanted::Holds(inner);
     let answer = run_part(walk, gates, store, wanted, known)?;
     match answer {
         Answer::Numbers(_) => Err(AllocError),

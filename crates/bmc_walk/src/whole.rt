@@ -16,11 +16,13 @@ use core_tree::Formula;
 use gate_trait::{Gates, NodeList};
 use std::alloc::{AllocError, Global};
 
-/// How deep the parts of a formula may nest. DeepCalls, S49: a formula is no deeper than 2,000.
-pub const DEEP: u32 = 8_001;
+/// The number of levels with which the walk ends. DeepCalls, S49, lets parts nest 2,000 deep, where a row of
+/// operators of one level counts once; a row of `||` takes a level for each, of which a text of 1 MB has fewer
+/// than 350,000.
+pub const DEEP: u32 = 1_000_000;
 
 /// Where a formula holds: a node for each place of the windows. Its error is want of memory, or that a part
-/// is no form of the kernel or nests deeper than 8,000.
+/// is no form of the kernel, or that the walk's levels don't do for it.
 pub fn formula_row<G: Gates>(
     alloc: Global,
     gates: &mut G,

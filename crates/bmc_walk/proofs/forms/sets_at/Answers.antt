@@ -1,11 +1,8 @@
 use Rattle.bmc_walk.proofs.FormLaws.{comprehension_form}
 use Rattle.bmc_walk.proofs.forms.sets_at.Goals as goal
 
-pub returns-in_ok-made-in-Combine-clause-right : goal.returns-in_ok-made-in-Combine-clause-right
-returns-in_ok-made-in-Combine-clause-right g c = rw c.in-Combine.is (rw c.deref-in-Combine.ensures at (rw c.deref.ensures at c.in_ok-made-in-Combine.ensures.right))
-
 pub returns-in_ok-made-in-Product-clause-right : goal.returns-in_ok-made-in-Product-clause-right
-returns-in_ok-made-in-Product-clause-right g c = rw c.in-Product.is (rw c.deref-in-Product-2.ensures at (rw c.deref-in-Product.ensures at c.in_ok-made-in-Product.ensures.right))
+returns-in_ok-made-in-Product-clause-right g c = rw c.in-Product.is (rw c.deref-in-Product.ensures at (rw c.deref.ensures at c.in_ok-made-in-Product.ensures.right))
 
 pub returns-in_ok-made-in-Unary-clause-right : goal.returns-in_ok-made-in-Unary-clause-right
 returns-in_ok-made-in-Unary-clause-right g c = rw c.in-Unary.is (rw c.deref-in-Unary.ensures at c.in_ok-made-in-Unary.ensures.right)

@@ -1,28 +1,41 @@
-use Rattle.core_tree.specs.Trees.{term_of, combine}
-use Rattle.bmc_leaves.proofs.RightLaws.{combine_right}
-use Rattle.bmc_walk.proofs.WalkLaws.{two_parts}
+use Rattle.std.proofs.Common.{◌-◌, length, arith, refl}
+use Rattle.std.proofs.lemmas.Option.{slice_get_read}
+use Rattle.gate_trait.proofs.KeptLemmas.{keeps_trans}
+use Rattle.core_tree.specs.Trees.{term_of}
 use Rattle.bmc_places.proofs.StoreLaws.{extends_trans}
+use Rattle.bmc_walk.proofs.LevelLaws.{row_none, row_more, row_all}
 use Rattle.bmc_walk.proofs.sets.combine_sets.Goals as goal
 
-pub returns-clause-right : goal.returns-clause-right
-returns-clause-right g c =
+pub loop-turn-init : goal.loop-turn-init
+loop-turn-init g c =
+    let value = g.G.Gates.node_value in
+    record {
+      keeps = c.part_sets.ensures.keeps;
+      stored = c.in_ok-made.ensures.stored;
+      extends = c.in_ok-made.ensures.extends;
+      right = row_none c.args.walk.now.ground.now c.args.known.now (value c.args.gates.now) (value c.part_sets.new.gates) c.args.store.now.matrices.items c.part_sets.new.store.matrices.items (term_of c.in_ok-row.row.first.now) (term_of c.args.expr.now) c.as_slice-operands.result.now c.in_ok-row.row.operands.items c.in_ok-made.made.items c.as_slice-operands.ensures.value c.in_ok-row.ensures c.in_ok-made.ensures.right;
+    }
+
+pub loop-turn-preserved : goal.loop-turn-preserved
+loop-turn-preserved g c =
     let value = g.G.Gates.node_value in
     let belongs = g.G.Gates.belongs in
     let ground = c.args.walk.now.ground.now in
     let known = c.args.known.now in
-    let e = term_of c.args.a.now in
-    let f = term_of c.args.b.now in
-    let now = value c.part_sets-2.new.gates in
-    let new = value c.made_sets.new.gates in
-    two_parts belongs value ground known c.args.gates.now c.part_sets.new.gates c.part_sets-2.new.gates c.made_sets.new.gates c.args.store.now c.part_sets.new.store c.part_sets-2.new.store c.made_sets.new.store e f (combine c.args.op e f) c.in_ok-first.first.items c.in_ok-second.second.items c.in_ok-made.made.items
-    c.part_sets.ensures.keeps c.part_sets-2.ensures.keeps c.requires.stored c.in_ok-first.ensures.stored c.in_ok-first.ensures.extends c.in_ok-second.ensures.extends
-    (λ n le. le) c.in_ok-first.ensures.right c.in_ok-second.ensures.right
-    (λ r left right. combine_right r now new c.part_sets-2.new.store.matrices.items c.made_sets.new.store.matrices.items c.args.op e f c.in_ok-first.first.items c.in_ok-second.second.items c.in_ok-made.made.items left right c.in_ok-made.ensures.made)
+    let so = c.loop-turn.invariant in
+    let first = c.args.gates.now in
+    let now = c.loop-turn.gates in
+    let later = c.combined.new.gates in
+    let start = c.args.store.now in
+    let before = c.loop-turn.store in
+    let after = c.combined.new.store in
+    let operands = c.as_slice-operands.result.now in
+    record {
+      keeps = keeps_trans belongs value first now later so.keeps c.combined.ensures.keeps;
+      stored = c.in_ok-next.ensures.stored;
+      extends = extends_trans start before after so.extends c.in_ok-next.ensures.extends;
+      right = row_more belongs value ground known first now later start before after (term_of c.args.expr.now) operands c.loop-turn.turn c.loop-turn.made.items c.in_ok-next.next.items c.index-operands-place.result so.keeps c.requires.stored so.extends (omega (arith, c.loop-turn-test.true)) (slice_get_read operands (length operands) (length operands - 1 - c.loop-turn.turn) c.index-operands-place.result refl (omega (arith, c.loop-turn-test.true)) c.index-operands-place.is) so.right c.in_ok-next.ensures.right;
+    }
 
-pub returns-clause-extends : goal.returns-clause-extends
-returns-clause-extends g c =
-    let a = c.args.store.now in
-    let b = c.part_sets.new.store in
-    let d = c.part_sets-2.new.store in
-    let e = c.made_sets.new.store in
-    extends_trans a b e c.in_ok-first.ensures.extends (extends_trans b d e c.in_ok-second.ensures.extends c.in_ok-made.ensures.extends)
+pub returns-clause-right : goal.returns-clause-right
+returns-clause-right g c = row_all c.args.walk.now.ground.now c.args.known.now _ _ _ _ (term_of c.args.expr.now) c.as_slice-operands.result.now c.loop-turn.turn c.loop-turn.made.items (omega (arith, c.loop-turn-test.false)) c.loop-turn.invariant.right
