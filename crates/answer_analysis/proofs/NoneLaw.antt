@@ -14,6 +14,7 @@ use Rattle.core_meaning.specs.declared.scopes.Scopes.{Scopes}
 use Rattle.bound_scopes.specs.Limits.{AreScopes}
 use Rattle.bound_scopes.specs.Numbers.{KeepsKind, IsSigScope}
 use Rattle.core_laws.specs.Typed.{AreScopesOf}
+use Rattle.bound_laws.specs.Placed.{ArePlaced}
 use Rattle.bound_laws.specs.Satisfying.{AreBoundsOf, IsRight, SatisfyingAreCandidates}
 use Rattle.core_meaning.specs.Kept.{world_of}
 use Rattle.core_meaning.specs.Meaning.{no_names}
@@ -23,10 +24,9 @@ use Rattle.form_target.specs.Targets.{HoldsWith}
 use Rattle.bound_uppers.specs.declared.table.Bounds.{Bounds}
 use Rattle.bound_uppers.specs.Table.{IsTable, bounds_over}
 use Rattle.answer_search.specs.Clauses.{Meets, IsRuledOut}
-use Rattle.answer_checks.proofs.Kept.{named_by}
 use Rattle.answer_analysis.specs.declared.ready.Prepared.{Prepared}
 use Rattle.answer_analysis.specs.declared.ready.Ready.{Ready}
-use Rattle.answer_analysis.specs.Found.{IsPrepared, IsReady, IsTraceOf, IsUsual, NoneWithin, NoneSatisfies, RuledOutMeansNone}
+use Rattle.answer_analysis.specs.Found.{IsPrepared, IsReady, IsTraceOf, NoneWithin, NoneSatisfies, RuledOutMeansNone}
 
 -- an item at a place of a list is one
 pub same_item : {X : Type 0} (xs : List X) (k n : ℕ) (x y : X) → k ≡ n → slice_get xs k ≡ Some x → slice_get xs n ≡ Some y → x ≡ y
@@ -76,18 +76,18 @@ rightly_of model scopes are = record {
   only = λ s d e get there top. top_kind d.kind e (sig_scope model scopes are s d e get there) top;
 }
 
-pub right_of : (number : ℕ) (ready : Ready) → IsReady number ready → IsUsual ready.model → IsRight ready.model ready.scopes
-right_of number ready is usual = record {
+pub right_of : (number : ℕ) (ready : Ready) → IsReady number ready → IsRight ready.model ready.scopes
+right_of number ready is = record {
   kept = is.kept;
   plain = is.plain;
-  named = named_by ready.model is.kept usual;
-  owned = usual;
+  named = is.named;
   rightly = rightly_of ready.model ready.scopes is.scopes_are;
 }
 
 none_within : (number : ℕ) (prepared : Prepared) → IsPrepared number prepared → (bounds : Bounds) → AreBoundsOf prepared.ready.model prepared.ready.scopes bounds → IsTable bounds → IsRuledOut prepared.target bounds → SatisfyingAreCandidates → NoneWithin prepared bounds.states
-none_within number prepared made bounds are table ruled law usual lasso over few trace =
-    let (r, other, renaming, renamed, candidate, satisfied) = law prepared.ready.model prepared.ready.scopes bounds lasso prepared.ready.model.facts (claim_of trace.command.formula) (right_of number prepared.ready made.ready usual) are over few trace.satisfies in
+none_within number prepared made bounds are table ruled law lasso over few trace =
+    let placed : ArePlaced prepared.ready.model (claim_of trace.command.formula) = subst (ArePlaced prepared.ready.model) (sym (same_command number prepared made lasso trace)) made.ready.placed in
+    let (r, other, renaming, renamed, candidate, satisfied) = law prepared.ready.model prepared.ready.scopes bounds lasso prepared.ready.model.facts (claim_of trace.command.formula) (right_of number prepared.ready made.ready) placed are over few trace.satisfies in
     let shown : IsTraceOf prepared.ready other = record { command = trace.command; chosen = trace.chosen; satisfies = satisfied } in
     ruled table other candidate (meets number prepared made other shown)
 

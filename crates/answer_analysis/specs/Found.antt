@@ -6,7 +6,8 @@ use Rattle.syntax_tree.specs.declared.loaded.Loaded.{Loaded}
 use Rattle.bound_uppers.specs.Candidates.{IsCandidate}
 use Rattle.bound_uppers.specs.Shortest.{HasFewestStates}
 use Rattle.bound_uppers.specs.Table.{IsTable, bounds_over}
-use Rattle.bound_laws.specs.Satisfying.{AreBoundsOf, AreOwned, IsLassoOver}
+use Rattle.bound_laws.specs.Satisfying.{AreBoundsOf, IsLassoOver}
+use Rattle.bound_laws.specs.Placed.{ArePlaced}
 use Rattle.core_meaning.specs.Kept.{universe_size}
 use Rattle.core_meaning.specs.Satisfied.{Satisfies}
 use Rattle.core_meaning.specs.declared.scopes.Scopes.{Scopes}
@@ -17,7 +18,7 @@ use Rattle.core_tree.specs.Models.{IsModel}
 use Rattle.core_tree.specs.declared.model.Model.{Model}
 use Rattle.bound_scopes.specs.Limits.{AreScopes, no_command}
 use Rattle.bound_scopes.specs.Numbers.{IsListed}
-use Rattle.core_laws.specs.Typed.{ExtendsPlain}
+use Rattle.core_laws.specs.Typed.{ExtendsPlain, BoundsNameOwned}
 use Rattle.bound_definitions.specs.Numbers.{AreScopesBy}
 use Rattle.bound_definitions.specs.Refusals.{AreKept, Breaks, IsRefusal, command_rules}
 use Rattle.form_target.specs.Targets.{IsTargetOf}
@@ -38,9 +39,10 @@ use Rattle.answer_analysis.specs.declared.fault.AnalyseFault.{AnalyseFault}
 use Rattle.answer_analysis.specs.declared.fault.AnalyseFault.TheVariants.{Refused, Read, Memory}
 
 -- a model made ready for its command of this number: the model keeps what resolved models keep, and no sig of it extends an
--- `in` sig; the scopes are the ones that the rules give the command, which breaks none of the rules on scopes; the bounds are
--- those of the model and the scopes and have a table; the labels are exactly those of its relations and of its universe, an atom
--- for each number of it, and each text under them is that of one lasso
+-- `in` sig; each field belongs to a sig, or is one of those that stand for relation parameters and the command places it; the
+-- scopes are the ones that the rules give the command, which breaks none of the rules on scopes; the bounds are those of the
+-- model and the scopes and have a table; the labels are exactly those of its relations and of its universe, an atom for each
+-- number of it, and each text under them is that of one lasso
 pub record IsReady (number : ℕ) (ready : Ready) : Type 0 where
   pub kept : IsModel ready.model
   pub plain : ExtendsPlain ready.model.sigs
@@ -50,6 +52,8 @@ pub record IsReady (number : ℕ) (ready : Ready) : Type 0 where
   pub counted : length ready.scopes.numbers ≡ length ready.model.sigs
   pub scopes_are : AreScopes ready.model ready.scopes
   pub scoped_by : AreScopesBy ready.model command ready.scopes
+  pub named : BoundsNameOwned ready.model
+  pub placed : ArePlaced ready.model (claim_of command.formula)
   pub unbroken : AreKept (Breaks ready.model command ready.scopes) command_rules
   pub listed : All (IsListed ready.scopes.numbers) command.scope
   pub table : IsTable ready.bounds
@@ -73,14 +77,9 @@ pub record IsTraceOf (ready : Ready) (lasso : LassoValue) : Type 0 where
   pub chosen : slice_get ready.model.commands ready.command ≡ Some command
   pub satisfies : Satisfies ready.model ready.scopes lasso (claim_of command.formula)
 
--- what is asked of a model beside that it was made ready: each field belongs to a sig, none stands for a relation parameter
-abbrev pub IsUsual : Model → Type 0
-IsUsual model = AreOwned model
-
--- where the model is usual, no lasso of at most so many states satisfies the model and its command
+-- no lasso of at most so many states satisfies the model and its command
 abbrev pub NoneWithin : Prepared → ℕ → Type 0
 NoneWithin prepared most =
-    IsUsual prepared.ready.model →
     (lasso : LassoValue) → IsLassoOver prepared.ready.model prepared.ready.scopes lasso → length lasso.states ≤ most → IsTraceOf prepared.ready lasso → ⊥
 
 -- what is ruled out within the bounds of the model over some number of states

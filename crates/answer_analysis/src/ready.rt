@@ -19,7 +19,7 @@ ghost use Rattle.answer_trace.specs.Made.{AreRelationsOf, relation_labels_of, un
 ghost use Rattle.answer_laws.specs.Form.{HaveLassos};
 
 use crate::fault::{AnalyseFault, refused_in};
-use answer_checks::{extends_plain, has_universe, have_lassos, is_typed_model};
+use answer_checks::{extends_plain, has_universe, have_lassos, is_typed_model, places_fields};
 use answer_trace::{Labels, make_labels};
 use base_types::{Fault, Refusal, Rule};
 use bound_scopes::scopes;
@@ -199,6 +199,10 @@ pub fn ready_loaded(alloc: Global, loaded: Loaded, command: u32) -> Result<Ready
         return Err(AnalyseFault::Memory);
     }
     let chosen = model.commands.get(command as usize);
+    let placed = places_fields(alloc, &model, &chosen.formula)?;
+    if !placed {
+        return Err(AnalyseFault::Memory);
+    }
     let bounds = bounds_of(alloc, &loaded, &model, &scopes, command, chosen)?;
     let labels = labels_of(alloc, &model, &scopes)?;
     Ok(Ready {

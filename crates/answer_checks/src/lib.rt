@@ -5,6 +5,8 @@
 //! a model keeps by what is tested of it.
 #![tactic(auto)]
 
+mod below;
+mod fields;
 mod labels;
 mod lassos;
 mod laws;
@@ -12,7 +14,8 @@ mod models;
 mod places;
 mod texts;
 
+pub use fields::places_fields;
 pub use labels::{has_universe, have_lassos};
 pub use lassos::fits_labels;
-pub use laws::{owned_fields_are_named, typed_models_are_models};
+pub use laws::typed_models_are_models;
 pub use models::{extends_plain, is_typed_model};

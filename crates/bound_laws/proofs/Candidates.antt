@@ -9,6 +9,8 @@ use Rattle.core_tree.specs.declared.model.Sig.{Sig}
 use Rattle.core_tree.specs.declared.model.Field.{Field}
 use Rattle.core_tree.specs.declared.model.Fact.{Fact}
 use Rattle.core_tree.specs.Trees.{Claim}
+use Rattle.core_tree.specs.Types.{no_rows}
+use Rattle.core_meaning.specs.Meaning.{no_names}
 use Rattle.core_meaning.specs.declared.scopes.Scopes.{Scopes}
 use Rattle.core_meaning.specs.Sequence.{LassoValue, place_of}
 use Rattle.core_meaning.specs.World.{InRelation}
@@ -20,15 +22,22 @@ use Rattle.bound_uppers.specs.Table.{is_fixed, are_fixed}
 use Rattle.bound_uppers.specs.Candidates.{IsWithinBound, IsCandidate}
 use Rattle.bound_uppers.specs.Shortest.{IsLasso, Unrolls}
 use Rattle.core_laws.specs.Sequences.{ShowSame, SameSatisfied}
+use Rattle.core_laws.proofs.Fields.{given_of}
+use Rattle.core_laws.proofs.Held.{IsGiven}
+use Rattle.core_laws.proofs.Members.{of_contains, to_contains}
 use Rattle.core_laws.specs.Typed.{IsTypedLasso, ColumnsHaveAtoms, SigsHaveRows, FieldsHaveRows, SigsOfOneAtom}
 use Rattle.core_renaming.specs.Renamings.{Renaming, ShowsRenamed}
 use Rattle.core_renaming.specs.Sigs.{IsWellFormed, SatisfactionIsKept}
 use Rattle.core_renaming.specs.Renamed.{LassosHaveRenamed}
 use Rattle.bound_laws.specs.Satisfying.{AreBoundsOf, IsRight, IsLassoOver, SatisfyingAreCandidates}
+use Rattle.bound_laws.specs.Placed.{ArePlaced}
 use Rattle.bound_laws.specs.Owning.{OwnersHave, OwnersCanHave, OwningAreCandidates}
 use Rattle.bound_laws.proofs.Columns.{item_of, sig_columns, one_of_list, tuple_columns}
 use Rattle.bound_laws.proofs.Sorted.{sorted_same}
 use Rattle.bound_laws.proofs.Owning.{row_given}
+use Rattle.bound_laws.proofs.Decided.{Decided, decided_among}
+use Rattle.bound_laws.proofs.Typing.{nothing}
+use Rattle.bound_laws.proofs.Placing.{AreKnown, places}
 
 some_same : {X : Type 0} (o : Option X) (x y : X) → o ≡ Some x → o ≡ Some y → x ≡ y
 some_same o x y e f = cc
@@ -120,8 +129,16 @@ which model r lt = elim (cases_lt r (length model.sigs)) [
       (r - length model.sigs, f, get, omega (arith, more)))
 ]
 
+-- whether a tuple is in a set is decided
+in_set : (set : TupleList) (t : List ℕ) → Decided (In t set)
+in_set set t = decided_among set.tuples t
+
+by_two : {P : Type 0} → Decided P → ((P → ⊥) → ⊥) → P
+by_two (inl held) twice = held
+by_two (inr off) twice = absurd (twice off)
+
 module _ (model : Model) (scopes : Scopes) (bounds : Bounds) (lasso : LassoValue) (facts : List Fact) (command : Claim) (atoms : ColumnsHaveAtoms) (sig_rows_are : SigsHaveRows) (field_rows_are : FieldsHaveRows) (one_atom : SigsOfOneAtom)
-    (right : IsRight model scopes) (are : AreBoundsOf model scopes bounds) (over : IsLassoOver model scopes lasso) (long : length lasso.states ≡ bounds.states) (satisfied : SatisfiesWith model scopes lasso facts command) (have : OwnersHave model scopes lasso) where
+    (right : IsRight model scopes) (placed : ArePlaced model command) (are : AreBoundsOf model scopes bounds) (over : IsLassoOver model scopes lasso) (long : length lasso.states ≡ bounds.states) (satisfied : SatisfiesWith model scopes lasso facts command) (have : OwnersHave model scopes lasso) where
   typed : IsTypedLasso model scopes lasso
   typed = record {
     kept = right.kept;
@@ -179,6 +196,21 @@ module _ (model : Model) (scopes : Scopes) (bounds : Bounds) (lasso : LassoValue
             (a, is, record { typed = (q, among_rows, row_given model scopes lasso typed atoms one_atom have q (a ∷ []) row); literal = (satisfied.keeps.bounded r d sig s a held).literal }, low 0 a (omega arith))),
       )
 
+  given : IsGiven model scopes lasso
+  given = given_of model scopes lasso typed
+
+  -- the tuples of the first fields have rows, since these belong to sigs; so those of the others have too, by the command
+  first_known : AreKnown model scopes lasso given placed.first
+  first_known = record {
+    few = placed.few;
+    typed = λ g low f field i t has.
+        let (q, among, row) = field_rows_are model scopes lasso typed g f field (placed.owned g f low field) i t has in
+        (q, of_contains f.rows q among, row);
+  }
+
+  all_known : (AreKnown model scopes lasso given (length model.fields) → ⊥) → ⊥
+  all_known off = places model scopes lasso given command no_rows no_names placed.first (length model.fields) placed.placed first_known (nothing model scopes lasso given) satisfied.command_holds off
+
   field_within : (s r : ℕ) (state : List TupleList) (set : TupleList) (b : Bound) → slice_get lasso.states s ≡ Some state → slice_get state r ≡ Some set → slice_get bounds.relations r ≡ Some b → IsFieldAt model r → IsWithinBound b set
   field_within s r state set b get at bound (g, f, field, place) =
       let rightly = right.kept.fields g f field in
@@ -189,11 +221,12 @@ module _ (model : Model) (scopes : Scopes) (bounds : Bounds) (lasso : LassoValue
       subst (λ (o : Bound). IsWithinBound o set) alike (
         set_is,
         arity ∙ sym just.columns,
-        λ t among. (just.just t).1 (
-          (let (q, among_rows, row) = field_rows_are model scopes lasso typed g f field (right.owned g f field) s t (subst (λ k. InRelation (world_of scopes lasso) k s t) (sym place) (in_relation s r state set t get at among)) in
-              (q, among_rows, row_given model scopes lasso typed atoms one_atom have q t row)),
-          small s r state set t get at among,
-        ),
+        λ t among. by_two (in_set c.upper t) (λ off.
+            all_known (λ known. off ((just.just t).1 (
+              (let (q, among_rows, row) = known.typed g (slice_get_within model.fields g f field) f field s t (subst (λ k. InRelation (world_of scopes lasso) k s t) (sym place) (in_relation s r state set t get at among)) in
+                  (q, to_contains f.rows q among_rows, row_given model scopes lasso typed atoms one_atom have q t row)),
+              small s r state set t get at among,
+            )))),
       )
 
   -- what is the same at every position has the same set at each state
@@ -260,8 +293,8 @@ over_same model scopes lasso other over loop same = record {
         same s ∙ (ap (slice_get other.states) (sym (cond_below s (length other.states) s _ lt)) ∙ get)
 
 pub owning_are_candidates : ColumnsHaveAtoms → SigsHaveRows → FieldsHaveRows → SigsOfOneAtom → OwningAreCandidates
-owning_are_candidates atoms sigs fields one_atom model scopes bounds lasso facts command right are over long satisfied have =
-    is_candidate model scopes bounds lasso facts command atoms sigs fields one_atom right are over long satisfied have
+owning_are_candidates atoms sigs fields one_atom model scopes bounds lasso facts command right placed are over long satisfied have =
+    is_candidate model scopes bounds lasso facts command atoms sigs fields one_atom right placed are over long satisfied have
 
 -- a lasso that shows the same shows the relations renamed alike
 shows_both : (scopes : Scopes) (r : Renaming) (one two three : LassoValue) → ShowSame one two → ShowsRenamed scopes r two three → ShowsRenamed scopes r one three
@@ -271,7 +304,7 @@ shows_both scopes r one two three same shows relation i t = (
 )
 
 pub candidates_of : Unrolls → SameSatisfied → OwnersCanHave → LassosHaveRenamed → SatisfactionIsKept → OwningAreCandidates → SatisfyingAreCandidates
-candidates_of unrolls same_satisfied can_have renamings kept_satisfied owning model scopes bounds lasso facts command right are over few satisfied =
+candidates_of unrolls same_satisfied can_have renamings kept_satisfied owning model scopes bounds lasso facts command right placed are over few satisfied =
     let (mid, loop, long, same) = unrolls lasso bounds.states over.loop few in
     let mid_over = over_same model scopes lasso mid over loop same in
     let mid_satisfied = (same_satisfied model scopes lasso mid same facts command).0 satisfied in
@@ -282,4 +315,4 @@ candidates_of unrolls same_satisfied can_have renamings kept_satisfied owning mo
     let other_over : IsLassoOver model scopes other = record { loop = omega (arith, loop_in, count, start); fits = fits; sets = sets } in
     let formed : IsWellFormed model scopes = record { kept = right.kept; plain = right.plain; rightly = right.rightly } in
     let other_satisfied = (kept_satisfied model scopes r mid other formed keeps shows facts command).0 mid_satisfied in
-    (r, other, keeps, shows_both scopes r lasso mid other same shows, owning model scopes bounds other facts command right are other_over (count ∙ long) other_satisfied (gives other shows), other_satisfied)
+    (r, other, keeps, shows_both scopes r lasso mid other same shows, owning model scopes bounds other facts command right placed are other_over (count ∙ long) other_satisfied (gives other shows), other_satisfied)

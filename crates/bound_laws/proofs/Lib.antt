@@ -5,6 +5,8 @@ mod Places
 mod Keeping
 mod Renaming
 mod Owning
+mod Typing
+mod Placing
 mod Candidates
 mod Decided
 mod Digits

@@ -1,3 +1,4 @@
+pub mod Placed
 pub mod Satisfying
 pub mod Owning
 pub mod Canonical

@@ -13,6 +13,7 @@ use Rattle.core_renaming.specs.Sigs.{KeepsSigs}
 use Rattle.bound_uppers.specs.declared.table.Bounds.{Bounds}
 use Rattle.bound_owners.specs.Own.{HasOrigins, owner_at}
 use Rattle.bound_uppers.specs.Candidates.{IsCandidate}
+use Rattle.bound_laws.specs.Placed.{ArePlaced}
 use Rattle.bound_laws.specs.Satisfying.{IsRight, AreBoundsOf, IsLassoOver}
 
 -- each owner has its own atom alone: the first owner of a top-level sig the first atom, and so on
@@ -32,5 +33,5 @@ OwnersCanHave =
 abbrev pub OwningAreCandidates : Type 0
 OwningAreCandidates =
     (model : Model) (scopes : Scopes) (bounds : Bounds) (lasso : LassoValue) (facts : List Fact) (command : Claim) → IsRight model scopes →
-    AreBoundsOf model scopes bounds → IsLassoOver model scopes lasso → length lasso.states ≡ bounds.states →
+    ArePlaced model command → AreBoundsOf model scopes bounds → IsLassoOver model scopes lasso → length lasso.states ≡ bounds.states →
     SatisfiesWith model scopes lasso facts command → OwnersHave model scopes lasso → IsCandidate bounds lasso

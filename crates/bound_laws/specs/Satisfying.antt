@@ -1,7 +1,6 @@
 -- That each lasso which satisfies a model and a command has a renaming among those that a search looks through.
-use Rattle.std.specs.Prelude.{◌≡◌, ◌≤◌, ℕ, List, IsSome, length, map, Some, slice_get}
+use Rattle.std.specs.Prelude.{◌≡◌, ◌≤◌, List, length, map}
 use Rattle.core_tree.specs.declared.model.Model.{Model}
-use Rattle.core_tree.specs.declared.model.Field.{Field}
 use Rattle.core_tree.specs.declared.model.Fact.{Fact}
 use Rattle.core_tree.specs.Models.{IsModel}
 use Rattle.core_tree.specs.Trees.{Claim}
@@ -18,11 +17,8 @@ use Rattle.bound_uppers.specs.Candidates.{IsCandidate}
 use Rattle.bound_uppers.specs.Shortest.{IsLasso}
 use Rattle.core_renaming.specs.Renamings.{Renaming, ShowsRenamed}
 use Rattle.core_renaming.specs.Sigs.{KeepsSigs}
+use Rattle.bound_laws.specs.Placed.{ArePlaced}
 use Rattle.core_laws.specs.Typed.{ExtendsPlain, BoundsNameOwned, AreScopesOf, HasSets}
-
--- each field belongs to a sig: none stands for a relation parameter
-abbrev pub AreOwned : Model → Type 0
-AreOwned model = (g : ℕ) (f : Field) → slice_get model.fields g ≡ Some f → IsSome f.owner
 
 -- the bounds are those of the model and its scopes
 pub record AreBoundsOf (model : Model) (scopes : Scopes) (bounds : Bounds) : Type 0 where
@@ -36,7 +32,6 @@ pub record IsRight (model : Model) (scopes : Scopes) : Type 0 where
   pub kept : IsModel model
   pub plain : ExtendsPlain model.sigs
   pub named : BoundsNameOwned model
-  pub owned : AreOwned model
   pub rightly : AreScopesOf model scopes
 
 -- a lasso over a model's relations and the universe of its scopes
@@ -45,12 +40,13 @@ pub record IsLassoOver (model : Model) (scopes : Scopes) (lasso : LassoValue) : 
   pub fits : FitsModel model scopes lasso
   pub sets : HasSets lasso
 
--- A lasso of at most as many states as the bounds that satisfies a model with some facts, and a command, has a renaming that is
--- a candidate, and that satisfies them too: at each position it shows the same relations, with their atoms renamed.
+-- Where each field belongs to a sig or is placed by a command, a lasso of at most as many states as the bounds that satisfies a
+-- model with some facts, and the command, has a renaming that is a candidate, and that satisfies them too: at each position it
+-- shows the same relations, with their atoms renamed.
 abbrev pub SatisfyingAreCandidates : Type 0
 SatisfyingAreCandidates =
     (model : Model) (scopes : Scopes) (bounds : Bounds) (lasso : LassoValue) (facts : List Fact) (command : Claim) →
-    IsRight model scopes → AreBoundsOf model scopes bounds → IsLassoOver model scopes lasso → length lasso.states ≤ bounds.states →
+    IsRight model scopes → ArePlaced model command → AreBoundsOf model scopes bounds → IsLassoOver model scopes lasso → length lasso.states ≤ bounds.states →
     SatisfiesWith model scopes lasso facts command →
     (r : Renaming) × (other : LassoValue) × KeepsSigs model scopes r × ShowsRenamed scopes r lasso other × IsCandidate bounds other
     × SatisfiesWith model scopes other facts command

@@ -37,15 +37,15 @@ abbrev pub IsOpened : Settings → List ℕ → Type 0
 IsOpened settings name = (IsTrue (analyses settings.mode) × IsTried settings.file name) ⊎ (((settings.mode ≡ Make) × IsTried (codes "make") name) ⊎ (IsTrue (reads_trace settings.mode) × (settings.second ≡ Some name)))
 
 -- what is written of a trace, which satisfies the model and the command: the part that is asked for; in a search for the fewest
--- states with clauses of one state less and lines that refute them, and no lasso of fewer states satisfies them, if the model
--- is usual; or it has one state
+-- states with clauses of one state less and lines that refute them, and no lasso of fewer states satisfies them; or it has one
+-- state
 abbrev pub ShownTrace : Loaded → Mode → ℕ → Part → Option ℕ → List ℕ → Type 0
 ShownTrace loaded Least number part budget text = OfPrepared loaded number (λ prepared. ShowsOne prepared part text ⊎ ShowsAbove prepared part budget text)
 ShownTrace loaded _ number part budget text = OfPrepared loaded number (λ prepared. ShowsTrace prepared part text)
 
 -- what is written where there is no trace: the part that is asked for, of clauses that say what the target of the model does and
--- of lines that refute them, where no lasso of at most as many states as the scopes say satisfies the model and the command, if
--- the model is usual; in a search for facts that rule out every trace, the same with these facts
+-- of lines that refute them, where no lasso of at most as many states as the scopes say satisfies the model and the command; in
+-- a search for facts that rule out every trace, the same with these facts
 abbrev pub ShownNone : Loaded → Mode → ℕ → Part → Option ℕ → List ℕ → Type 0
 ShownNone loaded Core number part budget text = OfPrepared loaded number (λ prepared. ShowsCore prepared part budget text)
 ShownNone loaded Exec number part budget text = OfPrepared loaded number (λ prepared. ShowsNone (RowsOf prepared) (SayAll prepared) prepared.ready.bounds.states budget part text × NoneSatisfies prepared)

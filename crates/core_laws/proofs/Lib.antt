@@ -5,10 +5,10 @@ pub mod Climbs
 mod Closed
 pub mod Fields
 pub mod Held
-mod Members
+pub mod Members
 pub mod Ranges
-mod Rows
+pub mod Rows
 pub mod Standing
-mod Terms
+pub mod Terms
 pub mod ListedLemmas
 pub mod UniqueLemmas

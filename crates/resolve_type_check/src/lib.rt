@@ -12,3 +12,6 @@ mod sigs;
 mod walk;
 
 pub use fields::keeps_types;
+pub use names::{NamedRows, NamedRowsList, names_copy, with_name};
+pub use sets::are_within;
+pub use walk::type_of;

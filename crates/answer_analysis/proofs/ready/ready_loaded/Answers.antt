@@ -15,6 +15,9 @@ pub bounds_of-requires-clause-unbroken : goal.bounds_of-requires-clause-unbroken
 bounds_of-requires-clause-unbroken c =
     subst (λ (o : Option Command). IfSome o (λ d. AreKept (Breaks c.in_ok-model.model d c.in_ok-scopes.scopes) command_rules)) c.get-chosen.ensures c.in_ok-scopes.ensures.unbroken
 
+pub places_fields-requires : goal.places_fields-requires
+places_fields-requires c = c.in_ok-model.ensures.model.kept
+
 pub returns-clause-kept : goal.returns-clause-kept
 returns-clause-kept c = c.in_ok-model.ensures.model.kept
 
@@ -25,6 +28,8 @@ pub returns-clause-ready : goal.returns-clause-ready
 returns-clause-ready c = record {
   kept = c.in_ok-model.ensures.model.kept;
   plain = c.in_ok-model.ensures.plain;
+  named = c.in_ok-placed.ensures.named c.if-not-placed.false;
+  placed = c.in_ok-placed.ensures.placed c.if-not-placed.false;
   command = c.get-chosen.result.now;
   asked = refl;
   chosen = c.get-chosen.ensures;
