@@ -1,5 +1,5 @@
 -- The numbers of the facts that are kept.
-use Rattle.std.proofs.Common.{◌≡◌, ⊎_elim, ℕ, ◌+◌, ◌<◌, ◌≤◌, Bool, true, false, cond, List, [], ◌∷◌, ◌++◌, length, All, sym, ◌∙◌, subst, append-nil, arith}
+use Rattle.std.proofs.Common.{◌≡◌, ⊎_elim, ℕ, zero, suc, ◌+◌, ◌<◌, ◌≤◌, Bool, true, false, cond, List, [], ◌∷◌, ◌++◌, length, All, refl, sym, ◌∙◌, subst, append-nil, arith}
 use Rattle.std.specs.List.{Contains}
 use Rattle.std.specs.List.Sorted.{IsStrictlyIncreasing}
 use Rattle.std.proofs.lemmas.Bool.{cases_lt}
@@ -60,3 +60,12 @@ none_kept dropped kept is = subst (IsKeptTo dropped 0) (sym is) (record {
 
 pub left_out : (dropped : List Bool) (n : ℕ) (kept : List ℕ) → length dropped ≡ n → IsKeptTo dropped n kept → AreLeftOut n kept dropped
 left_out dropped n kept count h = record { count = count; each = h.each }
+
+-- some are kept, whichever are left out
+pub some_kept : (dropped : List Bool) (n : ℕ) → (kept : List ℕ) × IsKeptTo dropped n kept
+some_kept dropped zero = ([], none_kept dropped [] refl)
+some_kept dropped (suc n) =
+    let (kept, h) = some_kept dropped n in
+    let more = kept ++ cond (is_out dropped n) [] (n ∷ []) in
+    let next : n + 1 ≡ suc n = omega arith in
+    (more, subst (λ (m : ℕ). IsKeptTo dropped m more) next (kept_more dropped n kept more (is_out dropped n) refl refl h))

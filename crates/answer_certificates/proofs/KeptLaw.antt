@@ -20,12 +20,13 @@ use Rattle.core_meaning.specs.Sequence.{LassoValue}
 use Rattle.core_meaning.specs.World.{World}
 use Rattle.sat_dimacs.specs.declared.cnf.Cnf.{Cnf}
 use Rattle.bound_uppers.specs.Candidates.{IsCandidate}
+use Rattle.bound_laws.specs.Placed.{ArePlaced}
 use Rattle.bound_laws.specs.Satisfying.{IsLassoOver, SatisfyingAreCandidates}
 use Rattle.form_target.specs.Targets.{IsWrittenOut, Adds, none_added, one_added, fact_claims, always_claims}
 use Rattle.answer_search.specs.Clauses.{HoldsFirst, Meets}
 use Rattle.answer_certificates.specs.Parts.{is_out, stays, staying, RuleOut}
 use Rattle.answer_analysis.specs.declared.ready.Prepared.{Prepared}
-use Rattle.answer_analysis.specs.Found.{IsPrepared, IsReady, IsUsual}
+use Rattle.answer_analysis.specs.Found.{IsPrepared, IsReady}
 use Rattle.answer_analysis.proofs.NoneLaw.{right_of, same_item}
 use Rattle.answer_certificates.specs.Kept.{before, facts_at, KeepsFacts, KeptFactsRuleOut}
 
@@ -135,7 +136,7 @@ not_false : (b : Bool) → not b ≡ true → b ≡ false
 not_false true e = absurd (cc)
 not_false false e = refl
 
-not_less : (a b : ℕ) → b ≤ a → nat_lt a b ≡ false
+pub not_less : (a b : ℕ) → b ≤ a → nat_lt a b ≡ false
 not_less a b low = false_from_ne_true (nat_lt a b) (λ e. let less = ltb-true a b e in omega (arith, low, less))
 
 module _ (number : ℕ) (prepared : Prepared) (kept : List ℕ) (cnf : Cnf) (made : IsPrepared number prepared)
@@ -230,11 +231,11 @@ module _ (number : ℕ) (prepared : Prepared) (kept : List ℕ) (cnf : Cnf) (mad
   no_candidate lasso candidate keeps = out.refuted.ruled made.ready.table lasso candidate (part_meets number prepared kept cnf made out lasso keeps)
 
   -- a lasso that keeps the facts has a renaming that is a candidate and keeps them too
-  no_lasso : SatisfyingAreCandidates → IsUsual prepared.ready.model →
-      (lasso : LassoValue) → IsLassoOver prepared.ready.model prepared.ready.scopes lasso → length lasso.states ≤ prepared.ready.bounds.states → KeepsFacts prepared.ready kept lasso → ⊥
-  no_lasso law usual lasso over few keeps =
-      let right = right_of number prepared.ready made.ready usual in
-      let (r, other, renaming, renamed, candidate, satisfied) = law prepared.ready.model prepared.ready.scopes prepared.ready.bounds lasso (facts_at prepared.ready.model.facts kept) (claim_of keeps.command.formula) right made.ready.bounds_are over few keeps.satisfies in
+  no_lasso : SatisfyingAreCandidates → (lasso : LassoValue) → IsLassoOver prepared.ready.model prepared.ready.scopes lasso → length lasso.states ≤ prepared.ready.bounds.states → KeepsFacts prepared.ready kept lasso → ⊥
+  no_lasso law lasso over few keeps =
+      let right = right_of number prepared.ready made.ready in
+      let placed : ArePlaced prepared.ready.model (claim_of keeps.command.formula) = subst (ArePlaced prepared.ready.model) (sym (same_command number prepared kept cnf made out lasso keeps)) made.ready.placed in
+      let (r, other, renaming, renamed, candidate, satisfied) = law prepared.ready.model prepared.ready.scopes prepared.ready.bounds lasso (facts_at prepared.ready.model.facts kept) (claim_of keeps.command.formula) right placed made.ready.bounds_are over few keeps.satisfies in
       let also : KeepsFacts prepared.ready kept other = record { command = keeps.command; chosen = keeps.chosen; satisfies = satisfied } in
       no_candidate other candidate also
 

@@ -4,4 +4,5 @@ pub mod Staying
 pub mod KeptLaw
 pub mod LeastLaw
 pub mod ShrunkLaw
+pub mod PartLaw
 pub mod EncodedLaw

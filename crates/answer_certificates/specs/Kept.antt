@@ -11,7 +11,7 @@ use Rattle.sat_dimacs.specs.declared.cnf.Cnf.{Cnf}
 use Rattle.answer_certificates.specs.Parts.{RuleOut}
 use Rattle.answer_analysis.specs.declared.ready.Prepared.{Prepared}
 use Rattle.answer_analysis.specs.declared.ready.Ready.{Ready}
-use Rattle.answer_analysis.specs.Found.{IsPrepared, IsUsual}
+use Rattle.answer_analysis.specs.Found.{IsPrepared}
 
 abbrev pub before : Option Fact → List Fact → List Fact
 before None facts = facts
@@ -32,9 +32,8 @@ pub record KeepsFacts (ready : Ready) (kept : List ℕ) (lasso : LassoValue) : T
 pub record NoneKeeps (prepared : Prepared) (kept : List ℕ) : Type 0 where
   -- no lasso within the bounds does, of as many states as they have
   pub candidates : (lasso : LassoValue) → IsCandidate prepared.ready.bounds lasso → KeepsFacts prepared.ready kept lasso → ⊥
-  -- and none at all of at most as many states, where the model is usual
+  -- and none at all of at most as many states
   pub lassos :
-      IsUsual prepared.ready.model →
       (lasso : LassoValue) → IsLassoOver prepared.ready.model prepared.ready.scopes lasso → length lasso.states ≤ prepared.ready.bounds.states →
       KeepsFacts prepared.ready kept lasso → ⊥
 

@@ -18,7 +18,7 @@ mod part;
 mod reach;
 mod shrink;
 
-ghost use Rattle.answer_certificates.specs.Encoded.{UnitsSayModel};
+ghost use Rattle.answer_certificates.specs.Encoded.{UnitsSayModel, UnitsSayPart, UnitsSayKept};
 ghost use Rattle.answer_certificates.specs.Kept.{KeptFactsRuleOut};
 
 use bound_laws::satisfying_lassos_are_candidates;
@@ -26,8 +26,8 @@ pub use facts::{Core, NumberList};
 pub use shrink::find_core;
 
 /// A law: where clauses rule out what a target does with some of a model's facts alone, no lasso of
-/// at most as many states as the bounds satisfies the declarations, these facts and the command, if
-/// the model is usual. The model was made ready.
+/// at most as many states as the bounds satisfies the declarations, these facts and the command.
+/// The model was made ready.
 pub fn kept_facts_rule_out()
     ensures { KeptFactsRuleOut }
 {
@@ -36,9 +36,12 @@ pub fn kept_facts_rule_out()
 
 /// A law: where clauses say what the target of a model that was made ready does, their units are
 /// one for the naming, some for the scopes and the declarations together, one for each fact, in
-/// order, and the last for the command.
+/// order, and the last for the command. Where they say it without the formulas of some facts, they
+/// have one for each of the other facts alone.
 pub fn units_say_the_model()
-    ensures { UnitsSayModel }
+    ensures whole { UnitsSayModel }
+    ensures part { UnitsSayPart }
+    ensures kept { UnitsSayKept }
 {}
 
 mod certificate;
