@@ -11,3 +11,4 @@ pub mod Sketches
 pub mod Given
 pub mod AtomSets
 pub mod Uppers
+pub mod Counts

@@ -4,6 +4,8 @@
 //! that of a top-level sig, in the table that of the sig as which a sig stands there.
 
 ghost use Rattle.std.specs.Prelude.{◌≡◌, ◌↔◌, ◌∷◌, ◌++◌, [], ℕ, suc, List, Contains, IfOk, OnOk, IsTrue, Some, ◌<◌, slice_get, slice_index, length};
+ghost use Rattle.std.specs.List.Sorted.{IsStrictlySortedBy};
+ghost use Rattle.core_tuples.specs.Sets.{tuple_cmp};
 ghost use Rattle.core_tree.specs.declared.model.Sig.{Sig};
 ghost use Rattle.core_tree.specs.declared.model.Column.TheVariants.{Sig as SigColumn};
 ghost use Rattle.bound_owners.specs.Tops.{top_at};
@@ -61,7 +63,8 @@ fn row_kinds(alloc: Global, ups: &[u32], row: &[Column]) -> Result<Tuple, AllocE
 
 /// The rows without repeats, in order.
 fn without_repeats(rows: Vec<Tuple>) -> Result<Vec<Tuple>, AllocError>
-    ensures { IfOk result (λ v. HasRows v.items rows.items) }
+    ensures rows { IfOk result (λ v. HasRows v.items rows.items) }
+    ensures sorted { IfOk result (λ v. IsStrictlySortedBy tuple_cmp v.items) }
 {
     let mut sorted = rows;
     sorted.sort()?;
@@ -72,7 +75,8 @@ fn without_repeats(rows: Vec<Tuple>) -> Result<Vec<Tuple>, AllocError>
 /// The rows of kinds of a type.
 #[tactic(auto, using(crate::proofs::Listing::map_none, crate::proofs::Listing::map_next, crate::proofs::Listing::map_whole, crate::proofs::Listing::same_rows))]
 pub fn type_kinds(alloc: Global, ups: &[u32], rows: &[Row]) -> Result<Vec<Tuple>, AllocError>
-    ensures { IfOk result (λ v. HasRows v.items (rows_kinds_of ups.now rows.now)) }
+    ensures rows { IfOk result (λ v. HasRows v.items (rows_kinds_of ups.now rows.now)) }
+    ensures sorted { IfOk result (λ v. IsStrictlySortedBy tuple_cmp v.items) }
 {
     let mut all = Vec::new(alloc);
     for row in rows {
@@ -232,8 +236,9 @@ pub fn sig_kinds(
     ups: &[u32],
     sig: u32,
 ) -> Result<Vec<Tuple>, AllocError>
-    ensures { IfOk result (λ v. HasRows v.items (sig_kinds_of sigs.now ups.now (length sigs.now)
-        sig)) }
+    ensures rows { IfOk result (λ v. HasRows v.items (sig_kinds_of sigs.now ups.now
+        (length sigs.now) sig)) }
+    ensures sorted { IfOk result (λ v. IsStrictlySortedBy tuple_cmp v.items) }
 {
     let mut rows = Vec::new(alloc);
     let mut waiting = Vec::new(alloc);

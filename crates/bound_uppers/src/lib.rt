@@ -2,6 +2,7 @@
 //! An assignment of these variables stands for a lasso (`decoding`).
 #![tactic(auto)]
 
+pub mod counts;
 pub mod decoding;
 pub mod given;
 pub mod kinds;

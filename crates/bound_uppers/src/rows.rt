@@ -1,48 +1,15 @@
-//! How many tuples rows of kinds have by the top-level sigs, and the tuples that the table gives them.
+//! The tuples that the table gives rows of kinds.
 
 ghost use Rattle.std.specs.Prelude.{◌≡◌, ◌⊎◌, ◌<◌, ◌≤◌, ◌+◌, ◌∷◌, [], ℕ, List, All, length, take, slice_index, IfOk, OnOk, IsTrue, ◌↔◌};
 ghost use Rattle.core_tuples.specs.Sets.{In, HasJust};
-ghost use Rattle.bound_uppers.specs.Kinds.{span_at, InSpan};
+ghost use Rattle.bound_uppers.specs.Kinds.{InSpan};
 ghost use Rattle.bound_uppers.specs.AtomSets.{set_at, InKinds, InRows, AreColumns};
 
 use crate::given::AtomSets;
 use crate::kinds::{INTEGERS, number_at};
-use crate::numbers::{AtomRange, AtomRanges};
+use crate::numbers::AtomRange;
 use core_tuples::{Tuple, TupleSet, product, union};
 use std::alloc::{AllocError, Global};
-
-/// The numbers of a kind.
-fn span_of(spans: &AtomRanges, kind: u32) -> AtomRange
-    ensures { result ≡ span_at spans.now kind }
-{
-    if kind == INTEGERS {
-        return spans.integers;
-    }
-    if (kind as usize) < spans.sigs.len() {
-        spans.sigs[kind as usize]
-    } else {
-        AtomRange { first: 0, count: 0 }
-    }
-}
-
-/// How many tuples a row has, or the greatest number where there are more.
-fn row_size(spans: &AtomRanges, row: &Tuple) -> u64 {
-    let mut size = 1u64;
-    for kind in row.numbers() {
-        size = size.saturating_mul(span_of(spans, *kind).count as u64);
-    }
-    size
-}
-
-/// How many tuples rows of different kinds have together, or the greatest number where there are
-/// more.
-pub fn rows_size(spans: &AtomRanges, rows: &[Tuple]) -> u64 {
-    let mut size = 0u64;
-    for row in rows {
-        size = size.saturating_add(row_size(spans, row));
-    }
-    size
-}
 
 /// Adds a tuple of one number to a set of one column.
 #[tactic(auto, using(crate::proofs::Filling::number_fits, crate::proofs::Filling::number_added))]

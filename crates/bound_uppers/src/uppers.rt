@@ -1,6 +1,6 @@
 //! The upper bounds of the relations of a model, from its types, literals, scopes and own atoms.
 
-ghost use Rattle.std.specs.Prelude.{◌≡◌, ◌<◌, ◌≤◌, ◌+◌, ◌++◌, ◌∷◌, [], ◌↔◌, ℕ, All, map, IfOk, OnOk, IsTrue, length, slice_get, slice_index, Some};
+ghost use Rattle.std.specs.Prelude.{◌≡◌, ◌<◌, ◌≤◌, ◌+◌, ◌++◌, ◌∷◌, [], ◌↔◌, ℕ, All, map, IfOk, IfErr, OnOk, IsTrue, length, slice_get, slice_index, Some};
 ghost use Rattle.core_tuples.specs.Sets.{HasJust};
 ghost use Rattle.core_tree.specs.declared.model.Sig.{Sig};
 ghost use Rattle.core_tree.specs.declared.model.Field.{Field};
@@ -16,12 +16,14 @@ ghost use Rattle.bound_owners.specs.Own.{HasOrigins};
 ghost use Rattle.bound_uppers.specs.Sketches.{first_in, literal_in, IsRightSketch, InSketch, HasUppers, IsBoundOf, IsSigSketch, MayField, AreSigSketches, AreFieldSketches, AreSketches};
 ghost use Rattle.bound_uppers.specs.Table.{IsTable, is_fixed, are_fixed};
 ghost use Rattle.bound_uppers.specs.Uppers.{AreUppers};
+ghost use Rattle.bound_uppers.specs.Counts.{IsOfLarge, IsSmall};
 
+use crate::counts::{is_large, states_of};
 use crate::given::{AtomSets, are_tops, atom_sets};
 use crate::kinds::{sig_kinds, type_kinds};
 use crate::numbers::{AtomRange, AtomRanges, spans_of};
 use crate::order::orders;
-use crate::rows::{rows_hold, rows_set, rows_size, span_set};
+use crate::rows::{rows_hold, rows_set, span_set};
 use crate::table::{Bound, BoundList, Bounds};
 use base_types::{Fault, Position, Refusal, Rule};
 use bound_owners::own::{constants_of, have_origins, table_standing};
@@ -30,9 +32,6 @@ use core_meaning::Scopes;
 use core_tree::{Field, Model, Row, Sig, SigKind};
 use core_tuples::{Tuple, TupleSet};
 use std::alloc::{AllocError, Global};
-
-/// The most variables that a table has, its loop indices among them (Cells, S67).
-pub const MOST_CELLS: u64 = 1_000_000;
 
 /// A relation before its tuples are made.
 #[derive(Drop)]
@@ -241,32 +240,6 @@ fn sketches(
     Ok(all)
 }
 
-/// How many tuples the rows of a relation have by the top-level sigs; one of a literal's sig.
-fn sketch_size(spans: &AtomRanges, sketch: &Sketch) -> u64 {
-    match sketch.atom {
-        Some(_) => 1,
-        None => rows_size(spans, &sketch.rows),
-    }
-}
-
-/// How many variables a table by the top-level sigs has, or the greatest number where there are more.
-fn cells(spans: &AtomRanges, all: &[Sketch], states: u32) -> u64 {
-    let mut fixed = 0u64;
-    let mut moving = 0u64;
-    for sketch in all {
-        let size = sketch_size(spans, sketch);
-        if sketch.fixed {
-            fixed = fixed.saturating_add(size);
-        } else {
-            moving = moving.saturating_add(size);
-        }
-    }
-    let loops = if states > 1 { states as u64 } else { 0 };
-    fixed
-        .saturating_add(moving.saturating_mul(states as u64))
-        .saturating_add(loops)
-}
-
 /// The set of an atom, if it is in one of some rows of one column.
 #[tactic(auto, using(crate::proofs::Sketching::atom_just, crate::proofs::Sketching::atom_off, crate::proofs::Sketching::atom_far))]
 fn atom_set(
@@ -365,17 +338,6 @@ fn bound_list(
     Ok(list)
 }
 
-/// How many states a lasso has: one at least.
-fn states_of(states: u32) -> u32
-    ensures some { 0 < result }
-    ensures same { 0 < states → result ≡ states }
-{
-    if states == 0 {
-        return 1;
-    }
-    states
-}
-
 /// The bounds of all relations of a model.
 #[tactic(auto, using(crate::proofs::Tables::fixed_count))]
 fn table_of(
@@ -402,19 +364,6 @@ fn table_of(
     let places = orders(alloc, count as u64, fields)?;
     let relations = bound_list(alloc, sets, all, &places)?;
     Ok(Bounds { relations, states })
-}
-
-/// Whether the table would have more than 1,000,000 variables, where the relations have the products
-/// of the top-level sigs of their types. They are counted before any tuple is made.
-fn is_large(
-    alloc: Global,
-    model: &Model,
-    ups: &[u32],
-    spans: &AtomRanges,
-    states: u32,
-) -> Result<bool, AllocError> {
-    let all = sketches(alloc, model, ups, spans)?;
-    Ok(cells(spans, &all, states) > MOST_CELLS)
 }
 
 /// The table of the model's sigs and fields, where the top-level sig above each sig is known. Scopes
@@ -480,16 +429,18 @@ pub fn bounds(
     ensures uppers { IfOk result (λ b. AreUppers model.now scopes.now b.relations) }
     ensures origins { IfOk result (λ b. HasOrigins model.now.sigs) }
     ensures most { IfOk result (λ b. universe_size scopes.now ≤ 16384) }
+    ensures refused { IfErr result (IsOfLarge model.now scopes.now keyword) }
+    ensures fits { IfOk result (λ b. IsSmall model.now scopes.now) }
 {
     let spans = spans_of(alloc, scopes)?;
     let ups = tops(alloc, model.sigs.as_slice())?;
-    let states = states_of(scopes.states);
-    if is_large(alloc, model, &ups, &spans, states)? {
+    if is_large(alloc, model, scopes, &ups, &spans)? {
         return Err(Fault::Refused(Refusal {
             rule: Rule::Cells,
             place: keyword,
         }));
     }
+    let states = states_of(scopes);
     let found = given_table(alloc, model, scopes, &ups, &spans, states)?;
     Ok(found)
 }
