@@ -347,11 +347,11 @@ fn add_own_parameter(
         None => return Ok(()),
         Some(scope) => scope,
     };
-    for declared in scope.declared.as_slice() {
-        if let Decl::Parameter(argument) = declared.what {
-            if declared.name.text() == name {
-                all.push_some(parameter_candidate(alloc, setting, argument)?)?;
-            }
+    let mut found = Vec::new(alloc);
+    scope.declared.add_seen(true, name, &mut found)?;
+    for one in &found {
+        if let Decl::Parameter(argument) = *one {
+            all.push_some(parameter_candidate(alloc, setting, argument)?)?;
         }
     }
     Ok(())

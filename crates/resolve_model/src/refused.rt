@@ -1,7 +1,7 @@
 //! A broken rule becomes a refusal at its place.
 
-ghost use Rattle.std.specs.Prelude.{◌≡◌, true, length};
-ghost use Rattle.resolve_model.specs.Refused.{is_of_readings, IsFault, IsValueFault};
+ghost use Rattle.std.specs.Prelude.{◌≡◌, true};
+ghost use Rattle.resolve_model.specs.Refused.{is_of_readings, is_of_roots, IsFault, IsValueFault};
 
 use base_types::{Fault, Refusal, Rule};
 use resolve_expr::faults::{Broken, Noted};
@@ -9,7 +9,8 @@ use resolve_names::place_in;
 use syntax_tree::Loaded;
 
 fn rule_of(broken: Broken) -> Rule
-    ensures { is_of_readings result ≡ true }
+    ensures reading { is_of_readings result ≡ true }
+    ensures root { is_of_roots result ≡ true }
 {
     match broken {
         Broken::UnknownName => Rule::UnknownName,
@@ -23,8 +24,9 @@ fn rule_of(broken: Broken) -> Rule
 }
 
 /// The refusal by a broken rule.
+#[tactic(auto, using(crate::proofs::Rules::of_root))]
 pub fn refused(loaded: &Loaded, noted: Noted) -> Fault
-    ensures { IsFault (length loaded.now.texts) result }
+    ensures { IsFault loaded.now.texts loaded.now.instances result }
 {
     match place_in(loaded, noted.instance, noted.place) {
         // No rule is noted for an instance that isn't there.

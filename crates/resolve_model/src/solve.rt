@@ -1,8 +1,9 @@
 //! Makes the model of all loaded texts, or gives the broken rule that counts first.
 
-ghost use Rattle.std.specs.Prelude.{length, IfOk, IfErr};
+ghost use Rattle.std.specs.Prelude.{IfOk, IfErr, OnOk};
 ghost use Rattle.resolve_check.specs.Kept.{IsModelButTypes};
 ghost use Rattle.resolve_model.specs.Refused.{IsFault};
+ghost use Rattle.resolve_names.specs.Twice.{HasNoneTwice};
 
 use crate::refused::refused;
 use base_types::Fault;
@@ -182,7 +183,7 @@ fn model_of(
     hierarchy: &Hierarchy,
 ) -> Result<Model, Fault>
     ensures kept { IfOk result IsModelButTypes }
-    ensures fault { IfErr result (IsFault (length loaded.now.texts)) }
+    ensures fault { IfErr result (IsFault loaded.now.texts loaded.now.instances) }
 {
     match modelled(alloc, loaded, names, hierarchy) {
         Err(_) => Err(Fault::Memory),
@@ -197,7 +198,7 @@ fn model_of(
 /// The hierarchy, with its fault.
 #[tactic(auto, using(crate::proofs::Rules::of_hierarchy))]
 pub fn hierarchy_of(alloc: Global, loaded: &Loaded, names: &Names) -> Result<Hierarchy, Fault>
-    ensures { IfErr result (IsFault (length loaded.now.texts)) }
+    ensures { IfErr result (IsFault loaded.now.texts loaded.now.instances) }
 {
     match hierarchy(alloc, loaded, names) {
         Ok(hierarchy) => Ok(hierarchy),
@@ -209,7 +210,8 @@ pub fn hierarchy_of(alloc: Global, loaded: &Loaded, names: &Names) -> Result<Hie
 /// The names, with their fault.
 #[tactic(auto, using(crate::proofs::Rules::of_names))]
 pub fn names_of(alloc: Global, loaded: &Loaded) -> Result<Names, Fault>
-    ensures { IfErr result (IsFault (length loaded.now.texts)) }
+    ensures none_twice { OnOk result (HasNoneTwice loaded.now.texts loaded.now.instances) }
+    ensures fault { IfErr result (IsFault loaded.now.texts loaded.now.instances) }
 {
     match names(alloc, loaded) {
         Ok(names) => Ok(names),
@@ -227,7 +229,8 @@ pub fn names_of(alloc: Global, loaded: &Loaded) -> Result<Names, Fault>
 /// then the least place, then the lower number.
 pub fn resolve(alloc: Global, loaded: &Loaded) -> Result<Model, Fault>
     ensures kept { IfOk result IsModelButTypes }
-    ensures fault { IfErr result (IsFault (length loaded.now.texts)) }
+    ensures none_twice { OnOk result (HasNoneTwice loaded.now.texts loaded.now.instances) }
+    ensures fault { IfErr result (IsFault loaded.now.texts loaded.now.instances) }
 {
     let names = match names_of(alloc, loaded) {
         Err(fault) => return Err(fault),
@@ -237,5 +240,9 @@ pub fn resolve(alloc: Global, loaded: &Loaded) -> Result<Model, Fault>
         Err(fault) => return Err(fault),
         Ok(hierarchy) => hierarchy,
     };
-    model_of(alloc, loaded, &names, &hierarchy)
+    let model = match model_of(alloc, loaded, &names, &hierarchy) {
+        Err(fault) => return Err(fault),
+        Ok(model) => model,
+    };
+    Ok(model)
 }

@@ -4,3 +4,5 @@ pub mod Lookup
 pub mod Refused
 pub mod Gathered
 pub mod Twice
+pub mod Noted
+pub mod Indexed

@@ -13,16 +13,16 @@ use Rattle.syntax_tree.specs.declared.instance.Text.{Text}
 use Rattle.syntax_tree.specs.declared.instance.Instance.{Instance}
 use Rattle.resolve_names.specs.Gathered.{parameters_of}
 
-abbrev sigs_named : Paragraph → List Named
+abbrev pub sigs_named : Paragraph → List Named
 sigs_named (paragraph.Sig g) = g.names
 sigs_named (paragraph.Enum e) = e.name ∷ e.members
 sigs_named _ = []
 
-abbrev titled : Option Named → List Named
+abbrev pub titled : Option Named → List Named
 titled None = []
 titled (Some name) = name ∷ []
 
-abbrev claim_named : Paragraph → List Named
+abbrev pub claim_named : Paragraph → List Named
 claim_named (paragraph.Assert c) = titled c.name
 claim_named _ = []
 
@@ -38,21 +38,33 @@ assertion_names m = flat_map claim_named m.paragraphs
 abbrev pub IsSecond : List Named → Named → Type 0
 IsSecond names b = (i j : ℕ) × (a : Named) × (i < j) × (slice_get names i ≡ Some a) × (slice_get names j ≡ Some b) × (a.name ≡ b.name)
 
+-- the place of a name that stands in the list before it too
+abbrev pub IsSecondAt : List Named → Position → Type 0
+IsSecondAt names place = (b : Named) × (b.place ≡ place) × IsSecond names b
+
 -- a module has a name of its sigs and parameters, or of its assertions, twice; the second one stands at the place
 abbrev pub IsTwiceAt : Module → Position → Type 0
-IsTwiceAt m place = (b : Named) × (b.place ≡ place) × (IsSecond (sig_names m) b ⊎ IsSecond (assertion_names m) b)
+IsTwiceAt m place = IsSecondAt (sig_names m) place ⊎ IsSecondAt (assertion_names m) place
 
 -- a stands before b in a text
 abbrev pub IsBefore : Position → Position → Type 0
 IsBefore a b = (a.line < b.line) ⊎ ((a.line ≡ b.line) × (a.column < b.column))
 
+-- the instance has this text
+abbrev pub HasTree : List Text → Instance → Module → Type 0
+HasTree texts i m = (text : Text) × (slice_get texts i.text ≡ Some text) × (text.tree ≡ m)
+
 -- the instance of number k has this text
 abbrev pub HasModule : List Text → List Instance → ℕ → Instance → Module → Type 0
-HasModule texts instances k i m = (slice_get instances k ≡ Some i) × ((text : Text) × (slice_get texts i.text ≡ Some text) × (text.tree ≡ m))
+HasModule texts instances k i m = (slice_get instances k ≡ Some i) × HasTree texts i m
 
 -- no instance has a name twice
 abbrev pub HasNoneTwice : List Text → List Instance → Type 0
 HasNoneTwice texts instances = (k : ℕ) (i : Instance) (m : Module) (p : Position) → HasModule texts instances k i m → IsTwiceAt m p → ⊥
+
+-- the place of the module in the text of the instance
+abbrev pub place_of : Instance → Position → Position
+place_of i place = record { «module» = i.text; line = place.line; column = place.column }
 
 -- the refusal of the earliest instance that has a name twice, at the least place of a second one
 pub record IsFirstTwice (texts : List Text) (instances : List Instance) (r : Refusal) : Type 0 where
@@ -64,4 +76,4 @@ pub record IsFirstTwice (texts : List Text) (instances : List Instance) (r : Ref
   pub twice : IsTwiceAt tree place
   pub earliest : (k : ℕ) (i : Instance) (m : Module) (p : Position) → k < number → HasModule texts instances k i m → IsTwiceAt m p → ⊥
   pub least : (p : Position) → IsTwiceAt tree p → IsBefore p place → ⊥
-  pub refusal : r ≡ record { rule = rule.NameTwice; place = record { «module» = instance.text; line = place.line; column = place.column } }
+  pub refusal : r ≡ record { rule = rule.NameTwice; place = place_of instance place }

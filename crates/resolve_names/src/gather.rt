@@ -1,10 +1,13 @@
 //! The names of all instances are gathered into one table.
 
-ghost use Rattle.std.specs.Prelude.{◌≡◌, ℕ, ◌<◌, IfOk, IfErr, length};
+ghost use Rattle.std.specs.Prelude.{◌≡◌, ℕ, ◌<◌, IfOk, OnOk, IfErr, length};
 ghost use Rattle.resolve_names.specs.Marks.{AreScoped, IsScoped};
 ghost use Rattle.resolve_names.specs.Refused.{IsFault};
+ghost use Rattle.resolve_names.specs.Twice.{HasNoneTwice};
+ghost use Rattle.resolve_names.specs.Noted.{IsFirstFault};
 
 use crate::entries::{Tables, declared_in, number_after};
+use crate::index::DeclaredList;
 use crate::links::links_of;
 use crate::table::{Names, Namespace};
 use crate::twice::twice;
@@ -20,7 +23,7 @@ fn no_names(alloc: Global) -> Namespace
     Namespace {
         first_sig: 0,
         sigs: 0,
-        declared: Items::new(alloc),
+        declared: DeclaredList::empty(alloc),
         opens: Items::new(alloc),
     }
 }
@@ -43,6 +46,7 @@ fn scope_of(
     };
     let before = tables.sigs.len();
     let declared = declared_in(alloc, number_after(number), instance, &text.tree, tables)?;
+    let declared = DeclaredList::new(alloc, declared)?;
     let written = text.tree.opens.as_slice();
     let opens = links_of(alloc, instance.opens.as_slice(), written, instances.len())?;
     Ok(Namespace {
@@ -101,12 +105,16 @@ fn gathered(alloc: Global, loaded: &Loaded) -> Result<Names, AllocError>
 /// earliest instance counts, and in it the least place of a second name.
 pub fn names(alloc: Global, loaded: &Loaded) -> Result<Names, Fault>
     ensures ok { IfOk result (λ n. length n.scopes ≡ length loaded.now.instances) }
+    ensures none_twice { OnOk result (HasNoneTwice loaded.now.texts loaded.now.instances) }
     ensures err { IfErr result (IsFault (length loaded.now.texts)) }
+    ensures first { IfErr result (IsFirstFault loaded.now.texts loaded.now.instances) }
 {
-    match twice(alloc, loaded) {
+    let found = match twice(alloc, loaded) {
         Err(_) => return Err(Fault::Memory),
-        Ok(Some(refusal)) => return Err(Fault::Refused(refusal)),
-        Ok(None) => {}
+        Ok(found) => found,
+    };
+    if let Some(refusal) = found {
+        return Err(Fault::Refused(refusal));
     }
     match gathered(alloc, loaded) {
         Err(_) => Err(Fault::Memory),

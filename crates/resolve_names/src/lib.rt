@@ -4,6 +4,7 @@
 mod entries;
 mod follow;
 mod gather;
+mod index;
 mod links;
 mod lookup;
 mod reach;
@@ -12,5 +13,6 @@ mod table;
 mod twice;
 
 pub use gather::names;
+pub use index::DeclaredList;
 pub use source::{paragraph_at, place_in, text_of};
 pub use table::{BodyEntry, Decl, Declared, FieldEntry, Link, Names, Namespace, SigEntry};

@@ -1,7 +1,7 @@
 //! A name stands for declarations of the instances that its own instance reaches.
 
 ghost use Rattle.std.specs.Prelude.{◌≡◌, [], ◌++◌, ◌<◌, ◌==◌, length, slice_get, IfOk, OnOk};
-ghost use Rattle.std.specs.List.{filter_map, cons_option};
+ghost use Rattle.std.specs.List.{cons_option};
 ghost use Rattle.resolve_names.specs.Lookup.{has_name, seen_in, seen_of, seen_from};
 ghost use Rattle.resolve_names.specs.Marks.{AreLed};
 ghost use Rattle.resolve_names.specs.Visible.{AreCandidates, path_of};
@@ -20,7 +20,7 @@ fn is_seen(one: &Declared, is_own: bool, name: &str) -> bool
 }
 
 /// The declaration of a marked instance, where it is seen.
-fn seen_one(one: &Declared, is_own: bool, name: &str) -> Option<Decl>
+pub fn seen_one(one: &Declared, is_own: bool, name: &str) -> Option<Decl>
     ensures { result ≡ seen_in is_own name.now one.now }
 {
     if is_seen(one, is_own, name) {
@@ -31,7 +31,7 @@ fn seen_one(one: &Declared, is_own: bool, name: &str) -> Option<Decl>
 }
 
 /// Puts a declaration at the end, where there is one.
-fn add_some(all: &mut Vec<Decl>, one: Option<Decl>) -> Result<(), AllocError>
+pub fn add_some(all: &mut Vec<Decl>, one: Option<Decl>) -> Result<(), AllocError>
     ensures { OnOk result (all.new.items ≡ all.old.items ++ cons_option one []) }
 {
     match one {
@@ -41,22 +41,6 @@ fn add_some(all: &mut Vec<Decl>, one: Option<Decl>) -> Result<(), AllocError>
         }
         None => Ok(()),
     }
-}
-
-/// Adds the declarations of a marked instance that are seen.
-fn add_seen(
-    declared: &[Declared],
-    is_own: bool,
-    name: &str,
-    all: &mut Vec<Decl>,
-) -> Result<(), AllocError>
-    ensures { OnOk result (all.new.items ≡ all.old.items
-        ++ filter_map (seen_in is_own name.now) declared.now) }
-{
-    for one in declared {
-        add_some(all, seen_one(one, is_own, name))?;
-    }
-    Ok(())
 }
 
 /// Adds the declarations of an instance that are seen, where it is marked.
@@ -74,7 +58,7 @@ fn add_scope(
     if !is_marked(marks, number) {
         return Ok(());
     }
-    add_seen(scope.declared.as_slice(), number == from, name, all)
+    scope.declared.add_seen(number == from, name, all)
 }
 
 /// The declarations of all marked instances that are seen.

@@ -2,6 +2,7 @@
 
 ghost use Rattle.resolve_names.specs.Marks.{IsLinked};
 
+use crate::index::DeclaredList;
 use base_lists::Items;
 use base_types::{Name, Refusal};
 use syntax_tree::SigRef;
@@ -48,7 +49,7 @@ pub struct Namespace {
     /// How many sigs it has.
     pub sigs: u32,
     /// The names that it declares, in text order.
-    pub declared: Items<Declared>,
+    pub declared: DeclaredList,
     pub opens: Items<Link>,
 }
 
