@@ -4,4 +4,5 @@ pub mod Ends
 pub mod Known
 pub mod Led
 pub mod Placed
+pub mod Reached
 pub mod Reading

@@ -2,6 +2,7 @@
 #![tactic(auto)]
 
 mod loader;
+mod reach;
 mod source;
 mod walk;
 

@@ -6,9 +6,11 @@ ghost use Rattle.syntax_tree.specs.Instances.{literals_of};
 ghost use Rattle.load_state.specs.Causes.{Causes};
 ghost use Rattle.load_state.specs.Keys.{pair_of, pairs_of, AreDistinct, Lacks};
 ghost use Rattle.load_modules.specs.Led.{OpensTold, OpensFrom};
+ghost use Rattle.load_modules.specs.Reached.{AreReached};
 ghost use Rattle.load_modules.specs.Refused.{Refuses, RefusesTree, RefusesGiven, RefusesTold};
 ghost use Rattle.load_modules.specs.Told.{Keeps, LoadsTold, LoadsGiven, LoadsTree, Follows, StaysDistinct};
 
+use crate::reach::reach_all;
 use crate::source::with_tree;
 use crate::walk::{fetch_text, open_all, take_in, text_of_path};
 use base_lists::Items;
@@ -39,6 +41,7 @@ pub fn load<L: Libraries>(alloc: Global, libraries: &mut L, root: &str) -> Resul
         m.instances) }
     ensures refused { IfErr result (RefusesTold (L.told libraries.old) root.now) }
     ensures distinct { IfOk result (λ m. AreDistinct (pairs_of m.instances)) }
+    ensures reached { IfOk result (λ m. AreReached m.instances) }
 {
     match fetch_text(alloc, libraries, root, root)? {
         Some(bytes) => load_text(alloc, libraries, root, &bytes),
@@ -61,6 +64,7 @@ pub fn load_text<L: Libraries>(
         m.instances) }
     ensures refused { IfErr result (RefusesGiven (L.told libraries.old) root.now text.now) }
     ensures distinct { IfOk result (λ m. AreDistinct (pairs_of m.instances)) }
+    ensures reached { IfOk result (λ m. AreReached m.instances) }
 {
     let mut loading = Loading::new(alloc);
     let number = take_in(alloc, &mut loading.sources, root, text)?;
@@ -85,6 +89,7 @@ pub fn load_tree<L: Libraries>(
         m.instances) }
     ensures refused { IfErr result (RefusesTree (L.told libraries.old) root.now tree) }
     ensures distinct { IfOk result (λ m. AreDistinct (pairs_of m.instances)) }
+    ensures reached { IfOk result (λ m. AreReached m.instances) }
 {
     let mut loading = Loading::new(alloc);
     loading.sources.push(with_tree(alloc, root, tree, tokens)?)?;
@@ -108,6 +113,7 @@ fn follow<L: Libraries>(
         m.instances) }
     ensures refused { IfErr result (Refuses (L.told libraries.old) root.now loading) }
     ensures distinct { IfOk result (λ m. AreDistinct (pairs_of m.instances)) }
+    ensures reached { IfOk result (λ m. AreReached m.instances) }
 {
     if parameter_count(&loading.sources, 0) != 0 {
         return Err(refused(alloc, Rule::ModuleArguments, start_of(0), root));
@@ -116,7 +122,9 @@ fn follow<L: Libraries>(
     let doors = open_all(alloc, libraries, &mut loading, root, first, LIMIT)?;
     let integer = open_integer(alloc, libraries, &mut loading, root)?;
     finish(&mut loading, first, doors)?;
-    Ok(finished_model(alloc, loading, integer, root)?)
+    let loaded = finished_model(alloc, loading, integer, root)?;
+    reach_all(alloc, loaded.instances.as_slice())?;
+    Ok(loaded)
 }
 
 /// Adds an instance without arguments that no written open reaches.

@@ -1,4 +1,6 @@
-use Rattle.std.proofs.Common.{rules, refl}
+use Rattle.std.proofs.Common.{rules, List, refl, subst}
+use Rattle.syntax_tree.specs.declared.instance.Instance.{Instance}
+use Rattle.load_modules.specs.Reached.{AreReached}
 use Rattle.load_modules.specs.Told.{Keeps}
 use Rattle.load_modules.proofs.Known.{keeps_same, keeps_on, stays_same, stays_on, follows, distinct_end}
 use Rattle.load_modules.proofs.Led.{opens_from}
@@ -14,7 +16,7 @@ returns-clause-texts g c =
     (keeps_on held _ root c.args.loading _ c.open_all.new.loading (keeps_same held root c.args.loading _ refl refl) c.in_ok-doors.ensures.texts refl)
     c.in_ok-integer.ensures.texts c.open_all.ensures.keeps)
     (keeps_same held root c.open_integer.new.loading c.finish.new.loading c.finish.ensures.texts c.finish.ensures.asked) refl in
-    follows held root c.args.loading c.finish.new.loading c.in_ok-finished_model.field-0.texts keeps c.in_ok-finished_model.ensures.texts
+    follows held root c.args.loading c.finish.new.loading c.in_ok-loaded.loaded.texts keeps c.in_ok-loaded.ensures.texts
 
 pub returns-clause-opens : goal.returns-clause-opens
 returns-clause-opens g c =
@@ -26,7 +28,7 @@ returns-clause-opens g c =
     (keeps_on held _ root c.args.loading _ c.open_all.new.loading (keeps_same held root c.args.loading _ refl refl) c.in_ok-doors.ensures.texts refl)
     c.in_ok-integer.ensures.texts c.open_all.ensures.keeps)
     (keeps_same held root c.open_integer.new.loading c.finish.new.loading c.finish.ensures.texts c.finish.ensures.asked) refl in
-    opens_from held root c.args.loading c.finish.new.loading c.in_ok-finished_model.field-0.texts c.in_ok-finished_model.field-0.instances keeps c.in_ok-finished_model.ensures.led c.in_ok-finished_model.ensures.texts
+    opens_from held root c.args.loading c.finish.new.loading c.in_ok-loaded.loaded.texts c.in_ok-loaded.loaded.instances keeps c.in_ok-loaded.ensures.led c.in_ok-loaded.ensures.texts
 
 pub returns-clause-distinct : goal.returns-clause-distinct
 returns-clause-distinct g c =
@@ -34,4 +36,7 @@ returns-clause-distinct g c =
     (stays_on c.add_plain.new.keys.items c.open_integer.new.loading.keys.items c.finish.new.loading.keys.items
     (stays_on c.add_plain.new.keys.items c.open_all.new.loading.keys.items c.open_integer.new.loading.keys.items c.in_ok-doors.ensures.distinct c.in_ok-integer.ensures.distinct)
     (stays_same c.open_integer.new.loading.keys.items c.finish.new.loading.keys.items c.finish.ensures.instances))
-    c.in_ok-finished_model.ensures.instances
+    c.in_ok-loaded.ensures.instances
+
+pub returns-clause-reached : goal.returns-clause-reached
+returns-clause-reached g c = subst (λ (is : List Instance). AreReached is) c.as_slice.ensures c.in_ok-reach_all.ensures
