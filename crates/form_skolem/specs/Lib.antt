@@ -1,0 +1,4 @@
+pub mod Claims
+pub mod Runs
+pub mod Opened
+pub mod Steps

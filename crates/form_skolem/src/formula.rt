@@ -1,32 +1,40 @@
 //! What a command asks of the fields that stand for its predicate's relation parameters.
 
+ghost use Rattle.std.specs.Prelude.{◌≡◌, ℕ, ◌+◌, ◌-◌, ◌^◌, ◌<◌, ◌≤◌, [], ◌∷◌, ◌++◌, map, take, drop, reverse, length, IfOk, OnOk};
+ghost use Rattle.core_tree.specs.Trees.{claim_of, term_of, variable_of};
+ghost use Rattle.form_skolem.specs.Claims as claims;
+ghost use Rattle.form_skolem.specs.Claims.{run_claim};
+ghost use Rattle.form_skolem.specs.Steps.{binders, IsBack};
+
 use core_tree::{Expr, Formula, Parameter, Quantity, RelationOp, Variable};
 use std::alloc::{AllocError, Global};
 
-/// The number of a place among the parameters.
-fn number_of(place: usize) -> u32 {
-    u32::try_from(place).unwrap_or(u32::MAX)
-}
-
 /// What a parameter is called with: its field, or its own name.
-fn argument_of(place: usize, field: Option<u32>) -> Expr {
+fn argument_of(number: u32, field: Option<u32>) -> Expr
+    ensures { term_of result ≡ claims.argument number field }
+{
     match field {
         Some(field) => Expr::Field(field),
-        None => Expr::Name(number_of(place)),
+        None => Expr::Name(number),
     }
 }
 
 /// The predicate, called with its parameters.
-fn call_of(alloc: Global, body: u32, fields: &[Option<u32>]) -> Result<Formula, AllocError> {
-    let mut arguments = Vec::new(alloc);
+fn call_of(alloc: Global, body: u32, fields: &[Option<u32>]) -> Result<Formula, AllocError>
+    requires { length fields.now < 2 ^ 32 }
+    ensures { IfOk result (λ f. claim_of f ≡ claims.call body fields.now) }
+{
+    let mut all = Vec::new(alloc);
     for place in 0..fields.len() {
-        arguments.push(argument_of(place, fields[place]))?;
+        all.push(argument_of(place as u32, fields[place]))?;
     }
-    Ok(Formula::Call(body, arguments))
+    Ok(Formula::Call(body, all))
 }
 
 /// That a field lies in the bound of its parameter, with the bound's multiplicities.
-fn inside_bound(alloc: Global, field: u32, parameter: &Parameter) -> Result<Formula, AllocError> {
+fn inside_bound(alloc: Global, field: u32, parameter: &Parameter) -> Result<Formula, AllocError>
+    ensures { IfOk result (λ f. claim_of f ≡ claims.lies_in field parameter.now) }
+{
     let bound = parameter.bound.expr.copy(alloc)?;
     Ok(Formula::Within(
         Box::new(alloc, Expr::Field(field))?,
@@ -36,7 +44,9 @@ fn inside_bound(alloc: Global, field: u32, parameter: &Parameter) -> Result<Form
 }
 
 /// That two fields share no tuple.
-fn are_apart(alloc: Global, a: u32, b: u32) -> Result<Formula, AllocError> {
+fn are_apart(alloc: Global, a: u32, b: u32) -> Result<Formula, AllocError>
+    ensures { IfOk result (λ f. claim_of f ≡ claims.are_apart a b) }
+{
     let common = Expr::Combine(
         RelationOp::Intersection,
         Box::new(alloc, Expr::Field(a))?,
@@ -45,23 +55,40 @@ fn are_apart(alloc: Global, a: u32, b: u32) -> Result<Formula, AllocError> {
     Ok(Formula::Test(Quantity::No, Box::new(alloc, common)?))
 }
 
-/// Adds that a field shares no tuple with those of the parameters just before its own in a list.
+/// Adds that a field shares no tuple with another parameter's, if that has one.
 fn add_apart(
+    alloc: Global,
+    field: u32,
+    other: Option<u32>,
+    parts: &mut Vec<Formula>,
+) -> Result<(), AllocError>
+    ensures { OnOk result (map claim_of parts.new.items
+        ≡ map claim_of parts.old.items ++ claims.apart_from field (other ∷ [])) }
+{
+    match other {
+        None => Ok(()),
+        Some(other) => {
+            let part = are_apart(alloc, other, field)?;
+            parts.push(part)?;
+            Ok(())
+        }
+    }
+}
+
+/// Adds that a field shares no tuple with those of the parameters just before its own in a list.
+fn add_all_apart(
     alloc: Global,
     field: u32,
     apart: u32,
     before: &[Option<u32>],
     parts: &mut Vec<Formula>,
-) -> Result<(), AllocError> {
-    let mut left = apart;
-    for other in before.iter().rev() {
-        if left == 0 {
-            return Ok(());
-        }
-        left -= 1;
-        if let Some(other) = other {
-            parts.push(are_apart(alloc, *other, field)?)?;
-        }
+) -> Result<(), AllocError>
+    ensures { OnOk result (map claim_of parts.new.items ≡ map claim_of parts.old.items
+        ++ claims.apart_from field (take apart (reverse before.now))) }
+{
+    let count = (apart as usize).min(before.len());
+    for back in 0..count {
+        add_apart(alloc, field, before[before.len() - 1 - back], parts)?;
     }
     Ok(())
 }
@@ -69,37 +96,50 @@ fn add_apart(
 /// What is asked of a relation parameter and of those after it.
 fn with_relation(
     alloc: Global,
-    place: usize,
+    number: u32,
     field: u32,
     parameter: &Parameter,
     before: &[Option<u32>],
     after: Formula,
-) -> Result<Formula, AllocError> {
+) -> Result<Formula, AllocError>
+    ensures { IfOk result (λ f. claim_of f ≡ claims.field_claim number field parameter.now
+        (reverse before.now) (claim_of after)) }
+{
     let mut parts = Vec::new(alloc);
-    parts.push(inside_bound(alloc, field, parameter)?)?;
-    add_apart(alloc, field, parameter.apart, before, &mut parts)?;
+    let inside = inside_bound(alloc, field, parameter)?;
+    parts.push(inside)?;
+    add_all_apart(alloc, field, parameter.apart, before, &mut parts)?;
     let value = Box::new(alloc, Expr::Field(field))?;
     let rest = Box::new(alloc, after)?;
-    parts.push(Formula::Let(number_of(place), value, rest))?;
+    parts.push(Formula::Let(number, value, rest))?;
     Ok(Formula::Every(parts))
 }
 
-/// The variables of atom parameters that follow one another, from this place up to another.
+/// An atom parameter as a variable.
+fn variable_at(alloc: Global, number: u32, parameter: &Parameter) -> Result<Variable, AllocError>
+    ensures { IfOk result (λ v. variable_of v ≡ claims.binder number parameter.now) }
+{
+    let bound = parameter.bound.expr.copy(alloc)?;
+    Ok(Variable {
+        name: number,
+        apart: parameter.apart,
+        bound,
+    })
+}
+
+/// Atom parameters that follow one another, as variables; the first has this number.
 fn variables_of(
     alloc: Global,
+    first: u32,
     parameters: &[Parameter],
-    from: usize,
-    to: usize,
-) -> Result<Vec<Variable>, AllocError> {
+) -> Result<Vec<Variable>, AllocError>
+    requires { first + length parameters.now < 2 ^ 32 }
+    ensures { IfOk result (λ all. map variable_of all.items ≡ binders first parameters.now) }
+{
     let mut all = Vec::new(alloc);
-    for place in from..to {
-        if let Some(parameter) = parameters.get(place) {
-            all.push(Variable {
-                name: number_of(place),
-                apart: parameter.apart,
-                bound: parameter.bound.expr.copy(alloc)?,
-            })?;
-        }
+    for place in 0..parameters.len() {
+        let variable = variable_at(alloc, first + place as u32, &parameters[place])?;
+        all.push(variable)?;
     }
     Ok(all)
 }
@@ -107,16 +147,63 @@ fn variables_of(
 /// What is asked of atom parameters that follow one another, and of those after them.
 fn with_atoms(
     alloc: Global,
+    first: u32,
     parameters: &[Parameter],
-    from: usize,
-    to: usize,
     after: Formula,
-) -> Result<Formula, AllocError> {
-    if from >= to {
+) -> Result<Formula, AllocError>
+    requires { first + length parameters.now < 2 ^ 32 }
+    ensures { IfOk result (λ f. claim_of f
+        ≡ claims.some_of (binders first parameters.now) (claim_of after)) }
+{
+    if parameters.is_empty() {
         return Ok(after);
     }
-    let variables = variables_of(alloc, parameters, from, to)?;
-    Ok(Formula::Counted(Quantity::Some, variables, Box::new(alloc, after)?))
+    let variables = variables_of(alloc, first, parameters)?;
+    let rest = Box::new(alloc, after)?;
+    Ok(Formula::Counted(Quantity::Some, variables, rest))
+}
+
+/// The formula of the parameters from `end` on. Those just before them stand for atoms, and have no
+/// part in it yet.
+#[derive(Drop)]
+struct Back {
+    formula: Formula,
+    end: usize,
+}
+
+/// The same with one parameter more, which has this place.
+fn one_back(
+    alloc: Global,
+    place: usize,
+    parameters: &[Parameter],
+    fields: &[Option<u32>],
+    back: Back,
+) -> Result<Back, AllocError>
+    requires same { length parameters.now ≡ length fields.now }
+    requires few { length fields.now < 2 ^ 32 }
+    requires place { place < back.end }
+    requires end { back.end ≤ length fields.now }
+    ensures place { IfOk result (λ b. place ≤ b.end) }
+    ensures end { IfOk result (λ b. b.end ≤ length fields.now) }
+    ensures leads { (body : ℕ) →
+        IsBack body parameters.now fields.now (place + 1) back.end (claim_of back.formula) →
+        IfOk result (λ b. IsBack body parameters.now fields.now place b.end (claim_of b.formula)) }
+{
+    match fields[place] {
+        None => Ok(back),
+        Some(field) => {
+            let number = place as u32;
+            let atoms = &parameters[place + 1..back.end];
+            let after = with_atoms(alloc, number + 1, atoms, back.formula)?;
+            let before = &fields[..place];
+            let parameter = &parameters[place];
+            let formula = with_relation(alloc, number, field, parameter, before, after)?;
+            Ok(Back {
+                formula,
+                end: place,
+            })
+        }
+    }
 }
 
 /// The predicate's body under its parameters from the first to the last: atom parameters are closed
@@ -127,16 +214,21 @@ pub(crate) fn run_formula(
     body: u32,
     parameters: &[Parameter],
     fields: &[Option<u32>],
-) -> Result<Formula, AllocError> {
-    let mut formula = call_of(alloc, body, fields)?;
-    // The places from `end` on have their part already; those between are atoms.
-    let mut end = fields.len();
-    for place in (0..fields.len()).rev() {
-        if let (Some(field), Some(parameter)) = (fields[place], parameters.get(place)) {
-            formula = with_atoms(alloc, parameters, place + 1, end, formula)?;
-            formula = with_relation(alloc, place, field, parameter, &fields[..place], formula)?;
-            end = place;
-        }
+) -> Result<Formula, AllocError>
+    requires { length parameters.now ≡ length fields.now }
+    ensures { IfOk result (λ f. claim_of f ≡ run_claim body parameters.now fields.now) }
+{
+    let count = fields.len();
+    if count > u32::MAX as usize {
+        return Err(AllocError);
     }
-    with_atoms(alloc, parameters, 0, end, formula)
+    let mut back = Back {
+        formula: call_of(alloc, body, fields)?,
+        end: count,
+    };
+    for step in 0..count {
+        back = one_back(alloc, count - 1 - step, parameters, fields, back)?;
+    }
+    let formula = with_atoms(alloc, 0, &parameters[..back.end], back.formula)?;
+    Ok(formula)
 }

@@ -20,12 +20,18 @@
 //! The command then asks that the field lies in the parameter's bound, with the bound's
 //! multiplicities, that it shares no tuple with those from which `disj` keeps it apart, and that
 //! the body holds with the field for the parameter; atom parameters stay under `some` (`formula`).
-//! Not proved: no contract says that the new command has a lasso exactly when the old one does.
+//!
+//! Proved: the fields but for their columns and rows, the formula, and that all else is as it was
+//! (`IsOpened`); and that the formula holds just where the relations that the fields have, and some
+//! atoms, lie in the bounds as said and the body holds of them (`opened_commands_run`). Not proved:
+//! that the columns and rows are those of the bound's type.
 #![tactic(auto)]
 
 mod fields;
 mod formula;
 mod ground;
+mod law;
 mod open;
 
+pub use law::opened_commands_run;
 pub use open::open_params;

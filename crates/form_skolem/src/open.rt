@@ -1,12 +1,22 @@
 //! The model in which each relation parameter of the command's predicate is a field.
 
-ghost use Rattle.std.specs.Prelude.{◌≡◌, length, IfOk};
+ghost use Rattle.std.specs.Prelude.{◌≡◌, ◌≢◌, ℕ, [], Some, length, slice_get, IfOk, IfNone, IfSome};
+ghost use Rattle.core_tree.specs.Trees.{claim_of};
+ghost use Rattle.core_tree.specs.declared.model.Body.{Body};
+ghost use Rattle.core_tree.specs.declared.model.Command.{Command};
 ghost use Rattle.resolve_check.specs.Kept.{IsModelButTypes};
+ghost use Rattle.form_skolem.specs.Claims.{run_claim};
+ghost use Rattle.form_skolem.specs.Opened.{AddsFields, HasNoRelations, HasRelations, IsOpened, IsOpenedOver, fields_from, labels, relations};
+ghost use Rattle.form_skolem.specs.Opened as spec;
+ghost use Rattle.form_skolem.specs.Steps as steps;
+ghost use Rattle.form_skolem.specs.Steps.{AskAnother, IsTurn};
 
 use crate::fields::add_field;
 use crate::formula::run_formula;
 use crate::ground::{Known, known_of};
-use core_tree::{BodyList, CommandList, FieldList, Formula, Model, Multiplicity, Parameter, Sig};
+use core_tree::{
+    BodyList, CommandList, FieldList, Formula, Model, Multiplicity, Parameter, Sig, SigList,
+};
 use resolve_check::keeps_model;
 use resolve_types::{Columns, model_rows, static_type};
 use std::alloc::{AllocError, Global};
@@ -25,68 +35,6 @@ fn parameter_types(
     Ok(names)
 }
 
-/// Whether a parameter stands for a relation: its bound has several columns, or another word than
-/// `one`.
-fn is_relation(parameter: &Parameter, columns: &Columns) -> bool {
-    parameter.bound.multiplicity != Multiplicity::One || columns.count != 1
-}
-
-/// Adds the field of a parameter, where it stands for a relation, and answers its number.
-fn field_of(
-    alloc: Global,
-    sigs: &[Sig],
-    fields: &mut FieldList,
-    parameter: &Parameter,
-    columns: &Columns,
-) -> Result<Option<u32>, AllocError> {
-    if !is_relation(parameter, columns) {
-        return Ok(None);
-    }
-    let number = u32::try_from(fields.len()).unwrap_or(u32::MAX);
-    let rows = model_rows(alloc, columns)?;
-    let label = parameter.label.text();
-    add_field(alloc, sigs, fields, label, columns.count, rows)?;
-    Ok(Some(number))
-}
-
-/// Adds the fields of all parameters that stand for relations, and answers their numbers.
-fn fields_of(
-    alloc: Global,
-    sigs: &[Sig],
-    fields: &mut FieldList,
-    parameters: &[Parameter],
-    types: &[Option<Columns>],
-) -> Result<Vec<Option<u32>>, AllocError> {
-    let mut numbers = Vec::new(alloc);
-    for place in 0..parameters.len() {
-        let number = match types.get(place) {
-            Some(Some(columns)) => field_of(alloc, sigs, fields, &parameters[place], columns)?,
-            _ => None,
-        };
-        numbers.push(number)?;
-    }
-    Ok(numbers)
-}
-
-/// The commands, of which one asks another formula.
-fn with_formula(commands: CommandList, command: usize, formula: Formula) -> CommandList
-    ensures { length result ≡ length commands }
-{
-    let mut all = commands.into_vec();
-    if command < all.len() {
-        all[command].formula = formula;
-    }
-    CommandList::from_vec(all)
-}
-
-/// The predicate that a command runs.
-fn body_of(model: &Model, command: u32) -> Option<u32> {
-    match model.commands.as_slice().get(command as usize) {
-        None => None,
-        Some(command) => command.body,
-    }
-}
-
 /// The types of a body's parameters.
 fn types_of(alloc: Global, model: &Model, body: usize) -> Result<Vec<Option<Columns>>, AllocError> {
     if body >= model.bodies.len() {
@@ -96,19 +44,89 @@ fn types_of(alloc: Global, model: &Model, body: usize) -> Result<Vec<Option<Colu
     parameter_types(alloc, &known, model.bodies.get(body).parameters.as_slice())
 }
 
-/// Whether some parameter of these types stands for a relation.
-fn has_relation(bodies: &BodyList, body: usize, types: &[Option<Columns>]) -> bool {
-    if body >= bodies.len() {
-        return false;
+/// Whether a parameter stands for a relation: its bound has another word than `one`. One of several
+/// columns has, since a model's `one` stands before one column alone.
+fn is_relation(parameter: &Parameter) -> bool
+    ensures { result ≡ spec.is_relation parameter.now }
+{
+    match parameter.bound.multiplicity {
+        Multiplicity::One => false,
+        _ => true,
     }
-    for (place, parameter) in bodies.get(body).parameters.as_slice().iter().enumerate() {
-        if let Some(Some(columns)) = types.get(place) {
-            if is_relation(parameter, columns) {
-                return true;
-            }
+}
+
+/// Whether some of these parameters stands for a relation.
+fn has_relation(parameters: &[Parameter]) -> bool
+    ensures { result ≡ steps.has_relation parameters.now }
+{
+    for parameter in parameters {
+        if is_relation(parameter) {
+            return true;
         }
     }
     false
+}
+
+/// Adds the field of a parameter, where it stands for a relation, and answers its number.
+fn field_of(
+    alloc: Global,
+    sigs: &[Sig],
+    fields: &mut FieldList,
+    parameter: &Parameter,
+    columns: &Columns,
+) -> Result<Option<u32>, AllocError>
+    ensures { IfOk result
+        (IsTurn (labels sigs.now fields.old) parameter.now fields.old fields.new) }
+{
+    if !is_relation(parameter) {
+        return Ok(None);
+    }
+    let count = fields.len();
+    if count > u32::MAX as usize {
+        return Err(AllocError);
+    }
+    let rows = model_rows(alloc, columns)?;
+    add_field(alloc, sigs, fields, parameter, columns.count, rows)?;
+    Ok(Some(count as u32))
+}
+
+/// The same by the types of all parameters, of which it is the one of this place.
+fn typed_field(
+    alloc: Global,
+    sigs: &[Sig],
+    fields: &mut FieldList,
+    parameter: &Parameter,
+    types: &[Option<Columns>],
+    place: usize,
+) -> Result<Option<u32>, AllocError>
+    ensures { IfOk result
+        (IsTurn (labels sigs.now fields.old) parameter.now fields.old fields.new) }
+{
+    match types.get(place) {
+        Some(Some(columns)) => field_of(alloc, sigs, fields, parameter, columns),
+        _ => Err(AllocError),
+    }
+}
+
+/// Adds the fields of all parameters that stand for relations, and answers their numbers.
+fn fields_of(
+    alloc: Global,
+    sigs: &[Sig],
+    fields: &mut FieldList,
+    parameters: &[Parameter],
+    types: &[Option<Columns>],
+) -> Result<Vec<Option<u32>>, AllocError>
+    ensures fields { IfOk result (λ numbers.
+        AddsFields sigs.now fields.old (relations parameters.now) fields.new) }
+    ensures numbers { IfOk result (λ numbers.
+        numbers.items ≡ fields_from (length fields.old) parameters.now) }
+{
+    let mut numbers = Vec::new(alloc);
+    for place in 0..parameters.len() {
+        let number = typed_field(alloc, sigs, fields, &parameters[place], types, place)?;
+        numbers.push(number)?;
+    }
+    Ok(numbers)
 }
 
 /// The formula of a command over the fields of the parameters, which are added.
@@ -116,16 +134,87 @@ fn formula_of(
     alloc: Global,
     sigs: &[Sig],
     fields: &mut FieldList,
+    body: u32,
+    parameters: &[Parameter],
+    types: &[Option<Columns>],
+) -> Result<Formula, AllocError>
+    ensures fields { IfOk result (λ f.
+        AddsFields sigs.now fields.old (relations parameters.now) fields.new) }
+    ensures formula { IfOk result (λ f. claim_of f ≡
+        run_claim body parameters.now (fields_from (length fields.old) parameters.now)) }
+{
+    let numbers = fields_of(alloc, sigs, fields, parameters, types)?;
+    let formula = run_formula(alloc, body, parameters, numbers.as_slice())?;
+    Ok(formula)
+}
+
+/// The commands, of which one asks another formula.
+fn with_formula(commands: CommandList, command: usize, formula: Formula) -> CommandList
+    ensures { (c : Command) → slice_get commands command ≡ Some c →
+        AskAnother commands command c (claim_of formula) result }
+{
+    let mut all = commands.into_vec();
+    if command >= all.len() {
+        return CommandList::from_vec(all);
+    }
+    all[command].formula = formula;
+    CommandList::from_vec(all)
+}
+
+/// The body of this number, if it has a parameter that stands for a relation.
+fn body_with_relations(bodies: &BodyList, body: Option<u32>) -> Option<u32>
+    ensures none { IfNone result ((b : ℕ) (x : Body) →
+        body ≡ Some b → slice_get bodies.now b ≡ Some x → relations x.parameters ≡ []) }
+    ensures some { IfSome result (λ b. (x : Body) × (body ≡ Some b)
+        × (slice_get bodies.now b ≡ Some x) × (relations x.parameters ≢ [])) }
+{
+    match body {
+        None => None,
+        Some(number) => {
+            let place = number as usize;
+            if place >= bodies.len() {
+                return None;
+            }
+            if has_relation(bodies.get(place).parameters.as_slice()) {
+                return Some(number);
+            }
+            None
+        }
+    }
+}
+
+/// The predicate that a command runs, if it has a parameter that stands for a relation.
+fn relation_body(model: &Model, command: u32) -> Option<u32>
+    ensures none { IfNone result (HasNoRelations model.now command) }
+    ensures some { IfSome result (HasRelations model.now command) }
+{
+    match model.commands.as_slice().get(command as usize) {
+        None => None,
+        Some(chosen) => body_with_relations(&model.bodies, chosen.body),
+    }
+}
+
+/// The formula of a command that runs the body of this number, with the fields that it asks of.
+fn body_formula(
+    alloc: Global,
+    sigs: &SigList,
+    fields: &mut FieldList,
     bodies: &BodyList,
     body: u32,
     types: &[Option<Columns>],
-) -> Result<Formula, AllocError> {
-    if body as usize >= bodies.len() {
-        return Ok(Formula::Every(Vec::new(alloc)));
+) -> Result<Formula, AllocError>
+    ensures fields { IfOk result (λ f. (x : Body) → slice_get bodies.now body ≡ Some x →
+        AddsFields sigs.now fields.old (relations x.parameters) fields.new) }
+    ensures formula { IfOk result (λ f. (x : Body) → slice_get bodies.now body ≡ Some x →
+        claim_of f ≡ run_claim body x.parameters (fields_from (length fields.old) x.parameters)) }
+{
+    let place = body as usize;
+    if place >= bodies.len() {
+        return Err(AllocError);
     }
-    let parameters = bodies.get(body as usize).parameters.as_slice();
-    let numbers = fields_of(alloc, sigs, fields, parameters, types)?;
-    run_formula(alloc, body, parameters, numbers.as_slice())
+    let parameters = bodies.get(place).parameters.as_slice();
+    let formula = formula_of(alloc, sigs.as_slice(), fields, body, parameters, types)?;
+    Ok(formula)
 }
 
 /// The model with a field for each relation parameter of a body, which the command runs.
@@ -135,7 +224,10 @@ fn opened(
     command: u32,
     body: u32,
     types: &[Option<Columns>],
-) -> Result<Model, AllocError> {
+) -> Result<Model, AllocError>
+    ensures { (has : HasRelations model command body) → IfOk result
+        (IsOpenedOver model command has.command body has.body.parameters) }
+{
     let Model {
         sigs,
         fields,
@@ -145,14 +237,15 @@ fn opened(
         commands,
     } = model;
     let mut all = fields;
-    let formula = formula_of(alloc, sigs.as_slice(), &mut all, &bodies, body, types)?;
+    let formula = body_formula(alloc, &sigs, &mut all, &bodies, body, types)?;
+    let commands = with_formula(commands, command as usize, formula);
     Ok(Model {
         sigs,
         fields: all,
         facts,
         asserts,
         bodies,
-        commands: with_formula(commands, command as usize, formula),
+        commands,
     })
 }
 
@@ -162,16 +255,14 @@ fn opened(
 /// what each model keeps; none is known that fails, and the answer to one would be want of memory.
 pub fn open_params(alloc: Global, model: Model, command: u32) -> Result<Model, AllocError>
     requires { IsModelButTypes model }
-    ensures { IfOk result IsModelButTypes }
+    ensures kept { IfOk result IsModelButTypes }
+    ensures opened { IfOk result (IsOpened model command) }
 {
-    let body = match body_of(&model, command) {
+    let body = match relation_body(&model, command) {
         None => return Ok(model),
         Some(body) => body,
     };
     let types = types_of(alloc, &model, body as usize)?;
-    if !has_relation(&model.bodies, body as usize, types.as_slice()) {
-        return Ok(model);
-    }
     let changed = opened(alloc, model, command, body, types.as_slice())?;
     let is_kept = keeps_model(alloc, &changed)?;
     if is_kept {

@@ -1,0 +1,5 @@
+mod Running
+pub mod Labels
+pub mod Made
+pub mod Steps
+pub mod Opening
