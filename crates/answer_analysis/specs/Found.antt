@@ -6,6 +6,7 @@ use Rattle.syntax_tree.specs.declared.loaded.Loaded.{Loaded}
 use Rattle.bound_uppers.specs.Candidates.{IsCandidate}
 use Rattle.bound_uppers.specs.Shortest.{HasFewestStates}
 use Rattle.bound_uppers.specs.Table.{IsTable, bounds_over}
+use Rattle.bound_uppers.specs.Counts.{IsLarge, IsSmall}
 use Rattle.bound_laws.specs.Satisfying.{AreBoundsOf, IsLassoOver}
 use Rattle.bound_laws.specs.Placed.{ArePlaced}
 use Rattle.core_meaning.specs.Kept.{universe_size}
@@ -21,7 +22,9 @@ use Rattle.bound_scopes.specs.Numbers.{IsListed}
 use Rattle.core_laws.specs.Typed.{ExtendsPlain, BoundsNameOwned}
 use Rattle.bound_definitions.specs.Numbers.{AreScopesBy}
 use Rattle.bound_definitions.specs.Refusals.{AreKept, Breaks, IsRefusal, command_rules}
+use Rattle.form_skolem.specs.Opened.{IsOpened}
 use Rattle.form_target.specs.Targets.{IsTargetOf}
+use Rattle.resolve_check.specs.Kept.{IsModelButTypes}
 use Rattle.resolve_model.specs.Refused.{IsOfReadings}
 use Rattle.resolve_places.specs.Places.{IsPlaced}
 use Rattle.answer_search.specs.Clauses.{IsRuledOut, SayTarget}
@@ -38,14 +41,22 @@ use Rattle.answer_analysis.specs.declared.answer.Answer.TheVariants.{Trace, Refu
 use Rattle.answer_analysis.specs.declared.fault.AnalyseFault.{AnalyseFault}
 use Rattle.answer_analysis.specs.declared.fault.AnalyseFault.TheVariants.{Refused, Read, Memory}
 
+-- a model is one that was resolved, in which each relation parameter of the predicate that the command of this number runs is a
+-- field, and over these fields the command asks
+pub record OpensResolved (number : ℕ) (model : Model) : Type 0 where
+  pub resolved : Model
+  pub kept : IsModelButTypes resolved
+  pub opens : IsOpened resolved number model
+
 -- a model made ready for its command of this number: the model keeps what resolved models keep, and no sig of it extends an
 -- `in` sig; each field belongs to a sig, or is one of those that stand for relation parameters and the command places it; the
--- scopes are the ones that the rules give the command, which breaks none of the rules on scopes; the bounds are those of the
--- model and the scopes and have a table; the labels are exactly those of its relations and of its universe, an atom for each
--- number of it, and each text under them is that of one lasso
+-- scopes are the ones that the rules give the command, which breaks none of the rules on scopes, and the table is small enough;
+-- the bounds are those of the model and the scopes and have a table; the labels are exactly those of its relations and of its
+-- universe, an atom for each number of it, and each text under them is that of one lasso
 pub record IsReady (number : ℕ) (ready : Ready) : Type 0 where
   pub kept : IsModel ready.model
   pub plain : ExtendsPlain ready.model.sigs
+  pub opened : OpensResolved number ready.model
   pub command : Command
   pub asked : ready.command ≡ number
   pub chosen : slice_get ready.model.commands number ≡ Some command
@@ -56,6 +67,7 @@ pub record IsReady (number : ℕ) (ready : Ready) : Type 0 where
   pub placed : ArePlaced ready.model (claim_of command.formula)
   pub unbroken : AreKept (Breaks ready.model command ready.scopes) command_rules
   pub listed : All (IsListed ready.scopes.numbers) command.scope
+  pub fits : IsSmall ready.model ready.scopes
   pub table : IsTable ready.bounds
   pub bounds_are : AreBoundsOf ready.model ready.scopes ready.bounds
   pub states : ready.bounds.states ≡ ready.scopes.states
@@ -130,11 +142,11 @@ pub data IsOfCommand (loaded : Loaded) (number : ℕ) (refusal : Refusal) : Type
   no_such : (model : Model) → IsModelIn loaded model → length model.commands ≤ number → refusal ≡ no_command → IsOfCommand loaded number refusal
   on_scopes : (model : Model) → IsModelIn loaded model → (command : Command) → slice_get model.commands number ≡ Some command → IsRefusal model command refusal → IsOfCommand loaded number refusal
   too_large : (model : Model) → IsModelIn loaded model → (command : Command) → slice_get model.commands number ≡ Some command → (scopes : Scopes) → AreScopesBy model command scopes → AreKept (Breaks model command scopes) command_rules →
-      refusal ≡ record { rule = Cells; place = command.keyword } → IsOfCommand loaded number refusal
+      IsLarge model scopes → refusal ≡ record { rule = Cells; place = command.keyword } → IsOfCommand loaded number refusal
 
 -- by a rule on names, sigs, fields and readings, at a place of a text that is loaded; or by one on a command and its scopes
 abbrev pub IsOfModel : Loaded → ℕ → Refusal → Type 0
-IsOfModel loaded number refusal = IsOfReadings (length loaded.texts) refusal ⊎ IsOfCommand loaded number refusal
+IsOfModel loaded number refusal = IsOfReadings loaded.texts loaded.instances refusal ⊎ IsOfCommand loaded number refusal
 
 -- a fault once the model is loaded and its command of this number is asked for: no library is asked then, and a refusal names the
 -- text of its place

@@ -5,6 +5,7 @@ ghost use Rattle.bound_uppers.specs.declared.table.Bound.{Bound};
 ghost use Rattle.bound_uppers.specs.Table.{IsTable, are_fixed};
 ghost use Rattle.bound_owners.specs.Own.{HasOrigins};
 ghost use Rattle.bound_uppers.specs.Uppers.{AreUppers};
+ghost use Rattle.bound_uppers.specs.Counts.{IsSmall};
 ghost use Rattle.core_meaning.specs.Kept.{universe_size};
 ghost use Rattle.answer_analysis.specs.Found.{IsLoadedFault, IsModelIn, IsPrepared, IsReady};
 ghost use Rattle.core_laws.specs.Typed.{ExtendsPlain};
@@ -21,7 +22,7 @@ ghost use Rattle.answer_laws.specs.Form.{HaveLassos};
 use crate::fault::{AnalyseFault, refused_in};
 use answer_checks::{extends_plain, has_universe, have_lassos, is_typed_model, places_fields};
 use answer_trace::{Labels, make_labels};
-use base_types::{Fault, Refusal, Rule};
+use base_types::Fault;
 use bound_scopes::scopes;
 use bound_uppers::{Bounds, bounds};
 use core_meaning::{Scopes, Target};
@@ -72,6 +73,7 @@ fn kept(alloc: Global, loaded: &Loaded, model: Model) -> Result<Model, AllocErro
     requires { IsModelButTypes model }
     ensures model { IfOk result (IsModelIn loaded.now) }
     ensures plain { IfOk result (λ m. ExtendsPlain m.sigs) }
+    ensures same { IfOk result (λ m. m ≡ model) }
 {
     let is_kept = is_typed_model(alloc, &model)?;
     if !is_kept {
@@ -132,18 +134,13 @@ fn bounds_of(
     ensures fixed { IfOk result (λ b. map (λ (c : Bound). c.fixed) b.relations
         ≡ are_fixed model.now) }
     ensures states { IfOk result (λ b. 0 < scopes.now.states → b.states ≡ scopes.now.states) }
+    ensures fits { IfOk result (λ b. IsSmall model.now scopes.now) }
     ensures fault { IfErr result (IsLoadedFault loaded.now command) }
 {
     match bounds(alloc, model, scopes, chosen.keyword) {
         Ok(bounds) => Ok(bounds),
         // The one rule on bounds, which is broken at the command.
-        Err(Fault::Refused(_)) => {
-            let refusal = Refusal {
-                rule: Rule::Cells,
-                place: chosen.keyword,
-            };
-            Err(refused_in(alloc, loaded, command, refusal))
-        }
+        Err(Fault::Refused(refusal)) => Err(refused_in(alloc, loaded, command, refusal)),
         Err(Fault::Memory) => Err(AnalyseFault::Memory),
     }
 }

@@ -19,6 +19,7 @@ use Rattle.cli_words.specs.declared.named.Mode.TheVariants.{Exec, Commands, Lrat
 use Rattle.cli_words.specs.declared.named.Part.{Part}
 use Rattle.cli_words.specs.declared.settings.Settings.{Settings}
 use Rattle.load_modules.specs.Led.{OpensTold}
+use Rattle.load_modules.specs.Reached.{AreReached}
 use Rattle.load_modules.specs.Refused.{RefusesTree}
 use Rattle.load_modules.specs.Told.{LoadsTree}
 use Rattle.load_state.specs.Causes.{Causes, FaultCause}
@@ -140,13 +141,14 @@ module _ (settings : Settings) (held : List (Option Texts)) (text before now : L
 
 -- what is loaded of a tree that the text spells is what is loaded of the text
 pub loaded_of : (held : List (Option Texts)) (root file text : List ℕ) (tree : Module) (loaded : Loaded) → root ≡ file → SpellIn (tokens_of 0 text) tree → LoadsTree held root tree loaded.texts →
-    OpensTold held root loaded.texts loaded.instances → AreDistinct (pairs_of loaded.instances) → IsLoaded held file text loaded
-loaded_of held root file text tree loaded at spells texts opens distinct = record {
+    OpensTold held root loaded.texts loaded.instances → AreDistinct (pairs_of loaded.instances) → AreReached loaded.instances → IsLoaded held file text loaded
+loaded_of held root file text tree loaded at spells texts opens distinct reached = record {
   tree = tree;
   spelled = spells;
   texts = subst (λ n. LoadsTree held n tree loaded.texts) at texts;
   opens = subst (λ n. OpensTold held n loaded.texts loaded.instances) at opens;
   distinct = distinct;
+  reached = reached;
 }
 
 -- a trace is read of a model that was loaded

@@ -6,6 +6,7 @@ use Rattle.syntax_tree.specs.declared.loaded.Loaded.{Loaded}
 use Rattle.syntax_tree.specs.declared.module.Module.{Module}
 use Rattle.load_state.specs.Keys.{AreDistinct, pairs_of}
 use Rattle.load_modules.specs.Led.{OpensTold}
+use Rattle.load_modules.specs.Reached.{AreReached}
 use Rattle.load_modules.specs.Told.{LoadsGiven, LoadsTree}
 use Rattle.cli_model.specs.Root.{SpellIn}
 
@@ -18,8 +19,10 @@ pub record IsLoaded (held : List (Option Texts)) (file text : List ℕ) (loaded 
   pub texts : LoadsTree held file tree loaded.texts
   -- each open leads to an instance of the text that is found for its path, with arguments that fit
   pub opens : OpensTold held file loaded.texts loaded.instances
-  -- and no two instances have one text with equal arguments
+  -- no two instances have one text with equal arguments,
   pub distinct : AreDistinct (pairs_of loaded.instances)
+  -- and there is none but that of the root and those to which opens lead from it
+  pub reached : AreReached loaded.instances
 
 -- the same of a text that may not be there
 abbrev pub IsLoadedIn : List (Option Texts) → List ℕ → Option (List ℕ) → Loaded → Type 0
@@ -32,5 +35,7 @@ pub record IsLoadedText (held : List (Option Texts)) (name text : List ℕ) (loa
   pub texts : LoadsGiven held name text loaded.texts
   -- each open leads to an instance of the text that is found for its path, with arguments that fit
   pub opens : OpensTold held name loaded.texts loaded.instances
-  -- and no two instances have one text with equal arguments
+  -- no two instances have one text with equal arguments,
   pub distinct : AreDistinct (pairs_of loaded.instances)
+  -- and there is none but that of the root and those to which opens lead from it
+  pub reached : AreReached loaded.instances

@@ -56,7 +56,7 @@ pub record RefusesSecond (held : List (Option Texts)) (settings : Settings) (ref
 -- Why a run refuses a text once this is loaded. The first two are said at a place of the loaded text with this name.
 pub data RefusesLoaded (held : List (Option Texts)) (settings : Settings) (loaded : Loaded) (refusal : Refusal) (name : List ℕ) : Type 0 where
   -- a rule on names, sigs, fields and readings is broken,
-  reading : IsOfText loaded refusal name → IsOfReadings (length loaded.texts) refusal → RefusesLoaded held settings loaded refusal name
+  reading : IsOfText loaded refusal name → IsOfReadings loaded.texts loaded.instances refusal → RefusesLoaded held settings loaded refusal name
   -- or one on the command and its scopes,
   scoping : IsOfText loaded refusal name → IsOfCommand loaded settings.command refusal → RefusesLoaded held settings loaded refusal name
   -- or one in the expression,
