@@ -1,6 +1,7 @@
 pub mod Rising
 pub mod Keeping
 pub mod Staying
+pub mod Needing
 pub mod KeptLaw
 pub mod LeastLaw
 pub mod ShrunkLaw

@@ -65,6 +65,6 @@ whole_part target first n dropped is = record {
 -- ---- what the searches show
 
 pub searched_for : (target part : Target) (first : ℕ) (limits : Bounds) (dropped : List Bool) (found : Found) → IsPartOf target first dropped part → SaysTargetWithin part limits found → RulesOut part limits found → IsSearchedFor target first limits dropped found
-searched_for target part first limits dropped (Trace lasso) is says rules = tt
+searched_for target part first limits dropped (Trace lasso) is says rules = λ table. let (other, meets, same) = says table in (part, is, other, meets)
 searched_for target part first limits dropped (Refuted proof) is says rules = (record { part = part; is_part = is; says = says.0; ruled = rules }, says.1)
 searched_for target part first limits dropped (Unknown proof) is says rules = (record { part = part; is_part = is; says = says.0 }, says.1)

@@ -13,7 +13,7 @@ use Rattle.bound_uppers.specs.Table.{IsLaidOut, bounds_over}
 use Rattle.cli_words.specs.declared.named.Part.{Part}
 use Rattle.answer_certificates.specs.Kept.{NoneKeeps}
 use Rattle.core_meaning.specs.Sequence.{LassoValue}
-use Rattle.answer_certificates.specs.Parts.{RuleOut, SayPart}
+use Rattle.answer_certificates.specs.Parts.{AreNeeded, RuleOut, SayPart}
 use Rattle.answer_texts.specs.Certified.{trace_part, above_part, core_part}
 use Rattle.answer_texts.specs.declared.fact.FactName.{FactName}
 use Rattle.sat_lrat.specs.Step.{Refutes}
@@ -134,7 +134,8 @@ pub record ShowsFacts (Rows : List (List ℕ) → Type 0) (cnf : Cnf) (states : 
 
 -- the part that is asked for of facts of a prepared model, each at most once and in order; of clauses over as many states as its
 -- bounds have, which say what the model's target does with these facts alone; and of lines that refute them, so that no lasso
--- satisfies the declarations, these facts and the command, as `NoneKeeps` says it
+-- satisfies the declarations, these facts and the command, as `NoneKeeps` says it, and without any one of them some lasso does, as
+-- `AreNeeded` says it
 pub record ShowsCore (prepared : Prepared) (part : Part) (budget : Option ℕ) (text : List ℕ) : Type 0 where
   pub kept : List ℕ
   pub names : List FactName
@@ -144,6 +145,7 @@ pub record ShowsCore (prepared : Prepared) (part : Part) (budget : Option ℕ) (
   pub cnf : Cnf
   pub ruled : RuleOut prepared.target prepared.first_fact (length prepared.ready.model.facts) prepared.ready.bounds kept cnf
   pub none : (number : ℕ) → IsPrepared number prepared → NoneKeeps prepared kept
+  pub needed : (number : ℕ) → IsPrepared number prepared → AreNeeded prepared.target prepared.first_fact (length prepared.ready.model.facts) prepared.ready.bounds kept
   pub scoped : (number : ℕ) → IsPrepared number prepared → prepared.ready.bounds.states ≡ prepared.ready.scopes.states
   pub shows : ShowsFacts (RowsOf prepared) cnf prepared.ready.bounds.states budget part names text
 

@@ -22,8 +22,8 @@ use syntax_tree::Loaded;
 
 /// Looks for facts that, with the declarations and the command, rule out every trace, and writes
 /// the part that is asked for of what that comes to: a trace where one satisfies all facts. Facts
-/// are dropped one by one as long as the rest rules out every trace; not proved: that each of
-/// those that stay is needed. The budget counts for each search.
+/// are dropped one by one as long as the rest rules out every trace, so that each of those that
+/// stay is needed. The budget counts for each search.
 pub fn core_certificate<C: Chooser>(
     alloc: Global,
     prepared: Prepared,

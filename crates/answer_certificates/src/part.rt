@@ -1,6 +1,6 @@
 //! A target without some of its facts.
 
-ghost use Rattle.std.specs.Prelude.{◌≡◌, ◌++◌, ◌∷◌, [], length, map, IfOk, OnOk, if◌then◌else◌};
+ghost use Rattle.std.specs.Prelude.{◌≡◌, ◌≢◌, ◌<◌, ◌++◌, ◌∷◌, [], ℕ, true, length, map, IfOk, OnOk, if◌then◌else◌};
 ghost use Rattle.core_tree.specs.Trees.{claim_of};
 ghost use Rattle.answer_certificates.specs.Core.{AreKept};
 ghost use Rattle.answer_certificates.specs.Parts.{is_out, stays, IsPartOf, AreLeftOut};
@@ -22,7 +22,9 @@ pub fn is_dropped(dropped: &[bool], fact: usize) -> bool
 
 /// Leaves a fact out.
 pub fn drop_fact(dropped: &mut [bool], fact: usize)
-    ensures { length dropped.new ≡ length dropped.old }
+    ensures count { length dropped.new ≡ length dropped.old }
+    ensures out { fact < length dropped.old → is_out dropped.new fact ≡ true }
+    ensures others { (k : ℕ) → k ≢ fact → is_out dropped.new k ≡ is_out dropped.old k }
 {
     if fact < dropped.len() {
         dropped[fact] = true;

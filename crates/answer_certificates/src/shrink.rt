@@ -1,9 +1,10 @@
 //! The deletion of facts: each that the others do without is left out, one after the other.
 
-ghost use Rattle.std.specs.Prelude.{◌≡◌, length, IfOk};
+ghost use Rattle.std.specs.Prelude.{◌≡◌, ◌≢◌, ◌<◌, ℕ, true, length, IfOk};
 ghost use Rattle.answer_search.specs.Clauses.{IsProofOf, IsRuledOut};
 ghost use Rattle.answer_search.specs.Found.{IsRefuted, IsFoundWithin};
-ghost use Rattle.answer_certificates.specs.Core.{IsCore, IsLeft, IsSearchedFor, IsShrunk, IsTried};
+ghost use Rattle.answer_certificates.specs.Core.{GoesOnFrom, IsCore, IsLeft, IsSearchedFor, IsShrunk, IsTried};
+ghost use Rattle.answer_certificates.specs.Parts.{is_out, AreNeededBelow};
 
 use crate::facts::Core;
 use crate::part::{drop_fact, is_dropped, kept_facts, part_of};
@@ -102,7 +103,11 @@ fn trim<C: Chooser>(
 
 /// The flags, with one fact more that is left out.
 fn without(alloc: Global, dropped: &[bool], fact: usize) -> Result<Vec<bool>, AllocError>
-    ensures { IfOk result (λ flags. length flags.items ≡ length dropped.now) }
+    ensures count { IfOk result (λ flags. length flags.items ≡ length dropped.now) }
+    ensures out { fact < length dropped.now →
+        IfOk result (λ flags. is_out flags.items fact ≡ true) }
+    ensures others { (k : ℕ) → k ≢ fact → IfOk result (λ flags. is_out flags.items k
+        ≡ is_out dropped.now k) }
 {
     let mut flags = dropped.to_vec(alloc)?;
     drop_fact(&mut flags, fact);
@@ -117,10 +122,13 @@ fn leave_out<C: Chooser>(
     fact: usize,
     chooser: &mut C,
 ) -> Result<Tried, AllocError>
-    requires { IsLeft question.now.target.now question.now.first question.now.facts
+    requires left { IsLeft question.now.target.now question.now.first question.now.facts
         question.now.limits.now question.now.budget left }
-    ensures { IfOk result (IsTried question.now.target.now question.now.first question.now.facts
-        question.now.limits.now question.now.budget) }
+    requires within { fact < question.now.facts }
+    ensures tried { IfOk result (IsTried question.now.target.now question.now.first
+        question.now.facts question.now.limits.now question.now.budget) }
+    ensures goes_on { IfOk result (GoesOnFrom question.now.target.now question.now.first
+        question.now.limits.now fact left.dropped.items) }
 {
     if is_dropped(&left.dropped, fact) {
         return Ok(Tried::Left(left));
@@ -135,8 +143,10 @@ fn leave_out<C: Chooser>(
 
 /// The facts that are kept.
 fn facts_of(alloc: Global, question: &Question, left: Left) -> Result<Core, AllocError>
-    requires { IsLeft question.now.target.now question.now.first question.now.facts
+    requires left { IsLeft question.now.target.now question.now.first question.now.facts
         question.now.limits.now question.now.budget left }
+    requires needed { AreNeededBelow question.now.target.now question.now.first
+        question.now.limits.now left.dropped.items question.now.facts }
     ensures { IfOk result (IsShrunk question.now.target.now question.now.first question.now.facts
         question.now.limits.now question.now.budget) }
 {
@@ -171,7 +181,8 @@ fn shrink<C: Chooser>(
 }
 
 /// Facts of the target, whose formulas are `facts` ones from `first_fact` on, that rule out every lasso together with its
-/// other formulas, where each of them is tried in order and left out if it can be; or a lasso that keeps all.
+/// other formulas, where each of them is tried in order and left out if it can be; or a lasso that keeps all. So each fact that
+/// stays is needed: without it a lasso meets what is asked.
 ///
 /// The last formula of the target is the command's and stands behind those of the facts. The bounds are those of the model,
 /// and each search is within them. The budget counts for each search. The only error is want of memory.

@@ -3,7 +3,7 @@ use Rattle.std.specs.List.{All}
 use Rattle.answer_texts.specs.Table.{IsTableOf}
 use Rattle.answer_certificates.specs.Certificate.{ShowsFacts}
 use Rattle.answer_certificates.specs.Core.{IsCore}
-use Rattle.answer_certificates.specs.Parts.{RuleOut, SayPart}
+use Rattle.answer_certificates.specs.Parts.{AreNeeded, RuleOut, SayPart}
 use Rattle.answer_certificates.specs.declared.facts.Core.{Core}
 use Rattle.answer_certificates.proofs.kept.core_in.Goals as goal
 
@@ -41,6 +41,7 @@ returns-in_ok-text-in-Refuted g c =
       cnf = proof.cnf;
       ruled = ruled;
       none = λ number made. c.kept_facts_rule_out.ensures number p c.in-Refuted.kept proof.cnf made ruled;
+      needed = λ number made. subst (λ (n : ℕ). AreNeeded p.target p.first_fact n p.ready.bounds c.in-Refuted.kept) c.in_ok-facts.ensures (found.4 made.ready.table);
       scoped = λ number made. made.ready.states;
       shows = subst (λ (n : ℕ). ShowsFacts (IsTableOf p.ready.labels p.ready.bounds) proof.cnf n c.args.budget c.args.part c.in_ok-names-in-Refuted.names c.in_ok-text-in-Refuted.text) found.1.0
           (c.in_ok-text-in-Refuted.ensures c.args.budget found.1.2);
