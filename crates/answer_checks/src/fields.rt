@@ -297,7 +297,8 @@ fn known_in(
 }
 
 /// Whether each field belongs to a sig or is placed by a formula, and the bounds of fields name only fields of sigs. It takes
-/// time linear in the model, but for the types of bounds, whose time is that of their rows. Errors where memory runs out.
+/// time linear in the model, but for the types of bounds, whose time is that of their rows, and for the names that the formula
+/// binds, of which each adds a copy of those before it. Errors where memory runs out.
 pub fn places_fields(alloc: Global, model: &Model, formula: &Formula) -> Result<bool, AllocError>
     requires { IsModel model.now }
     ensures named { IfOk result (λ b. IsTrue b → BoundsNameOwned model.now) }

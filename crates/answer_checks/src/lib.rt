@@ -1,8 +1,9 @@
 //! Tests on an answer: that each text under some labels is that of one lasso, that a lasso is one of the labels, that the types
-//! of a model's fields are those of their declarations, and that no sig of it extends an `in` sig.
+//! of a model's fields are those of their declarations, that no sig of it extends an `in` sig, and that each field belongs to a
+//! sig or is placed by the formula of a command.
 //!
-//! Each takes time linear in what it tests, but for the types of fields, whose time is that of their rows. Two laws say what
-//! a model keeps by what is tested of it.
+//! Each takes time linear in what it tests, but for the types of fields and bounds, whose time is that of their rows, and for the
+//! names over a formula, which are copied where it adds one. Two laws say what a model keeps by what is tested of it.
 #![tactic(auto)]
 
 mod below;
