@@ -17,28 +17,19 @@ use Rattle.syntax_tree.specs.declared.module.Sig.{Sig}
 use Rattle.syntax_tree.specs.declared.module.Paragraph.{Paragraph}
 use Rattle.syntax_tree.specs.declared.module.Paragraph.TheVariants as paragraph
 use Rattle.syntax_tree.specs.declared.instance.Text.{Text}
-use Rattle.syntax_tree.specs.declared.instance.SigRef.{SigRef}
 use Rattle.syntax_tree.specs.declared.instance.Instance.{Instance}
 use Rattle.syntax_tree.specs.Instances.{sigs_in, sig_count}
 use Rattle.resolve_names.specs.declared.table.Decl.{Decl}
 use Rattle.resolve_names.specs.declared.table.Decl.TheVariants as decl
 use Rattle.resolve_names.specs.declared.table.Namespace.{Namespace}
 use Rattle.resolve_names.specs.Visible.{AreCandidates}
-use Rattle.resolve_names.specs.Gathered.{module_in}
+use Rattle.resolve_names.specs.Gathered.{module_in, number_in}
 use Rattle.resolve_names.specs.Twice.{IsBefore}
 use Rattle.resolve_types.specs.declared.member.Member.{Member}
 use Rattle.resolve_types.specs.declared.member.Member.TheVariants as member
 use Rattle.resolve_hierarchy.specs.declared.sigs.Kind.{Kind}
 use Rattle.resolve_hierarchy.specs.declared.sigs.Kind.TheVariants as kind
 use Rattle.resolve_hierarchy.specs.Above.{Sigs, IsSubset, IsAncestor, IsMember}
-
-abbrev first_sig_of : Option Namespace → ℕ
-first_sig_of None = 0
-first_sig_of (Some scope) = scope.first_sig
-
--- the number of a sig over all instances
-abbrev pub number_in : List Namespace → SigRef → ℕ
-number_in scopes r = first_sig_of (slice_get scopes r.instance) + r.sig
 
 -- what a declaration is as a parent
 abbrev pub member_of : List Namespace → Decl → Option Member

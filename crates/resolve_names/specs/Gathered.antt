@@ -33,11 +33,11 @@ abbrev pub named_from : (ℕ → Decl) → Bool → ℕ → List Named → List 
 named_from what is_private n [] = []
 named_from what is_private n (name ∷ names) = declared_as is_private (what n) name ∷ named_from what is_private (n + 1) names
 
-abbrev is_private_qualifier : Qualifier → Bool
+abbrev pub is_private_qualifier : Qualifier → Bool
 is_private_qualifier qualifier.Private = true
 is_private_qualifier _ = false
 
-abbrev is_private_word : FieldWord → Bool
+abbrev pub is_private_word : FieldWord → Bool
 is_private_word word.Private = true
 is_private_word _ = false
 
@@ -86,16 +86,29 @@ parameters_with [] arguments = []
 parameters_with (p ∷ ps) [] = declared_as false (decl.Parameter None) p.name ∷ parameters_with ps []
 parameters_with (p ∷ ps) (argument ∷ arguments) = declared_as false (decl.Parameter argument) p.name ∷ parameters_with ps arguments
 
+-- what a parameter stands for whose argument may be missing
+abbrev pub argument_in : Option (Option SigRef) → Option SigRef
+argument_in None = None
+argument_in (Some argument) = argument
+
 abbrev pub parameters_of : Option Header → List Parameter
 parameters_of None = []
 parameters_of (Some h) = h.parameters
+
+abbrev pub link_as : Bool → Opened → Link
+link_as is_private o = record { alias = o.alias; is_private = is_private; instance = o.instance }
 
 -- The opens of an instance: the written ones are private where `private` stands before them,
 -- and the implied ones, which come after them, aren't.
 abbrev pub links_from : List Open → List Opened → List Link
 links_from written [] = []
-links_from [] (o ∷ os) = record { alias = o.alias; is_private = false; instance = o.instance } ∷ links_from [] os
-links_from (w ∷ ws) (o ∷ os) = record { alias = o.alias; is_private = w.is_private; instance = o.instance } ∷ links_from ws os
+links_from [] (o ∷ os) = link_as false o ∷ links_from [] os
+links_from (w ∷ ws) (o ∷ os) = link_as w.is_private o ∷ links_from ws os
+
+-- whether an open is private, which may not be written
+abbrev pub is_private_open : Option Open → Bool
+is_private_open None = false
+is_private_open (Some w) = w.is_private
 
 abbrev no_module : Module
 no_module = record { header = None; opens = []; paragraphs = [] }
@@ -104,18 +117,40 @@ abbrev pub module_in : Option Text → Module
 module_in None = no_module
 module_in (Some text) = text.tree
 
--- The names of the instances from number i on; before them stand s sigs, f fields and b bodies.
+-- the names of the instance of number i; before it stand s sigs, f fields and b bodies
+abbrev pub scope_of : Module → ℕ → ℕ → ℕ → ℕ → Instance → Namespace
+scope_of m i s f b x = record {
+  first_sig = s;
+  sigs = sig_count m;
+  declared = parameters_with (parameters_of m.header) x.arguments ++ declared_by_all i 0 f b m.paragraphs;
+  opens = links_from m.opens x.opens;
+}
+
+-- the module of an instance
+abbrev pub module_of : List Text → Instance → Module
+module_of texts x = module_in (slice_get texts x.text)
+
+abbrev pub field_total : Module → ℕ
+field_total m = sum_by fields_in m.paragraphs
+
+abbrev pub body_total : Module → ℕ
+body_total m = sum_by bodies_in m.paragraphs
+
+-- the names of the instances from number i on; before them stand s sigs, f fields and b bodies
 abbrev pub scopes_from : List Text → ℕ → ℕ → ℕ → ℕ → List Instance → List Namespace
 scopes_from texts i s f b [] = []
 scopes_from texts i s f b (x ∷ xs) =
-    let m = module_in (slice_get texts x.text) in
-    record {
-      first_sig = s;
-      sigs = sig_count m;
-      declared = parameters_with (parameters_of m.header) x.arguments ++ declared_by_all i 0 f b m.paragraphs;
-      opens = links_from m.opens x.opens;
-    } ∷ scopes_from texts (i + 1) (s + sig_count m) (f + sum_by fields_in m.paragraphs) (b + sum_by bodies_in m.paragraphs) xs
+    let m = module_of texts x in
+    scope_of m i s f b x ∷ scopes_from texts (i + 1) (s + sig_count m) (f + field_total m) (b + body_total m) xs
 
 -- the names of all instances, in load order
 abbrev pub scopes_of : List Text → List Instance → List Namespace
 scopes_of texts instances = scopes_from texts 0 0 0 0 instances
+
+abbrev first_sig_of : Option Namespace → ℕ
+first_sig_of None = 0
+first_sig_of (Some scope) = scope.first_sig
+
+-- the number of a sig over all instances
+abbrev pub number_in : List Namespace → SigRef → ℕ
+number_in scopes r = first_sig_of (slice_get scopes r.instance) + r.sig

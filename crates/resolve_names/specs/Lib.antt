@@ -3,6 +3,7 @@ pub mod Marks
 pub mod Lookup
 pub mod Refused
 pub mod Gathered
+pub mod Entries
 pub mod Twice
 pub mod Noted
 pub mod Indexed

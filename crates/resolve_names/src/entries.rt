@@ -1,259 +1,271 @@
-//! Each sig, field and body that a text declares gets a number.
+//! Where the sigs, the fields and the bodies of all instances are declared: a list of each.
 
-use crate::table::{BodyEntry, Decl, Declared, FieldEntry, SigEntry};
+ghost use Rattle.std.specs.Prelude.{◌≡◌, ◌+◌, ◌++◌, length, replicate, slice_get, sum_by, IfOk, OnOk};
+ghost use Rattle.syntax_tree.specs.Instances.{sigs_in};
+ghost use Rattle.resolve_names.specs.Gathered.{bodies_in, module_of};
+ghost use Rattle.resolve_names.specs.Entries.{numbered, sig_entry, field_entry, sig_entries_in, sig_entries_from, field_entries_of, field_entries_each, field_entries_by, field_entries_in, field_entries_from, body_entries_in, body_entries_from};
+
+use crate::numbers::{after, number};
+use crate::source::module_of;
+use crate::table::{BodyEntry, FieldEntry, SigEntry};
 use base_lists::Items;
-use base_types::Name;
 use std::alloc::{AllocError, Global};
-use syntax_tree::{
-    Enumeration, Field, FieldWord, Header, Instance, Module, Named, Paragraph, Qualifier, Sig,
-    SigRef,
-};
+use syntax_tree::{Field, Instance, Paragraph, Text};
 
-/// What was declared so far, in load order and then text order.
-#[derive(Drop)]
-pub struct Tables {
-    pub sigs: Vec<SigEntry>,
-    pub fields: Vec<FieldEntry>,
-    pub bodies: Vec<BodyEntry>,
+/// How many sigs a paragraph declares.
+fn sigs_in(paragraph: &Paragraph) -> usize
+    ensures { result ≡ sigs_in paragraph.now }
+{
+    match paragraph {
+        Paragraph::Sig(sig) => sig.names.len(),
+        Paragraph::Enum(e) => 1 + e.members.as_slice().len(),
+        Paragraph::Fact(_) => 0,
+        Paragraph::Assert(_) => 0,
+        Paragraph::Pred(_) => 0,
+        Paragraph::Fun(_) => 0,
+        Paragraph::Command(_) => 0,
+    }
 }
 
-/// A paragraph of an instance.
-#[derive(Clone, Copy, Debug, Drop)]
-struct Spot {
+/// How many predicates and functions it declares.
+fn bodies_in(paragraph: &Paragraph) -> usize
+    ensures { result ≡ bodies_in paragraph.now }
+{
+    match paragraph {
+        Paragraph::Sig(_) => 0,
+        Paragraph::Enum(_) => 0,
+        Paragraph::Fact(_) => 0,
+        Paragraph::Assert(_) => 0,
+        Paragraph::Pred(_) => 1,
+        Paragraph::Fun(_) => 1,
+        Paragraph::Command(_) => 0,
+    }
+}
+
+/// So many sigs of a paragraph.
+fn push_sigs(
     instance: u32,
     paragraph: u32,
-    /// The number of the instance's first sig.
-    first_sig: u32,
-}
-
-/// The number of the next one after so many. The declared names of all instances are fewer than
-/// 2^32 - 1, so that the last number is never met.
-pub fn number_after(count: usize) -> u32 {
-    if count < 4_294_967_295 {
-        count as u32
-    } else {
-        4_294_967_295
-    }
-}
-
-fn add_declared(
-    alloc: Global,
-    declared: &mut Items<Declared>,
-    name: &Name,
-    is_private: bool,
-    what: Decl,
-) -> Result<(), AllocError> {
-    let name = Name::copy(alloc, name.text())?;
-    declared.push(Declared {
-        name,
-        is_private,
-        what,
-    })
-}
-
-fn is_private_sig(qualifiers: &[Qualifier]) -> bool {
-    for qualifier in qualifiers {
-        if matches!(*qualifier, Qualifier::Private) {
-            return true;
-        }
-    }
-    false
-}
-
-fn is_private_field(words: &[FieldWord]) -> bool {
-    for word in words {
-        if matches!(*word, FieldWord::Private) {
-            return true;
-        }
-    }
-    false
-}
-
-/// The parameters of a module, each with its argument.
-fn add_parameters(
-    alloc: Global,
-    header: &Option<Header>,
-    instance: &Instance,
-    declared: &mut Items<Declared>,
-) -> Result<(), AllocError> {
-    let header = match header {
-        None => return Ok(()),
-        Some(header) => header,
-    };
-    let parameters = header.parameters.as_slice();
-    let arguments = instance.arguments.as_slice();
-    for place in 0..parameters.len() {
-        let argument = match arguments.get(place) {
-            None => None,
-            Some(argument) => *argument,
-        };
-        let name = &parameters[place].name.name;
-        add_declared(alloc, declared, name, false, Decl::Parameter(argument))?;
-    }
-    Ok(())
-}
-
-/// A sig; the answer is its number.
-fn add_sig(
-    alloc: Global,
-    spot: Spot,
-    member: usize,
-    name: &Named,
-    is_private: bool,
-    tables: &mut Tables,
-    declared: &mut Items<Declared>,
-) -> Result<u32, AllocError> {
-    let number = number_after(tables.sigs.len());
-    tables.sigs.push(SigEntry {
-        instance: spot.instance,
-        paragraph: spot.paragraph,
-        member: number_after(member),
-    })?;
-    let sig = SigRef {
-        instance: spot.instance,
-        sig: number.saturating_sub(spot.first_sig),
-    };
-    add_declared(alloc, declared, &name.name, is_private, Decl::Sig(sig))?;
-    Ok(number)
-}
-
-/// The fields of one list of names.
-fn add_group(
-    alloc: Global,
-    spot: Spot,
-    sig: u32,
-    group: usize,
-    field: &Field,
-    tables: &mut Tables,
-    declared: &mut Items<Declared>,
-) -> Result<(), AllocError> {
-    let is_private = is_private_field(field.words.as_slice());
-    let names = field.names.as_slice();
-    for member in 0..names.len() {
-        let number = number_after(tables.fields.len());
-        tables.fields.push(FieldEntry {
-            sig,
-            instance: spot.instance,
-            paragraph: spot.paragraph,
-            group: number_after(group),
-            member: number_after(member),
+    count: usize,
+    all: &mut Items<SigEntry>,
+) -> Result<(), AllocError>
+    ensures { OnOk result (all.new ≡ all.old ++ numbered (sig_entry instance paragraph) 0 count) }
+{
+    for place in 0..count {
+        let member = number(place)?;
+        all.push(SigEntry {
+            instance,
+            paragraph,
+            member,
         })?;
-        let name = &names[member].name;
-        add_declared(alloc, declared, name, is_private, Decl::Field(number))?;
     }
     Ok(())
 }
 
-fn add_fields(
-    alloc: Global,
-    spot: Spot,
-    sig: u32,
-    fields: &[Field],
-    tables: &mut Tables,
-    declared: &mut Items<Declared>,
-) -> Result<(), AllocError> {
-    for group in 0..fields.len() {
-        add_group(alloc, spot, sig, group, &fields[group], tables, declared)?;
-    }
-    Ok(())
-}
-
-/// The sigs of a paragraph, each with its fields after it.
-fn add_sigs(
-    alloc: Global,
-    spot: Spot,
-    paragraph: &Sig,
-    tables: &mut Tables,
-    declared: &mut Items<Declared>,
-) -> Result<(), AllocError> {
-    let is_private = is_private_sig(paragraph.qualifiers.as_slice());
-    let names = paragraph.names.as_slice();
-    for member in 0..names.len() {
-        let name = &names[member];
-        let sig = add_sig(alloc, spot, member, name, is_private, tables, declared)?;
-        let fields = paragraph.fields.as_slice();
-        add_fields(alloc, spot, sig, fields, tables, declared)?;
-    }
-    Ok(())
-}
-
-/// An enum, and its members after it.
-fn add_enum(
-    alloc: Global,
-    spot: Spot,
-    paragraph: &Enumeration,
-    tables: &mut Tables,
-    declared: &mut Items<Declared>,
-) -> Result<(), AllocError> {
-    add_sig(alloc, spot, 0, &paragraph.name, false, tables, declared)?;
-    let members = paragraph.members.as_slice();
-    for member in 0..members.len() {
-        let place = member.saturating_add(1);
-        add_sig(
-            alloc,
-            spot,
-            place,
-            &members[member],
-            false,
-            tables,
-            declared,
-        )?;
-    }
-    Ok(())
-}
-
-/// A predicate or a function.
-fn add_body(
-    alloc: Global,
-    spot: Spot,
-    name: &Named,
-    is_private: bool,
-    tables: &mut Tables,
-    declared: &mut Items<Declared>,
-) -> Result<(), AllocError> {
-    let number = number_after(tables.bodies.len());
-    tables.bodies.push(BodyEntry {
-        instance: spot.instance,
-        paragraph: spot.paragraph,
-    })?;
-    add_declared(alloc, declared, &name.name, is_private, Decl::Body(number))
-}
-
-fn add_paragraph(
-    alloc: Global,
-    spot: Spot,
-    paragraph: &Paragraph,
-    tables: &mut Tables,
-    declared: &mut Items<Declared>,
-) -> Result<(), AllocError> {
-    match paragraph {
-        Paragraph::Sig(sig) => add_sigs(alloc, spot, sig, tables, declared),
-        Paragraph::Enum(e) => add_enum(alloc, spot, e, tables, declared),
-        Paragraph::Pred(p) => add_body(alloc, spot, &p.name, p.is_private, tables, declared),
-        Paragraph::Fun(f) => add_body(alloc, spot, &f.name, f.is_private, tables, declared),
-        _ => Ok(()),
-    }
-}
-
-/// The names that an instance declares, in text order.
-pub fn declared_in(
-    alloc: Global,
-    number: u32,
-    instance: &Instance,
-    module: &Module,
-    tables: &mut Tables,
-) -> Result<Items<Declared>, AllocError> {
-    let mut declared = Items::new(alloc);
-    add_parameters(alloc, &module.header, instance, &mut declared)?;
-    let first_sig = number_after(tables.sigs.len());
-    let paragraphs = module.paragraphs.as_slice();
+/// The sigs of the paragraphs of an instance.
+fn push_sigs_in(
+    instance: u32,
+    paragraphs: &[Paragraph],
+    all: &mut Items<SigEntry>,
+) -> Result<(), AllocError>
+    ensures { OnOk result (all.new ≡ all.old ++ sig_entries_in instance 0 paragraphs.now) }
+{
     for place in 0..paragraphs.len() {
-        let spot = Spot {
-            instance: number,
-            paragraph: number_after(place),
-            first_sig,
-        };
-        add_paragraph(alloc, spot, &paragraphs[place], tables, &mut declared)?;
+        let count = sigs_in(&paragraphs[place]);
+        let paragraph = number(place)?;
+        push_sigs(instance, paragraph, count, all)?;
     }
-    Ok(declared)
+    Ok(())
+}
+
+/// The sigs of all instances.
+pub fn sig_entries(
+    alloc: Global,
+    texts: &[Text],
+    instances: &[Instance],
+) -> Result<Items<SigEntry>, AllocError>
+    ensures { IfOk result (λ all. all ≡ sig_entries_from texts.now 0 instances.now) }
+{
+    let mut all = Items::new(alloc);
+    for place in 0..instances.len() {
+        let tree = module_of(texts, &instances[place])?;
+        let instance = number(place)?;
+        push_sigs_in(instance, tree.paragraphs.as_slice(), &mut all)?;
+    }
+    Ok(all)
+}
+
+/// So many predicates and functions of a paragraph.
+fn push_bodies(count: usize, entry: BodyEntry, all: &mut Items<BodyEntry>) -> Result<(), AllocError>
+    ensures { OnOk result (all.new ≡ all.old ++ replicate count entry) }
+{
+    for _body in 0..count {
+        all.push(entry)?;
+    }
+    Ok(())
+}
+
+/// The predicates and functions of the paragraphs of an instance.
+fn push_bodies_in(
+    instance: u32,
+    paragraphs: &[Paragraph],
+    all: &mut Items<BodyEntry>,
+) -> Result<(), AllocError>
+    ensures { OnOk result (all.new ≡ all.old ++ body_entries_in instance 0 paragraphs.now) }
+{
+    for place in 0..paragraphs.len() {
+        let count = bodies_in(&paragraphs[place]);
+        let paragraph = number(place)?;
+        let entry = BodyEntry {
+            instance,
+            paragraph,
+        };
+        push_bodies(count, entry, all)?;
+    }
+    Ok(())
+}
+
+/// The predicates and functions of all instances.
+pub fn body_entries(
+    alloc: Global,
+    texts: &[Text],
+    instances: &[Instance],
+) -> Result<Items<BodyEntry>, AllocError>
+    ensures { IfOk result (λ all. all ≡ body_entries_from texts.now 0 instances.now) }
+{
+    let mut all = Items::new(alloc);
+    for place in 0..instances.len() {
+        let tree = module_of(texts, &instances[place])?;
+        let instance = number(place)?;
+        push_bodies_in(instance, tree.paragraphs.as_slice(), &mut all)?;
+    }
+    Ok(all)
+}
+
+/// The fields of one list of so many names.
+fn push_fields(
+    sig: u32,
+    instance: u32,
+    paragraph: u32,
+    group: u32,
+    count: usize,
+    all: &mut Items<FieldEntry>,
+) -> Result<(), AllocError>
+    ensures { OnOk result (all.new ≡ all.old
+        ++ numbered (field_entry sig instance paragraph group) 0 count) }
+{
+    for place in 0..count {
+        let member = number(place)?;
+        all.push(FieldEntry {
+            sig,
+            instance,
+            paragraph,
+            group,
+            member,
+        })?;
+    }
+    Ok(())
+}
+
+/// The fields of a sig.
+fn push_fields_of(
+    sig: u32,
+    instance: u32,
+    paragraph: u32,
+    groups: &[Field],
+    all: &mut Items<FieldEntry>,
+) -> Result<(), AllocError>
+    ensures { OnOk result (all.new ≡ all.old
+        ++ field_entries_of sig instance paragraph 0 groups.now) }
+{
+    for place in 0..groups.len() {
+        let group = number(place)?;
+        let count = groups[place].names.len();
+        push_fields(sig, instance, paragraph, group, count, all)?;
+    }
+    Ok(())
+}
+
+/// The fields of so many sigs of a paragraph, from a number on.
+fn push_fields_each(
+    first: u32,
+    instance: u32,
+    paragraph: u32,
+    groups: &[Field],
+    count: usize,
+    all: &mut Items<FieldEntry>,
+) -> Result<(), AllocError>
+    ensures { OnOk result (all.new ≡ all.old
+        ++ field_entries_each first instance paragraph groups.now count) }
+{
+    for place in 0..count {
+        let sig = after(first, place)?;
+        push_fields_of(sig, instance, paragraph, groups, all)?;
+    }
+    Ok(())
+}
+
+/// The fields of a paragraph.
+fn push_fields_by(
+    first: u32,
+    instance: u32,
+    place: u32,
+    paragraph: &Paragraph,
+    all: &mut Items<FieldEntry>,
+) -> Result<(), AllocError>
+    ensures { OnOk result (all.new ≡ all.old
+        ++ field_entries_by first instance place paragraph.now) }
+{
+    match paragraph {
+        Paragraph::Sig(sig) => {
+            let groups = sig.fields.as_slice();
+            push_fields_each(first, instance, place, groups, sig.names.len(), all)?;
+            Ok(())
+        }
+        Paragraph::Enum(_) => Ok(()),
+        Paragraph::Fact(_) => Ok(()),
+        Paragraph::Assert(_) => Ok(()),
+        Paragraph::Pred(_) => Ok(()),
+        Paragraph::Fun(_) => Ok(()),
+        Paragraph::Command(_) => Ok(()),
+    }
+}
+
+/// The fields of the paragraphs of an instance; the answer is the number of the sig behind them.
+fn push_fields_in(
+    first: u32,
+    instance: u32,
+    paragraphs: &[Paragraph],
+    all: &mut Items<FieldEntry>,
+) -> Result<u32, AllocError>
+    ensures fields { OnOk result (all.new ≡ all.old
+        ++ field_entries_in first instance 0 paragraphs.now) }
+    ensures next { IfOk result (λ s. s ≡ first + sum_by sigs_in paragraphs.now) }
+{
+    let mut sig = first;
+    for place in 0..paragraphs.len() {
+        let paragraph = &paragraphs[place];
+        let number = number(place)?;
+        push_fields_by(sig, instance, number, paragraph, all)?;
+        sig = after(sig, sigs_in(paragraph))?;
+    }
+    Ok(sig)
+}
+
+/// The fields of all instances.
+pub fn field_entries(
+    alloc: Global,
+    texts: &[Text],
+    instances: &[Instance],
+) -> Result<Items<FieldEntry>, AllocError>
+    ensures { IfOk result (λ all. all ≡ field_entries_from texts.now 0 0 instances.now) }
+{
+    let mut all = Items::new(alloc);
+    let mut sig = 0;
+    for place in 0..instances.len() {
+        let tree = module_of(texts, &instances[place])?;
+        let instance = number(place)?;
+        sig = push_fields_in(sig, instance, tree.paragraphs.as_slice(), &mut all)?;
+    }
+    Ok(all)
 }

@@ -1,12 +1,14 @@
 //! The names of all modules: what each declares, what each sees, and what a name stands for.
 #![tactic(auto)]
 
+mod declared;
 mod entries;
 mod follow;
 mod gather;
 mod index;
 mod links;
 mod lookup;
+mod numbers;
 mod reach;
 mod source;
 mod table;

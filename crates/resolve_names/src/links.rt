@@ -1,6 +1,7 @@
 //! An instance has its opens as links to other instances.
 
-ghost use Rattle.std.specs.Prelude.{◌<◌, All, IfOk, OnOk};
+ghost use Rattle.std.specs.Prelude.{◌≡◌, ◌<◌, ◌++◌, ◌∷◌, [], All, slice_get, IfOk, OnOk};
+ghost use Rattle.resolve_names.specs.Gathered.{is_private_open, link_as, links_from};
 
 use crate::table::Link;
 use base_lists::Items;
@@ -10,29 +11,31 @@ use syntax_tree::{Open, Opened};
 
 /// Whether the open of that place is written and private. The opens that enums imply, and the
 /// implicit one, come after the written ones and aren't private.
-fn is_private(written: &[Open], place: usize) -> bool {
+fn is_private(written: &[Open], place: usize) -> bool
+    ensures { result ≡ is_private_open (slice_get written.now place) }
+{
     match written.get(place) {
         None => false,
         Some(open) => open.is_private,
     }
 }
 
-/// Adds an open, where it leads to one of so many instances.
-fn add_link(
+/// An open, which leads to one of so many instances. Each does, so that want of memory is never
+/// met.
+fn link_of(
     alloc: Global,
     opened: &Opened,
     is_private: bool,
     count: usize,
-    links: &mut Items<Link>,
-) -> Result<(), AllocError>
-    requires { All (λ l. l.instance < count) links.old }
-    ensures { OnOk result (All (λ l. l.instance < count) links.new) }
+) -> Result<Link, AllocError>
+    ensures link { IfOk result (λ l. l ≡ link_as is_private opened.now) }
+    ensures inside { IfOk result (λ l. l.instance < count) }
 {
     if opened.instance as usize >= count {
-        return Ok(());
+        return Err(AllocError);
     }
     let alias = Name::copy(alloc, opened.alias.text())?;
-    links.push(Link {
+    Ok(Link {
         alias,
         is_private,
         instance: opened.instance,
@@ -46,12 +49,14 @@ pub fn links_of(
     written: &[Open],
     count: usize,
 ) -> Result<Items<Link>, AllocError>
-    ensures { IfOk result (All (λ l. l.instance < count)) }
+    ensures links { IfOk result (λ links. links ≡ links_from written.now opens.now) }
+    ensures inside { IfOk result (All (λ l. l.instance < count)) }
 {
     let mut links = Items::new(alloc);
     for place in 0..opens.len() {
         let hidden = is_private(written, place);
-        add_link(alloc, &opens[place], hidden, count, &mut links)?;
+        let link = link_of(alloc, &opens[place], hidden, count)?;
+        links.push(link)?;
     }
     Ok(links)
 }

@@ -1,7 +1,8 @@
 //! A name stands for declarations of the instances that its own instance reaches.
 
-ghost use Rattle.std.specs.Prelude.{◌≡◌, [], ◌++◌, ◌<◌, ◌==◌, length, slice_get, IfOk, OnOk};
+ghost use Rattle.std.specs.Prelude.{◌≡◌, [], ◌+◌, ◌++◌, ◌<◌, ◌==◌, length, slice_get, IfOk, IfSome, OnOk};
 ghost use Rattle.std.specs.List.{cons_option};
+ghost use Rattle.resolve_names.specs.Gathered.{number_in};
 ghost use Rattle.resolve_names.specs.Lookup.{has_name, seen_in, seen_of, seen_from};
 ghost use Rattle.resolve_names.specs.Marks.{AreLed};
 ghost use Rattle.resolve_names.specs.Visible.{AreCandidates, path_of};
@@ -78,6 +79,16 @@ fn all_seen(
     Ok(all)
 }
 
+/// The number over all instances of a sig of an instance; None where it has none of that number.
+fn number_of(scope: &Namespace, sig: u32) -> Option<u32>
+    ensures { IfSome result (λ n. n ≡ scope.now.first_sig + sig) }
+{
+    if sig >= scope.sigs {
+        return None;
+    }
+    scope.first_sig.checked_add(sig)
+}
+
 impl Names {
     /// What a name stands for where it is written in an instance: the visible declarations of that
     /// name, in load order and then text order.
@@ -105,10 +116,12 @@ impl Names {
     }
 
     /// The number of a sig over all instances; None where it names no sig.
-    pub fn sig_number(&self, sig: SigRef) -> Option<u32> {
+    pub fn sig_number(&self, sig: SigRef) -> Option<u32>
+        ensures { IfSome result (λ n. n ≡ number_in self.now.scopes sig) }
+    {
         match self.scopes.as_slice().get(sig.instance as usize) {
-            Some(scope) if sig.sig < scope.sigs => scope.first_sig.checked_add(sig.sig),
-            _ => None,
+            None => None,
+            Some(scope) => number_of(scope, sig.sig),
         }
     }
 

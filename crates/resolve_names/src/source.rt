@@ -1,9 +1,21 @@
 //! What is declared has its source: the text of an instance, and a paragraph in it.
 
-ghost use Rattle.std.specs.Prelude.{◌<◌, length, IfSome};
+ghost use Rattle.std.specs.Prelude.{◌≡◌, ◌<◌, length, IfOk, IfSome};
+ghost use Rattle.resolve_names.specs.Gathered.{module_of};
 
 use base_types::Position;
-use syntax_tree::{Loaded, Paragraph, Text};
+use std::alloc::AllocError;
+use syntax_tree::{Instance, Loaded, Module, Paragraph, Text};
+
+/// The module of an instance. Each instance has a text, so that want of memory is never met.
+pub fn module_of<'a>(texts: &'a [Text], instance: &Instance) -> Result<&'a Module, AllocError>
+    ensures { IfOk result (λ m. m.now ≡ module_of texts.now instance.now) }
+{
+    match texts.get(instance.text as usize) {
+        None => Err(AllocError),
+        Some(text) => Ok(&text.tree),
+    }
+}
 
 /// The text of an instance; None where there is no such instance.
 pub fn text_of<'a>(loaded: &'a Loaded, instance: u32) -> Option<&'a Text> {

@@ -13,7 +13,7 @@ use Rattle.resolve_names.specs.declared.table.BodyEntry.{BodyEntry}
 use Rattle.resolve_names.specs.declared.table.Namespace.{Namespace}
 use Rattle.resolve_names.specs.Visible.{Declaration, Sees, Kept, declarations}
 use Rattle.resolve_hierarchy.specs.Above.{Sigs, IsAncestor}
-use Rattle.resolve_hierarchy.specs.Rules.{number_in}
+use Rattle.resolve_names.specs.Gathered.{number_in}
 use Rattle.resolve_rules.specs.Types.{IsSigType, IsIntType}
 
 -- where a root stands
