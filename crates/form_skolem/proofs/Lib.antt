@@ -3,3 +3,4 @@ pub mod Labels
 pub mod Made
 pub mod Steps
 pub mod Opening
+pub mod Typing

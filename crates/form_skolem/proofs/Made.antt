@@ -1,5 +1,5 @@
 -- What the formulas that are made say, as data.
-use Rattle.std.proofs.Common.{◌≡◌, ℕ, suc, ◌+◌, ◌-◌, ◌<◌, ◌≤◌, List, [], ◌∷◌, ◌++◌, map, take, drop, reverse, length, get_or, Option, Some, None, refl, ap, sym, ◌∙◌, append_assoc, arith, Vec, Box, Global}
+use Rattle.std.proofs.Common.{◌≡◌, ℕ, ◌+◌, ◌-◌, ◌<◌, ◌≤◌, List, [], ◌∷◌, ◌++◌, map, take, drop, reverse, length, get_or, Option, Some, None, refl, ap, sym, ◌∙◌, append_assoc, Vec, Box, Global}
 use Rattle.std.proofs.lemmas.List.{append-nil, map-append, drop_all, take_more, length-reverse, get_or-reverse}
 use Rattle.std.proofs.lemmas.Bool.{false≢true}
 use Rattle.std.specs.Prelude.{◌==◌, false}

@@ -1,5 +1,5 @@
 -- One parameter more, from the last to the first.
-use Rattle.std.proofs.Common.{◌≡◌, ℕ, zero, suc, ◌+◌, ◌-◌, ◌<◌, ◌≤◌, List, [], ◌∷◌, ◌++◌, map, take, drop, reverse, length, get_or, Option, Some, None, refl, ap, sym, ◌∙◌, subst, append_assoc, arith, add-one}
+use Rattle.std.proofs.Common.{◌≡◌, ℕ, zero, suc, ◌+◌, ◌-◌, ◌<◌, List, [], ◌∷◌, ◌++◌, take, drop, reverse, length, get_or, Option, Some, None, refl, ap, sym, ◌∙◌, append_assoc, arith, add-one}
 use Rattle.std.proofs.lemmas.List.{append-nil, drop_all, take_all, take_more, drop_more, reverse-append}
 use Rattle.core_tree.specs.declared.model.Parameter.{Parameter}
 use Rattle.core_tree.specs.Trees.{Claim, Binder}

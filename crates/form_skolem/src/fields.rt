@@ -3,10 +3,11 @@
 ghost use Rattle.std.specs.Prelude.{◌≡◌, ◌∷◌, ◌++◌, Contains, decimal, IfOk, OnOk};
 ghost use Rattle.form_skolem.specs.Opened.{IsLabel, labels};
 ghost use Rattle.form_skolem.specs.Steps as steps;
-ghost use Rattle.form_skolem.specs.Steps.{IsAdded};
+ghost use Rattle.form_skolem.specs.Steps.{IsAdded, with_type};
 
+use crate::bounds::{BoundType, rows_copy};
 use base_types::Name;
-use core_tree::{Field, FieldList, Parameter, RowList, Sig};
+use core_tree::{Field, FieldList, Parameter, Sig};
 use itoa::Buffer;
 use std::alloc::{AllocError, Global};
 
@@ -99,23 +100,22 @@ fn label_of(alloc: Global, sigs: &[Sig], fields: &[Field], name: &str) -> Result
     Ok(label)
 }
 
-/// Adds the static field without owner that stands for a parameter of this name, with these columns
-/// and rows.
+/// Adds the static field without owner that stands for a parameter with this type of its bound.
 pub(crate) fn add_field(
     alloc: Global,
     sigs: &[Sig],
     fields: &mut FieldList,
     parameter: &Parameter,
-    columns: u32,
-    rows: RowList,
+    bound: &BoundType,
 ) -> Result<(), AllocError>
-    ensures { OnOk result
-        (IsAdded (labels sigs.now fields.old) parameter.now fields.old fields.new) }
+    ensures { OnOk result (IsAdded (labels sigs.now fields.old) (with_type parameter.now bound.now)
+        fields.old fields.new) }
 {
     let label = label_of(alloc, sigs, fields.as_slice(), parameter.label.text())?;
+    let rows = rows_copy(alloc, bound.rows.as_slice())?;
     fields.push(Field {
         label,
-        columns,
+        columns: bound.columns,
         rows,
         is_var: false,
         owner: None,

@@ -15,21 +15,21 @@
 //!   value is chosen once, for all states (`fields`);
 //! - its label is `$` and the parameter's name, with a number where an earlier relation has that
 //!   label;
-//! - its columns and rows are those of the type of the parameter's bound (`ground`, `open`).
+//! - its columns and rows are those of the type of the parameter's bound, in which each earlier
+//!   parameter stands for the rows of its own (`bounds`).
 //!
 //! The command then asks that the field lies in the parameter's bound, with the bound's
 //! multiplicities, that it shares no tuple with those from which `disj` keeps it apart, and that
 //! the body holds with the field for the parameter; atom parameters stay under `some` (`formula`).
 //!
-//! Proved: the fields but for their columns and rows, the formula, and that all else is as it was
-//! (`IsOpened`); and that the formula holds just where the relations that the fields have, and some
-//! atoms, lie in the bounds as said and the body holds of them (`opened_commands_run`). Not proved:
-//! that the columns and rows are those of the bound's type.
+//! Proved: the fields, the formula, and that all else is as it was (`IsOpened`); and that the
+//! formula holds just where the relations that the fields have, and some atoms, lie in the bounds as
+//! said and the body holds of them (`opened_commands_run`).
 #![tactic(auto)]
 
+mod bounds;
 mod fields;
 mod formula;
-mod ground;
 mod law;
 mod open;
 

@@ -1,48 +1,23 @@
 //! The model in which each relation parameter of the command's predicate is a field.
 
-ghost use Rattle.std.specs.Prelude.{◌≡◌, ◌≢◌, ℕ, [], Some, length, slice_get, IfOk, IfNone, IfSome};
+ghost use Rattle.std.specs.Prelude.{◌≡◌, ℕ, true, false, Some, length, slice_get, IfOk, IfNone, IfSome};
 ghost use Rattle.core_tree.specs.Trees.{claim_of};
 ghost use Rattle.core_tree.specs.declared.model.Body.{Body};
 ghost use Rattle.core_tree.specs.declared.model.Command.{Command};
 ghost use Rattle.resolve_check.specs.Kept.{IsModelButTypes};
 ghost use Rattle.form_skolem.specs.Claims.{run_claim};
-ghost use Rattle.form_skolem.specs.Opened.{AddsFields, HasNoRelations, HasRelations, IsOpened, IsOpenedOver, fields_from, labels, relations};
+ghost use Rattle.form_skolem.specs.Opened.{AddsFields, HasNoRelations, HasRelations, IsOpened, IsOpenedOver, fields_from, has_relation, labels, relations, typed_parameters};
 ghost use Rattle.form_skolem.specs.Opened as spec;
-ghost use Rattle.form_skolem.specs.Steps as steps;
-ghost use Rattle.form_skolem.specs.Steps.{AskAnother, IsTurn};
+ghost use Rattle.form_skolem.specs.Steps.{AreTypes, AskAnother, IsTurn, IsTypedTurn, with_type, with_types};
 
+use crate::bounds::{BoundType, types_of};
 use crate::fields::add_field;
 use crate::formula::run_formula;
-use crate::ground::{Known, known_of};
 use core_tree::{
     BodyList, CommandList, FieldList, Formula, Model, Multiplicity, Parameter, Sig, SigList,
 };
 use resolve_check::keeps_model;
-use resolve_types::{Columns, model_rows, static_type};
 use std::alloc::{AllocError, Global};
-
-/// The types of parameters, each of whose bounds may name those before it.
-fn parameter_types(
-    alloc: Global,
-    known: &Known,
-    parameters: &[Parameter],
-) -> Result<Vec<Option<Columns>>, AllocError> {
-    let mut names = Vec::new(alloc);
-    for parameter in parameters {
-        let columns = static_type(alloc, &known.ground(), &mut names, &parameter.bound.expr)?;
-        names.push(Some(columns))?;
-    }
-    Ok(names)
-}
-
-/// The types of a body's parameters.
-fn types_of(alloc: Global, model: &Model, body: usize) -> Result<Vec<Option<Columns>>, AllocError> {
-    if body >= model.bodies.len() {
-        return Ok(Vec::new(alloc));
-    }
-    let known = known_of(alloc, model)?;
-    parameter_types(alloc, &known, model.bodies.get(body).parameters.as_slice())
-}
 
 /// Whether a parameter stands for a relation: its bound has another word than `one`. One of several
 /// columns has, since a model's `one` stands before one column alone.
@@ -57,7 +32,7 @@ fn is_relation(parameter: &Parameter) -> bool
 
 /// Whether some of these parameters stands for a relation.
 fn has_relation(parameters: &[Parameter]) -> bool
-    ensures { result ≡ steps.has_relation parameters.now }
+    ensures { result ≡ has_relation parameters.now }
 {
     for parameter in parameters {
         if is_relation(parameter) {
@@ -73,10 +48,10 @@ fn field_of(
     sigs: &[Sig],
     fields: &mut FieldList,
     parameter: &Parameter,
-    columns: &Columns,
+    bound: &BoundType,
 ) -> Result<Option<u32>, AllocError>
-    ensures { IfOk result
-        (IsTurn (labels sigs.now fields.old) parameter.now fields.old fields.new) }
+    ensures { IfOk result (IsTurn (labels sigs.now fields.old)
+        (with_type parameter.now bound.now) fields.old fields.new) }
 {
     if !is_relation(parameter) {
         return Ok(None);
@@ -85,26 +60,28 @@ fn field_of(
     if count > u32::MAX as usize {
         return Err(AllocError);
     }
-    let rows = model_rows(alloc, columns)?;
-    add_field(alloc, sigs, fields, parameter, columns.count, rows)?;
+    add_field(alloc, sigs, fields, parameter, bound)?;
     Ok(Some(count as u32))
 }
 
-/// The same by the types of all parameters, of which it is the one of this place.
+/// The same by the types of all parameters' bounds, of which it is the one of this place.
 fn typed_field(
     alloc: Global,
     sigs: &[Sig],
     fields: &mut FieldList,
     parameter: &Parameter,
-    types: &[Option<Columns>],
+    types: &[BoundType],
     place: usize,
 ) -> Result<Option<u32>, AllocError>
-    ensures { IfOk result
-        (IsTurn (labels sigs.now fields.old) parameter.now fields.old fields.new) }
+    ensures { IfOk result (IsTypedTurn sigs.now parameter.now types.now place fields.old
+        fields.new) }
 {
     match types.get(place) {
-        Some(Some(columns)) => field_of(alloc, sigs, fields, parameter, columns),
-        _ => Err(AllocError),
+        None => Err(AllocError),
+        Some(bound) => {
+            let number = field_of(alloc, sigs, fields, parameter, bound)?;
+            Ok(number)
+        }
     }
 }
 
@@ -114,10 +91,11 @@ fn fields_of(
     sigs: &[Sig],
     fields: &mut FieldList,
     parameters: &[Parameter],
-    types: &[Option<Columns>],
+    types: &[BoundType],
 ) -> Result<Vec<Option<u32>>, AllocError>
     ensures fields { IfOk result (λ numbers.
-        AddsFields sigs.now fields.old (relations parameters.now) fields.new) }
+        AddsFields sigs.now fields.old (relations (with_types parameters.now types.now))
+        fields.new) }
     ensures numbers { IfOk result (λ numbers.
         numbers.items ≡ fields_from (length fields.old) parameters.now) }
 {
@@ -136,10 +114,11 @@ fn formula_of(
     fields: &mut FieldList,
     body: u32,
     parameters: &[Parameter],
-    types: &[Option<Columns>],
+    types: &[BoundType],
 ) -> Result<Formula, AllocError>
     ensures fields { IfOk result (λ f.
-        AddsFields sigs.now fields.old (relations parameters.now) fields.new) }
+        AddsFields sigs.now fields.old (relations (with_types parameters.now types.now))
+        fields.new) }
     ensures formula { IfOk result (λ f. claim_of f ≡
         run_claim body parameters.now (fields_from (length fields.old) parameters.now)) }
 {
@@ -164,9 +143,9 @@ fn with_formula(commands: CommandList, command: usize, formula: Formula) -> Comm
 /// The body of this number, if it has a parameter that stands for a relation.
 fn body_with_relations(bodies: &BodyList, body: Option<u32>) -> Option<u32>
     ensures none { IfNone result ((b : ℕ) (x : Body) →
-        body ≡ Some b → slice_get bodies.now b ≡ Some x → relations x.parameters ≡ []) }
+        body ≡ Some b → slice_get bodies.now b ≡ Some x → has_relation x.parameters ≡ false) }
     ensures some { IfSome result (λ b. (x : Body) × (body ≡ Some b)
-        × (slice_get bodies.now b ≡ Some x) × (relations x.parameters ≢ [])) }
+        × (slice_get bodies.now b ≡ Some x) × (has_relation x.parameters ≡ true)) }
 {
     match body {
         None => None,
@@ -201,10 +180,11 @@ fn body_formula(
     fields: &mut FieldList,
     bodies: &BodyList,
     body: u32,
-    types: &[Option<Columns>],
+    types: &[BoundType],
 ) -> Result<Formula, AllocError>
     ensures fields { IfOk result (λ f. (x : Body) → slice_get bodies.now body ≡ Some x →
-        AddsFields sigs.now fields.old (relations x.parameters) fields.new) }
+        AddsFields sigs.now fields.old (relations (with_types x.parameters types.now))
+        fields.new) }
     ensures formula { IfOk result (λ f. (x : Body) → slice_get bodies.now body ≡ Some x →
         claim_of f ≡ run_claim body x.parameters (fields_from (length fields.old) x.parameters)) }
 {
@@ -217,16 +197,30 @@ fn body_formula(
     Ok(formula)
 }
 
+/// The types of the bounds of the parameters of the body of this number.
+fn types_of_body(alloc: Global, model: &Model, body: u32) -> Result<Vec<BoundType>, AllocError>
+    ensures { IfOk result (λ all. (x : Body) → slice_get model.now.bodies body ≡ Some x →
+        AreTypes all.items (typed_parameters model.now x)) }
+{
+    let place = body as usize;
+    if place >= model.bodies.len() {
+        return Err(AllocError);
+    }
+    let all = types_of(alloc, model, model.bodies.get(place))?;
+    Ok(all)
+}
+
 /// The model with a field for each relation parameter of a body, which the command runs.
 fn opened(
     alloc: Global,
     model: Model,
     command: u32,
     body: u32,
-    types: &[Option<Columns>],
+    types: &[BoundType],
 ) -> Result<Model, AllocError>
-    ensures { (has : HasRelations model command body) → IfOk result
-        (IsOpenedOver model command has.command body has.body.parameters) }
+    ensures { (has : HasRelations model command body) →
+        AreTypes types.now (typed_parameters model has.body) →
+        IfOk result (IsOpenedOver model command has.command body has.body) }
 {
     let Model {
         sigs,
@@ -253,6 +247,7 @@ fn opened(
 /// owner, and the command asks the predicate's body of these fields. Without such parameters, or
 /// without such a command, the model comes back as it was. A model with new fields is tested for
 /// what each model keeps; none is known that fails, and the answer to one would be want of memory.
+/// So would be that to a bound that has no columns or no type, as none of a model is.
 pub fn open_params(alloc: Global, model: Model, command: u32) -> Result<Model, AllocError>
     requires { IsModelButTypes model }
     ensures kept { IfOk result IsModelButTypes }
@@ -262,7 +257,7 @@ pub fn open_params(alloc: Global, model: Model, command: u32) -> Result<Model, A
         None => return Ok(model),
         Some(body) => body,
     };
-    let types = types_of(alloc, &model, body as usize)?;
+    let types = types_of_body(alloc, &model, body)?;
     let changed = opened(alloc, model, command, body, types.as_slice())?;
     let is_kept = keeps_model(alloc, &changed)?;
     if is_kept {

@@ -104,3 +104,7 @@ module _ (model : Model) (plain : Shape) (same : shapes_in plain ≡ plain_shape
   parameters_right ps each =
       right_by_places model ps 0 no_columns (λ k p at.
       subst (λ s. IsRightBound model AnyField p.bound (names_behind s (take k ps) 0 no_columns)) same (subst (IsRightBound model AnyField p.bound) (behind_of (shapes_in plain) (take k ps) 0 []) (each k p at)))
+
+  pub columns_same : (body : Body) (names : List Named) (columns : List ℕ) → names ≡ named_after (shapes_in plain) body.parameters 0 [] → columns ≡ map (λ (n : Named). n.columns) names → columns ≡ parameters_of model body
+  columns_same body names columns are ec =
+      ec ∙ ap (widths (shapes_in plain)) are ∙ columns_of (shapes_in plain) body.parameters 0 [] ∙ ap (λ s. parameter_columns s body.parameters 0 no_columns) same

@@ -1,4 +1,4 @@
-//! Whether a model keeps what resolved models keep.
+//! Whether a model keeps what resolved models keep, and the columns of parameters.
 #![tactic(auto)]
 
 mod bodies;
@@ -15,3 +15,4 @@ mod sigs;
 mod walk;
 
 pub use keeps::{keeps_model, keeps_value};
+pub use signatures::parameter_columns;

@@ -4,7 +4,7 @@ ghost use Rattle.std.specs.Prelude.{◌≡◌, IfOk, IfSome, [], map};
 ghost use Rattle.core_tree.specs.declared.model.Field.{Field};
 ghost use Rattle.core_tree.specs.Trees.{term_of};
 ghost use Rattle.core_tree.specs.Columns.{columns_in};
-ghost use Rattle.core_tree.specs.Models.{plain_shapes, shapes_of};
+ghost use Rattle.core_tree.specs.Models.{parameters_of, plain_shapes, shapes_of};
 ghost use Rattle.resolve_check.specs.Names.{names_of};
 ghost use Rattle.resolve_check.specs.Fits.{signature_in, shapes_in};
 ghost use Rattle.resolve_check.specs.Parameters.{named_next, named_after, result_under, signature_under};
@@ -195,5 +195,23 @@ pub fn full_shape(alloc: Global, model: &Model, plain: &Shape) -> Result<Option<
             order: field_numbers(alloc, model.fields.as_slice())?,
             bodies,
         })),
+    }
+}
+
+/// The columns of a body's parameters, in order; none where a bound doesn't fit.
+pub fn parameter_columns(
+    alloc: Global,
+    model: &Model,
+    body: &Body,
+) -> Result<Option<ItemList<u32>>, AllocError>
+    ensures { IfOk result (λ o. IfSome o (λ all. all ≡ parameters_of model.now body.now)) }
+{
+    let plain = plain_shape(alloc, model)?;
+    match parameters_under(alloc, &plain, body.parameters.as_slice())? {
+        None => Ok(None),
+        Some(names) => {
+            let all = columns_of_names(alloc, &names)?;
+            Ok(Some(all))
+        }
     }
 }

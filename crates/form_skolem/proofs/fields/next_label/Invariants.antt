@@ -1,4 +1,4 @@
-use Rattle.std.proofs.Common.{◌≡◌, ℕ, ◌≤◌, ◌<◌, ◌++◌, ◌∷◌}
+use Rattle.std.proofs.Common.{ℕ, ◌≤◌, ◌<◌, ◌++◌, ◌∷◌}
 use Rattle.std.specs.Prelude.{decimal, Contains}
 use Rattle.form_skolem.specs.Opened.{labels}
 use Rattle.form_skolem.proofs.fields.next_label.Given as goal

@@ -1,4 +1,4 @@
-use Rattle.std.proofs.Common.{◌<◌, length, arith}
+use Rattle.std.proofs.Common.{arith}
 use Rattle.core_tree.specs.Trees.{claim_of}
 use Rattle.form_skolem.proofs.Steps.{back_atom, back_field}
 use Rattle.form_skolem.proofs.formula.one_back.Goals as goal

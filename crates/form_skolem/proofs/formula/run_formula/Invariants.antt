@@ -1,4 +1,4 @@
-use Rattle.std.proofs.Common.{◌≡◌, ℕ, ◌-◌, ◌≤◌, length}
+use Rattle.std.proofs.Common.{◌-◌, ◌≤◌, length}
 use Rattle.core_tree.specs.Trees.{claim_of}
 use Rattle.form_skolem.specs.Steps.{IsBack}
 use Rattle.form_skolem.proofs.formula.run_formula.Given as goal

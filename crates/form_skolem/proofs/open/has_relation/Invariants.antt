@@ -1,5 +1,5 @@
 use Rattle.std.proofs.Common.{◌≡◌, drop}
-use Rattle.form_skolem.specs.Steps.{has_relation}
+use Rattle.form_skolem.specs.Opened.{has_relation}
 use Rattle.form_skolem.proofs.open.has_relation.Given as goal
 
 abbrev pub invariant-loop-parameter : goal.invariant-loop-parameter
