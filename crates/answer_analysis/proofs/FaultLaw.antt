@@ -29,7 +29,7 @@ past_end (x ∷ xs) zero none = absurd (some_none x none)
 past_end (x ∷ xs) (suc k) none = let le : length xs ≤ k = past_end xs k none in omega (arith, le)
 
 -- a refusal of scopes is that of the command of this number, or says that there is none
-module _ (loaded : Loaded) (model : Model) (number : ℕ) (r : Result Scopes Fault) (refusal : Refusal) (made : IsModelIn loaded model) (is : r ≡ Err (Refused refusal)) (none : length model.commands ≤ number → r ≡ Err (Refused no_command)) where
+module _ (loaded : Loaded) (model : Model) (number : ℕ) (r : Result Scopes Fault) (refusal : Refusal) (made : IsModelIn loaded number model) (is : r ≡ Err (Refused refusal)) (none : length model.commands ≤ number → r ≡ Err (Refused no_command)) where
   by_command : (o : Option Command) → slice_get model.commands number ≡ o → IfSome o (λ c. IfErr r (IsFaultOf (IsRefusal model c))) → IsOfCommand loaded number refusal
   by_command (Some command) at fault = on_scopes model made command at (subst (λ x. IfErr x (IsFaultOf (IsRefusal model command))) is fault)
   by_command None at fault =

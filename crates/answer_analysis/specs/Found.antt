@@ -26,7 +26,7 @@ use Rattle.form_skolem.specs.Opened.{IsOpened}
 use Rattle.form_target.specs.Targets.{IsTargetOf}
 use Rattle.resolve_check.specs.Kept.{IsModelButTypes}
 use Rattle.resolve_model.specs.Refused.{IsOfReadings}
-use Rattle.resolve_places.specs.Places.{IsPlaced}
+use Rattle.resolve_told.specs.Texts.{IsOfTexts}
 use Rattle.answer_search.specs.Clauses.{IsRuledOut, SayTarget}
 use Rattle.answer_search.specs.Found.{AreNewWithin}
 use Rattle.answer_texts.specs.Table.{IsTableOf}
@@ -41,11 +41,12 @@ use Rattle.answer_analysis.specs.declared.answer.Answer.TheVariants.{Trace, Refu
 use Rattle.answer_analysis.specs.declared.fault.AnalyseFault.{AnalyseFault}
 use Rattle.answer_analysis.specs.declared.fault.AnalyseFault.TheVariants.{Refused, Read, Memory}
 
--- a model is one that was resolved, in which each relation parameter of the predicate that the command of this number runs is a
--- field, and over these fields the command asks
-pub record OpensResolved (number : ℕ) (model : Model) : Type 0 where
+-- A model is the one that these texts declare, in which each relation parameter of the predicate that the command of this number
+-- runs is a field, and over these fields the command asks.
+pub record OpensResolved (loaded : Loaded) (number : ℕ) (model : Model) : Type 0 where
   pub resolved : Model
   pub kept : IsModelButTypes resolved
+  pub of_texts : IsOfTexts loaded resolved
   pub opens : IsOpened resolved number model
 
 -- a model made ready for its command of this number: the model keeps what resolved models keep, and no sig of it extends an
@@ -56,7 +57,7 @@ pub record OpensResolved (number : ℕ) (model : Model) : Type 0 where
 pub record IsReady (number : ℕ) (ready : Ready) : Type 0 where
   pub kept : IsModel ready.model
   pub plain : ExtendsPlain ready.model.sigs
-  pub opened : OpensResolved number ready.model
+  pub opened : OpensResolved ready.loaded number ready.model
   pub command : Command
   pub asked : ready.command ≡ number
   pub chosen : slice_get ready.model.commands number ≡ Some command
@@ -128,20 +129,19 @@ IsFound loaded number budget answer = (prepared : Prepared) × (prepared.ready.l
 abbrev pub IsOfText : Loaded → Refusal → List ℕ → Type 0
 IsOfText loaded refusal name = option_map (λ t. t.name) (slice_get loaded.texts refusal.place.module) ≡ Some name
 
--- a model of what is loaded: it keeps what resolved models keep, its sigs and facts are just those that the loaded texts declare,
--- and its commands those of the root, by their places
-pub record IsModelIn (loaded : Loaded) (model : Model) : Type 0 where
+-- a model of what is loaded, opened for its command of this number: it keeps what resolved models keep
+pub record IsModelIn (loaded : Loaded) (number : ℕ) (model : Model) : Type 0 where
   pub kept : IsModel model
-  pub placed : IsPlaced loaded model
+  pub opened : OpensResolved loaded number model
 
 -- By a rule on a command and its scopes, of a model of what is loaded: there is no command of the number that was asked for, which
 -- is said at the beginning of the root; or the command of this number breaks a rule on its scopes, or on formulas under them, and
 -- this is its refusal by the first of them, at the first place; or it breaks none of these, and its table is too large, which is
 -- said at its keyword.
 pub data IsOfCommand (loaded : Loaded) (number : ℕ) (refusal : Refusal) : Type 0 where
-  no_such : (model : Model) → IsModelIn loaded model → length model.commands ≤ number → refusal ≡ no_command → IsOfCommand loaded number refusal
-  on_scopes : (model : Model) → IsModelIn loaded model → (command : Command) → slice_get model.commands number ≡ Some command → IsRefusal model command refusal → IsOfCommand loaded number refusal
-  too_large : (model : Model) → IsModelIn loaded model → (command : Command) → slice_get model.commands number ≡ Some command → (scopes : Scopes) → AreScopesBy model command scopes → AreKept (Breaks model command scopes) command_rules →
+  no_such : (model : Model) → IsModelIn loaded number model → length model.commands ≤ number → refusal ≡ no_command → IsOfCommand loaded number refusal
+  on_scopes : (model : Model) → IsModelIn loaded number model → (command : Command) → slice_get model.commands number ≡ Some command → IsRefusal model command refusal → IsOfCommand loaded number refusal
+  too_large : (model : Model) → IsModelIn loaded number model → (command : Command) → slice_get model.commands number ≡ Some command → (scopes : Scopes) → AreScopesBy model command scopes → AreKept (Breaks model command scopes) command_rules →
       IsLarge model scopes → refusal ≡ record { rule = Cells; place = command.keyword } → IsOfCommand loaded number refusal
 
 -- by a rule on names, sigs, fields and readings, at a place of a text that is loaded; or by one on a command and its scopes

@@ -11,7 +11,7 @@ ghost use Rattle.answer_analysis.specs.Found.{IsLoadedFault, IsModelIn, IsPrepar
 ghost use Rattle.core_laws.specs.Typed.{ExtendsPlain};
 ghost use Rattle.core_tree.specs.Models.{IsModel};
 ghost use Rattle.resolve_check.specs.Kept.{IsModelButTypes};
-ghost use Rattle.resolve_places.specs.Places.{IsPlaced};
+ghost use Rattle.resolve_told.specs.Texts.{IsOfTexts};
 ghost use Rattle.bound_scopes.specs.Limits.{AreScopes};
 ghost use Rattle.bound_definitions.specs.Numbers.{AreScopesBy};
 ghost use Rattle.bound_definitions.specs.Refusals.{AreKept, Breaks, command_rules};
@@ -30,7 +30,7 @@ use core_tree::{Command, Model};
 use form_skolem::open_params;
 use form_target::target_of;
 use resolve_model::resolve;
-use resolve_places::is_placed;
+use resolve_told::is_of_texts;
 use std::alloc::{AllocError, Global};
 use syntax_tree::Loaded;
 
@@ -67,20 +67,25 @@ fn model_of(alloc: Global, loaded: &Loaded, command: u32) -> Result<Model, Analy
     }
 }
 
-/// The model, where the types of its fields are those of their declarations too, no sig of it extends an `in` sig, and its sigs,
-/// facts and commands are those of the texts. It is tested on the model itself: no resolved model is known that is not so.
-fn kept(alloc: Global, loaded: &Loaded, model: Model) -> Result<Model, AllocError>
+/// The model, where it says what the loaded texts do. It is tested on the model itself: no resolved model is known that doesn't.
+fn told(alloc: Global, loaded: &Loaded, model: Model) -> Result<Model, AllocError>
+    ensures told { IfOk result (IsOfTexts loaded.now) }
+    ensures same { IfOk result (λ m. m ≡ model) }
+{
+    let is_told = is_of_texts(alloc, loaded, &model)?;
+    if is_told { Ok(model) } else { Err(AllocError) }
+}
+
+/// The model, where the types of its fields are those of their declarations too, and no sig of it extends an `in` sig. It is
+/// tested on the model itself: no resolved model is known that is not so.
+fn kept(alloc: Global, model: Model) -> Result<Model, AllocError>
     requires { IsModelButTypes model }
-    ensures model { IfOk result (IsModelIn loaded.now) }
+    ensures kept { IfOk result IsModel }
     ensures plain { IfOk result (λ m. ExtendsPlain m.sigs) }
     ensures same { IfOk result (λ m. m ≡ model) }
 {
     let is_kept = is_typed_model(alloc, &model)?;
     if !is_kept {
-        return Err(AllocError);
-    }
-    let is_of_texts = is_placed(alloc, loaded, &model)?;
-    if !is_of_texts {
         return Err(AllocError);
     }
     if extends_plain(&model.sigs) {
@@ -97,7 +102,7 @@ fn scopes_of(
     model: &Model,
     command: u32,
 ) -> Result<Scopes, AnalyseFault>
-    requires { IsModelIn loaded.now model.now }
+    requires { IsModelIn loaded.now command model.now }
     ensures scopes { IfOk result (λ s. AreScopes model.now s) }
     ensures by { IfOk result (λ s. IfSome (slice_get model.now.commands command)
         (λ c. AreScopesBy model.now c s)) }
@@ -123,7 +128,7 @@ fn bounds_of(
     command: u32,
     chosen: &Command,
 ) -> Result<Bounds, AnalyseFault>
-    requires model { IsModelIn loaded.now model.now }
+    requires model { IsModelIn loaded.now command model.now }
     requires chosen { slice_get model.now.commands command ≡ Some chosen.now }
     requires by { AreScopesBy model.now chosen.now scopes.now }
     requires unbroken { AreKept (Breaks model.now chosen.now scopes.now) command_rules }
@@ -182,14 +187,14 @@ fn labels_of(alloc: Global, model: &Model, scopes: &Scopes) -> Result<Labels, Al
 /// and its scopes, with the name of the text that has its place.
 pub fn ready_loaded(alloc: Global, loaded: Loaded, command: u32) -> Result<Ready, AnalyseFault>
     ensures kept { IfOk result (λ ready. IsModel ready.model) }
-    ensures placed { IfOk result (λ ready. IsPlaced ready.loaded ready.model) }
     ensures loaded { IfOk result (λ ready. ready.loaded ≡ loaded) }
     ensures ready { IfOk result (IsReady command) }
     ensures fault { IfErr result (IsLoadedFault loaded command) }
 {
     let resolved = model_of(alloc, &loaded, command)?;
-    let opened = open_params(alloc, resolved, command)?;
-    let model = kept(alloc, &loaded, opened)?;
+    let told = told(alloc, &loaded, resolved)?;
+    let opened = open_params(alloc, told, command)?;
+    let model = kept(alloc, opened)?;
     let scopes = scopes_of(alloc, &loaded, &model, command)?;
     if command as usize >= model.commands.len() {
         // The scopes are refused then.

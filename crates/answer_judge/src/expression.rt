@@ -1,6 +1,6 @@
 //! The reading of the expression whose tuples are asked for, and its refusals.
 
-ghost use Rattle.std.specs.Prelude.{◌≡◌, ◌<◌, ◌≤◌, ℕ, length, List, IfOk, Ok, Err};
+ghost use Rattle.std.specs.Prelude.{◌≡◌, ◌<◌, ◌≤◌, ℕ, length, List, [], IfOk, IsTrue, Ok, Err};
 ghost use Rattle.base_types.specs.declared.place.Refusal.{Refusal};
 ghost use Rattle.syntax_tree.specs.Spelling.{EndsWell};
 ghost use Rattle.syntax_tree.specs.declared.token.Token.{Token};
@@ -10,7 +10,8 @@ ghost use Rattle.syntax_parser.specs.Refuses.{IsOfTokens};
 ghost use Rattle.core_tree.specs.declared.model.Model.{Model};
 ghost use Rattle.core_tree.specs.Trees.{term_of};
 ghost use Rattle.resolve_check.specs.Kept.{IsRightValue};
-ghost use Rattle.answer_judge.specs.Expression.{large_text, IsReadAt, IsReadOf};
+ghost use Rattle.resolve_said.specs.Said.{SaysSet};
+ghost use Rattle.answer_judge.specs.Expression.{large_text, in_root, IfTree, IsReadAt, IsReadOf, TextSays, TokensSay};
 
 use base_types::limits::MODULE_BYTES;
 use base_types::{Fault, Position, Refusal, Rule};
@@ -18,6 +19,8 @@ use bound_scopes::check_value;
 use core_meaning::Scopes;
 use core_tree::{Expr, Model};
 use resolve_model::resolve_value;
+use resolve_names::names;
+use resolve_said::{Locals, Site, says_set};
 use std::alloc::{AllocError, Global};
 use syntax_lexer::lex;
 use syntax_machine::Root;
@@ -55,6 +58,8 @@ pub fn read_value(
     ensures told { (tokens : List Token) → length text.now ≤ MODULE_BYTES →
         tokens_of number text.now ≡ Ok tokens → IfOk result
         (IsReadOf model.now scopes.now.bits tokens) }
+    ensures says { IfOk result (λ read. IfTree read
+        (TextSays loaded.now model.now number text.now)) }
 {
     if text.len() > MODULE_BYTES {
         return Ok(ReadValue::Refused(large_text(number)));
@@ -90,7 +95,8 @@ fn parsed(
 ) -> Result<ReadValue, AllocError>
     requires ends { EndsWell tokens.now }
     requires some { 0 < length tokens.now }
-    ensures { IfOk result (IsReadOf model.now scopes.now.bits tokens.now) }
+    ensures told { IfOk result (IsReadOf model.now scopes.now.bits tokens.now) }
+    ensures says { IfOk result (λ read. IfTree read (TokensSay loaded.now model.now tokens.now)) }
 {
     match parse_expr(alloc, tokens, 0) {
         Ok(parsed) => {
@@ -112,7 +118,8 @@ fn parsed(
 /// What it comes to that no expression goes along these tokens.
 fn stopped(tokens: &[Token], fault: Fault) -> Result<ReadValue, AllocError>
     requires { IsOfTokens root.Expr tokens.now fault }
-    ensures { (model : Model) (bits : ℕ) → IfOk result (IsReadOf model bits tokens.now) }
+    ensures told { (model : Model) (bits : ℕ) → IfOk result (IsReadOf model bits tokens.now) }
+    ensures none { IfOk result (λ read. IfTree read (λ value. ⊥)) }
 {
     // for the proof: only the clauses name the tokens
     let _ = tokens;
@@ -122,7 +129,35 @@ fn stopped(tokens: &[Token], fault: Fault) -> Result<ReadValue, AllocError>
     }
 }
 
-/// What this tree comes to, whose first token stands there.
+/// Whether a value is what an expression says in the root of what is loaded. A model is made only where no rule on names is
+/// broken.
+fn is_said(
+    alloc: Global,
+    loaded: &Loaded,
+    model: &Model,
+    tree: &Tree,
+    value: &Expr,
+) -> Result<bool, AllocError>
+    ensures { IfOk result (λ b. IsTrue b → SaysSet (in_root loaded.now model.now) [] tree.now
+        (term_of value.now)) }
+{
+    match names(alloc, loaded) {
+        Ok(names) => {
+            let site = Site {
+                names: &names,
+                model,
+                instance: 0,
+                own: &[],
+            };
+            let said = says_set(alloc, &site, &Locals::Empty, tree, value)?;
+            Ok(said)
+        }
+        Err(_) => Err(AllocError),
+    }
+}
+
+/// What this tree comes to, whose first token stands there. That the value is what the tree says is tested on the value itself: none is
+/// known that isn't.
 fn resolved(
     alloc: Global,
     loaded: &Loaded,
@@ -131,10 +166,18 @@ fn resolved(
     tree: &Tree,
     first: Position,
 ) -> Result<ReadValue, AllocError>
-    ensures { IfOk result (IsReadAt model.now scopes.now.bits first) }
+    ensures read { IfOk result (IsReadAt model.now scopes.now.bits first) }
+    ensures says { IfOk result (λ read. IfTree read
+        (SaysSet (in_root loaded.now model.now) [] tree.now)) }
 {
     match resolve_value(alloc, loaded, model, tree) {
-        Ok(value) => checked(alloc, model, scopes, value, first),
+        Ok(value) => {
+            let said = is_said(alloc, loaded, model, tree, &value)?;
+            if !said {
+                return Err(AllocError);
+            }
+            checked(alloc, model, scopes, value, first)
+        }
         Err(Fault::Refused(refusal)) => Ok(ReadValue::Refused(refusal)),
         Err(Fault::Memory) => Err(AllocError),
     }
@@ -149,7 +192,8 @@ fn checked(
     first: Position,
 ) -> Result<ReadValue, AllocError>
     requires { IsRightValue model.now (term_of value) }
-    ensures { IfOk result (IsReadAt model.now scopes.now.bits first) }
+    ensures read { IfOk result (IsReadAt model.now scopes.now.bits first) }
+    ensures same { IfOk result (λ read. IfTree read (λ t. t ≡ term_of value)) }
 {
     if scopes.bits < 1 || scopes.bits > 12 {
         // Scopes have no such bitwidth.

@@ -8,7 +8,10 @@ use Rattle.syntax_tree.specs.declared.instance.Text.{Text}
 use Rattle.syntax_tree.specs.declared.loaded.Loaded.{Loaded}
 use Rattle.syntax_tree.specs.declared.token.Token.{Token}
 use Rattle.answer_analysis.specs.declared.ready.Ready.{Ready}
-use Rattle.answer_judge.specs.Expression.{large_text, RefusesTokens}
+use Rattle.answer_judge.specs.Expression.{large_text, RefusesTokens, TextSays}
+use Rattle.core_tree.specs.Trees.{term_of}
+use Rattle.core_tree.specs.declared.model.Model.{Model}
+use Rattle.core_tree.specs.declared.tree.Expr.{Expr}
 use Rattle.cli_model.specs.Model.{RefusesAt}
 use Rattle.cli_model.specs.Refused.{BreaksExpression}
 use Rattle.cli_model.specs.declared.answer.Answer.TheVariants.{Refused}
@@ -37,3 +40,10 @@ breaks_of ready expression text number refusal same count large cut told = recor
   told = λ tokens short cuts. told tokens (subst (λ (b : List ℕ). length b ≤ MODULE_BYTES) (sym same) short)
       (subst (λ (n : ℕ). tokens_of n text ≡ Ok tokens) (sym count) (subst (λ (b : List ℕ). tokens_of (length ready.loaded.texts) b ≡ Ok tokens) (sym same) cuts));
 }
+
+-- the same of what the text says
+pub says_of : (loaded : Loaded) (model : Model) (number count : ℕ) (text expression : List ℕ) (v w : Expr) → number ≡ count → text ≡ expression → v ≡ w →
+    TextSays loaded model number text (term_of v) → TextSays loaded model count expression (term_of w)
+says_of loaded model number count text expression v w counted same are says =
+    subst (λ (e : Expr). TextSays loaded model count expression (term_of e)) are
+    (subst (λ (b : List ℕ). TextSays loaded model count b (term_of v)) same (subst (λ (n : ℕ). TextSays loaded model n text (term_of v)) counted says))

@@ -1,5 +1,5 @@
 -- What an answer on the text of a model may be, and why.
-use Rattle.std.specs.Prelude.{◌≡◌, ℕ, ◌⊎◌, List, map, codes, IsTrue, Option, Some, None}
+use Rattle.std.specs.Prelude.{◌≡◌, ℕ, ◌⊎◌, List, length, map, codes, IsTrue, Option, Some, None}
 use Rattle.base_types.specs.Causes.{SomeRose}
 use Rattle.base_types.specs.Texts as texts
 use Rattle.syntax_tree.specs.declared.loaded.Loaded.{Loaded}
@@ -7,6 +7,7 @@ use Rattle.base_types.specs.Texts.{Texts}
 use Rattle.base_types.specs.declared.place.Refusal.{Refusal}
 use Rattle.answer_analysis.specs.Found.{IsOfModel, IsOfText, NoneSatisfies, NoneWithin, RowsOf}
 use Rattle.answer_analysis.specs.declared.fault.AnalyseFault.{AnalyseFault}
+use Rattle.answer_analysis.specs.declared.ready.Ready.{Ready}
 use Rattle.answer_analysis.specs.declared.fault.AnalyseFault.TheVariants as analyse
 use Rattle.base_types.specs.declared.limits.TheConstants.{FILE_BYTES}
 use Rattle.answer_certificates.specs.Certificate.{ShowsTrace, ShowsOne, ShowsAbove, ShowsNone, ShowsCore, ShowsSpent, ShowsSpentLeast, ShowsSpentCore, RowsOver, SayAll, SayOverStates}
@@ -20,6 +21,7 @@ use Rattle.cli_words.specs.declared.settings.Settings.{Settings}
 use Rattle.load_state.specs.Causes.{IsTried}
 use Rattle.load_state.specs.declared.fault.LoadFault.{LoadFault}
 use Rattle.load_state.specs.declared.fault.LoadFault.TheVariants as load
+use Rattle.answer_judge.specs.Expression.{TextSays}
 use Rattle.answer_judge.specs.Judged.{IsJudgement, IsValue}
 use Rattle.answer_judge.specs.declared.answer.TraceAnswer.{TraceAnswer}
 use Rattle.cli_model.specs.Files.{file_rule}
@@ -60,11 +62,17 @@ ShownSpent loaded Least number budget text = OfPrepared loaded number (λ prepar
 ShownSpent loaded Core number budget text = OfPrepared loaded number (λ prepared. ShowsSpentCore prepared budget text)
 ShownSpent loaded _ number budget text = ⊥
 
--- what is said of the text of a trace in a mode: what a model and its command mean on it, or the tuples that some expression has
--- there at the position of the settings
+-- the expression that is given says this value in the root of a model that was made ready
+pub record IsAsked (ready : Ready) (given : Option (List ℕ)) (value : Term) : Type 0 where
+  pub expression : List ℕ
+  pub is : given ≡ Some expression
+  pub says : TextSays ready.loaded ready.model (length ready.loaded.texts) expression value
+
+-- what is said of the text of a trace in a mode: what a model and its command mean on it, or the tuples that the expression of the
+-- settings has there at their position
 abbrev pub IsSaid : Loaded → Mode → Settings → List ℕ → TraceAnswer → Type 0
 IsSaid loaded Replay settings trace said = OfModel loaded settings.command (λ ready. IsJudgement ready trace said)
-IsSaid loaded Eval settings trace said = OfModel loaded settings.command (λ ready. (value : Term) × IsValue ready value settings.position trace said)
+IsSaid loaded Eval settings trace said = OfModel loaded settings.command (λ ready. (value : Term) × IsAsked ready settings.expression value × IsValue ready value settings.position trace said)
 IsSaid loaded _ settings trace said = ⊥
 
 -- the file of this name is whole, and this is said of its text

@@ -1,10 +1,12 @@
 //! A trace is read: the model is loaded, then the expression is read, then the file of the trace.
 
-ghost use Rattle.std.specs.Prelude.{◌≡◌, true, is_some, Some, Ok, IfOk, IsTrue};
+ghost use Rattle.std.specs.Prelude.{◌≡◌, length, true, is_some, Some, Ok, IfOk, IfSome, IsTrue};
 ghost use Rattle.base_types.specs.Causes.{NoneFell};
 ghost use Rattle.syntax_lexer.specs.Tokens.{tokens_of};
+ghost use Rattle.core_tree.specs.Trees.{term_of};
+ghost use Rattle.answer_judge.specs.Expression.{TextSays};
 ghost use Rattle.cli_model.specs.Root.{SpellIn};
-ghost use Rattle.cli_model.specs.Model.{IsOnModel, IsAfter, IsSaid, IsSaidOf, RefusesAt};
+ghost use Rattle.cli_model.specs.Model.{IsOnModel, IsAfter, IsAsked, IsSaid, IsSaidOf, RefusesAt};
 ghost use Rattle.cli_model.specs.Ready.{IsModelOf};
 ghost use Rattle.cli_model.specs.Modes.{reads_trace};
 ghost use Rattle.cli_model.specs.Refused.{BreaksExpression, RefusesExpression};
@@ -87,8 +89,10 @@ enum Question {
 /// What the settings ask of a trace.
 fn asked_question(alloc: Global, settings: &Settings, ready: &Ready) -> Result<Question, AllocError>
     requires { IsModelOf ready.now.loaded settings.now.command ready.now }
-    ensures { (refusal : _) → result ≡ Ok (Question.Refused refusal) →
+    ensures refused { (refusal : _) → result ≡ Ok (Question.Refused refusal) →
         RefusesExpression ready.now.loaded settings.now refusal }
+    ensures asked { (value : _) → result ≡ Ok (Question.Value value) →
+        IsAsked ready.now settings.now.expression (term_of value) }
 {
     let Some(expression) = &settings.expression else {
         return Ok(Question::Judgement);
@@ -101,8 +105,11 @@ fn asked_question(alloc: Global, settings: &Settings, ready: &Ready) -> Result<Q
 
 /// What an expression asks of a trace.
 fn value_asked(alloc: Global, ready: &Ready, expression: &Name) -> Result<Question, AllocError>
-    ensures { (refusal : _) → result ≡ Ok (Question.Refused refusal) →
+    ensures refused { (refusal : _) → result ≡ Ok (Question.Refused refusal) →
         BreaksExpression ready.now expression.now refusal }
+    ensures says { (value : _) → result ≡ Ok (Question.Value value) →
+        TextSays ready.now.loaded ready.now.model (length ready.now.loaded.texts) expression.now
+        (term_of value) }
 {
     let loaded = &ready.loaded;
     let count = loaded.texts.len();
@@ -162,6 +169,7 @@ fn on_second<L: Libraries>(
     libraries: &mut L,
 ) -> Result<Answer, AllocError>
     requires made { IsModelOf ready.now.loaded settings.now.command ready.now }
+    requires asked { IfSome value (λ v. IsAsked ready.now settings.now.expression (term_of v.now)) }
     requires mode { IsTrue (reads_trace settings.now.mode) }
     requires second { is_some settings.now.second ≡ true }
     ensures keeps { L.told libraries.new ≡ L.told libraries.old }
@@ -190,6 +198,7 @@ fn on_trace(
     trace: &[u8],
 ) -> Result<Answer, AllocError>
     requires made { IsModelOf ready.now.loaded settings.now.command ready.now }
+    requires asked { IfSome value (λ v. IsAsked ready.now settings.now.expression (term_of v.now)) }
     requires mode { IsTrue (reads_trace settings.now.mode) }
     ensures { IfOk result (λ answer. IsSaidOf ready.now.loaded settings.now second.now
         trace.now answer) }
@@ -207,6 +216,7 @@ fn said_of(
     trace: &[u8],
 ) -> Result<TraceAnswer, AllocError>
     requires made { IsModelOf ready.now.loaded settings.now.command ready.now }
+    requires asked { IfSome value (λ v. IsAsked ready.now settings.now.expression (term_of v.now)) }
     requires mode { IsTrue (reads_trace settings.now.mode) }
     ensures { IfOk result (λ said. IsSaid ready.now.loaded settings.now.mode settings.now
         trace.now said) }

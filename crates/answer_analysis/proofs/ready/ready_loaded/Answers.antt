@@ -1,14 +1,40 @@
-use Rattle.std.proofs.Common.{◌≡◌, Option, Some, arith, refl, subst, sym}
+use Rattle.std.proofs.Common.{◌≡◌, ℕ, Option, Some, arith, refl, subst, sym}
 use Rattle.std.specs.Prelude.{All, IfSome}
 use Rattle.bound_definitions.specs.Refusals.{AreKept, Breaks, command_rules}
 use Rattle.bound_scopes.specs.Numbers.{IsListed}
+use Rattle.syntax_tree.specs.declared.loaded.Loaded.{Loaded}
+use Rattle.core_tree.specs.Models.{IsModel}
 use Rattle.core_tree.specs.declared.model.Command.{Command}
 use Rattle.core_tree.specs.declared.model.Model.{Model}
 use Rattle.form_skolem.specs.Opened.{IsOpened}
+use Rattle.resolve_check.specs.Kept.{IsModelButTypes}
+use Rattle.resolve_told.specs.Texts.{IsOfTexts}
+use Rattle.answer_analysis.specs.Found.{IsModelIn}
 use Rattle.answer_analysis.proofs.ready.ready_loaded.Goals as goal
 
 of_chosen : (o : Option Command) (command : Command) (P : Command → Type 0) → o ≡ Some command → IfSome o P → P command
 of_chosen o command P is held = subst (λ (x : Option Command). IfSome x P) is held
+
+model_in : (loaded : Loaded) (number : ℕ) (resolved told opened model : Model) → IsModelButTypes resolved → told ≡ resolved → IsOfTexts loaded told →
+    IsOpened told number opened → model ≡ opened → IsModel model → IsModelIn loaded number model
+model_in loaded number resolved told opened model kept same of_texts opens is is_model = record {
+  kept = is_model;
+  opened = record {
+    resolved = told;
+    kept = subst IsModelButTypes (sym same) kept;
+    of_texts = of_texts;
+    opens = subst (λ (m : Model). IsOpened told number m) (sym is) opens;
+  };
+}
+
+pub open_params-requires : goal.open_params-requires
+open_params-requires c = subst IsModelButTypes (sym c.in_ok-told.ensures.same) c.in_ok-resolved.ensures.kept
+
+pub scopes_of-requires : goal.scopes_of-requires
+scopes_of-requires c = model_in _ _ _ _ _ _ c.in_ok-resolved.ensures.kept c.in_ok-told.ensures.same c.in_ok-told.ensures.told c.in_ok-opened.ensures.opened c.in_ok-model.ensures.same c.in_ok-model.ensures.kept
+
+pub bounds_of-requires-clause-model : goal.bounds_of-requires-clause-model
+bounds_of-requires-clause-model c = model_in _ _ _ _ _ _ c.in_ok-resolved.ensures.kept c.in_ok-told.ensures.same c.in_ok-told.ensures.told c.in_ok-opened.ensures.opened c.in_ok-model.ensures.same c.in_ok-model.ensures.kept
 
 pub bounds_of-requires-clause-by : goal.bounds_of-requires-clause-by
 bounds_of-requires-clause-by c = of_chosen _ _ _ c.get-chosen.ensures c.in_ok-scopes.ensures.by
@@ -18,23 +44,16 @@ bounds_of-requires-clause-unbroken c =
     subst (λ (o : Option Command). IfSome o (λ d. AreKept (Breaks c.in_ok-model.model d c.in_ok-scopes.scopes) command_rules)) c.get-chosen.ensures c.in_ok-scopes.ensures.unbroken
 
 pub places_fields-requires : goal.places_fields-requires
-places_fields-requires c = c.in_ok-model.ensures.model.kept
+places_fields-requires c = c.in_ok-model.ensures.kept
 
 pub returns-clause-kept : goal.returns-clause-kept
-returns-clause-kept c = c.in_ok-model.ensures.model.kept
-
-pub returns-clause-placed : goal.returns-clause-placed
-returns-clause-placed c = c.in_ok-model.ensures.model.placed
+returns-clause-kept c = c.in_ok-model.ensures.kept
 
 pub returns-clause-ready : goal.returns-clause-ready
 returns-clause-ready c = record {
-  kept = c.in_ok-model.ensures.model.kept;
+  kept = c.in_ok-model.ensures.kept;
   plain = c.in_ok-model.ensures.plain;
-  opened = record {
-    resolved = c.in_ok-resolved.resolved;
-    kept = c.in_ok-resolved.ensures.kept;
-    opens = subst (λ (m : Model). IsOpened c.in_ok-resolved.resolved c.args.command m) (sym c.in_ok-model.ensures.same) c.in_ok-opened.ensures.opened;
-  };
+  opened = (model_in _ _ _ _ _ _ c.in_ok-resolved.ensures.kept c.in_ok-told.ensures.same c.in_ok-told.ensures.told c.in_ok-opened.ensures.opened c.in_ok-model.ensures.same c.in_ok-model.ensures.kept).opened;
   named = c.in_ok-placed.ensures.named c.if-not-placed.false;
   placed = c.in_ok-placed.ensures.placed c.if-not-placed.false;
   command = c.get-chosen.result.now;

@@ -4,6 +4,5 @@ use Rattle.cli_model.proofs.ready.made_ready.Goals as goal
 pub returns-clause-made : goal.returns-clause-made
 returns-clause-made c = record {
   loaded_is = refl;
-  placed = c.in_ok-ready.ensures.placed;
   ready = c.in_ok-ready.ensures.ready;
 }

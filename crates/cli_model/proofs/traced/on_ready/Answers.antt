@@ -13,5 +13,5 @@ pub returns-in-Refused-clause-after : goal.returns-in-Refused-clause-after
 returns-in-Refused-clause-after g c =
     let told = g.L.Libraries.told c.args.libraries.now in
     let before = g.L.Libraries.counts c.args.libraries.now in
-    let why = c.asked_question.ensures c.in-Refused.refusal (cc (c.in_ok-asked_question.was, c.in-Refused.is)) in
+    let why = c.asked_question.ensures.refused c.in-Refused.refusal (cc (c.in_ok-asked_question.was, c.in-Refused.is)) in
     expression_after c.args.ready.now.loaded c.args.settings.now told before before c.refused_value.result c.in-Refused.refusal refl why c.refused_value.ensures

@@ -1,0 +1,4 @@
+pub mod Operators
+pub mod Locals
+pub mod Said
+pub mod Parts

@@ -1,0 +1,26 @@
+//! Where an expression stands: what its names may stand for.
+
+use base_types::Name;
+use core_tree::Model;
+use resolve_names::Names;
+
+/// A field that is joined to `this` where its name alone is written.
+#[derive(Drop)]
+pub struct OwnField {
+    pub name: Name,
+    /// Its number in the model.
+    pub field: u32,
+}
+
+/// Where an expression stands.
+#[derive(Drop)]
+pub struct Site<'a> {
+    /// The names of all instances.
+    pub names: &'a Names,
+    /// The model, of which the sigs and the bodies count.
+    pub model: &'a Model,
+    /// The number of the instance in whose text it stands.
+    pub instance: u32,
+    /// The fields of `this`, where there is one.
+    pub own: &'a [OwnField],
+}

@@ -1,0 +1,4 @@
+pub mod Named
+pub mod Running
+pub mod Scoped
+pub mod Walk

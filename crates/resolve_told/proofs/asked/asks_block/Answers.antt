@@ -1,0 +1,4 @@
+use Rattle.resolve_told.proofs.asked.asks_block.Goals as goal
+
+pub returns-in_ok-is_right-in-None : goal.returns-in_ok-is_right-in-None
+returns-in_ok-is_right-in-None c = λ same. (c.in-None.is, c.in_ok-is_right-in-None.ensures same)

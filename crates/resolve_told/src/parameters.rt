@@ -1,0 +1,206 @@
+//! The parameters of a predicate or a function, as they are declared.
+
+ghost use Rattle.std.specs.Prelude.{◌≡◌, ◌++◌, [], ◌∷◌, map, option_map, is_some, IfOk, OnOk};
+ghost use Rattle.syntax_tree.specs.declared.expr.Expr.TheVariants as trees;
+ghost use Rattle.resolve_said.specs.Locals.{under_decls};
+ghost use Rattle.resolve_said.specs.Said.{apart_from};
+ghost use Rattle.resolve_told.specs.Bodies.{as_expr, named_by, named_from, decls_of, this_by, this_scope};
+ghost use Rattle.resolve_told.specs.Views.{declared};
+
+use base_lists::Items;
+use base_types::Name;
+use std::alloc::{AllocError, Global};
+use syntax_tree::{
+    Constant, Decl, Expr as Tree, Multiplicity as Word, Named, Parameters, QualName, SigName,
+};
+
+/// A parameter as it is declared.
+#[derive(Clone, Copy, Drop)]
+pub struct Declared<'a> {
+    pub name: &'a str,
+    /// From how many of the names before it it differs.
+    pub apart: u32,
+    /// Whether `this` is in scope in its bound.
+    pub has_this: bool,
+    /// The declarations whose names are in scope in its bound.
+    pub before: &'a [Decl<Tree>],
+    pub word: Option<Word>,
+    pub bound: &'a Tree,
+}
+
+fn copied_parts(alloc: Global, parts: &[Name]) -> Result<Items<Name>, AllocError>
+    ensures { IfOk result (λ all. all ≡ parts.now) }
+{
+    let mut all = Items::new(alloc);
+    for part in parts {
+        let copy = Name::copy(alloc, part.text())?;
+        all.push(copy)?;
+    }
+    Ok(all)
+}
+
+/// A name as an expression.
+fn name_tree(alloc: Global, name: &QualName) -> Result<Tree, AllocError>
+    ensures { IfOk result (λ t. t ≡ trees.Name name.now) }
+{
+    let parts = copied_parts(alloc, name.parts.as_slice())?;
+    Ok(Tree::Name(QualName {
+        place: name.place,
+        is_own: name.is_own,
+        parts,
+    }))
+}
+
+/// The name of a sig as an expression.
+fn sig_tree(alloc: Global, name: &SigName) -> Result<Tree, AllocError>
+    ensures { IfOk result (λ t. t ≡ as_expr name.now) }
+{
+    match name {
+        SigName::Int(place) => Ok(Tree::Constant(*place, Constant::Int)),
+        SigName::Name(name) => {
+            let tree = name_tree(alloc, name)?;
+            Ok(tree)
+        }
+    }
+}
+
+/// What stands before the dot, as an expression.
+pub fn receiver_tree(alloc: Global, receiver: &Option<SigName>) -> Result<Option<Tree>, AllocError>
+    ensures { IfOk result (λ t. t ≡ option_map as_expr receiver.now) }
+{
+    match receiver {
+        None => Ok(None),
+        Some(name) => {
+            let tree = sig_tree(alloc, name)?;
+            Ok(Some(tree))
+        }
+    }
+}
+
+/// From how many of the names before it the name at a place differs.
+fn apart_of(is_disjoint: bool, place: u32) -> u32
+    ensures { result ≡ apart_from is_disjoint place }
+{
+    if is_disjoint { place } else { 0 }
+}
+
+/// Adds a name of a declaration, which has this place among its names.
+fn add_name<'a>(
+    has_this: bool,
+    before: &'a [Decl<Tree>],
+    decl: &'a Decl<Tree>,
+    place: u32,
+    name: &'a Named,
+    all: &mut Vec<Declared<'a>>,
+) -> Result<(), AllocError>
+    ensures { OnOk result (map declared all.new.items ≡ map declared all.old.items
+        ++ named_from (under_decls (this_scope has_this) before.now) decl.now place
+        (name.now ∷ [])) }
+{
+    let apart = apart_of(decl.is_disjoint, place);
+    all.push(Declared {
+        name: name.name.text(),
+        apart,
+        has_this,
+        before,
+        word: decl.word,
+        bound: &decl.bound,
+    })?;
+    Ok(())
+}
+
+/// Adds the names of a declaration.
+#[tactic(auto, using(crate::proofs::Walk::names_next, crate::proofs::Walk::names_end))]
+fn add_decl<'a>(
+    has_this: bool,
+    before: &'a [Decl<Tree>],
+    decl: &'a Decl<Tree>,
+    all: &mut Vec<Declared<'a>>,
+) -> Result<(), AllocError>
+    ensures { OnOk result (map declared all.new.items ≡ map declared all.old.items
+        ++ named_from (under_decls (this_scope has_this) before.now) decl.now 0 decl.now.names) }
+{
+    let names = decl.names.as_slice();
+    if names.len() > u32::MAX as usize {
+        // A text doesn't have so many names.
+        return Err(AllocError);
+    }
+    for place in 0..names.len() {
+        add_name(has_this, before, decl, place as u32, &names[place], all)?;
+    }
+    Ok(())
+}
+
+/// Adds the names of declarations.
+#[tactic(auto, using(crate::proofs::Walk::decls_next, crate::proofs::Walk::decls_end))]
+fn add_decls<'a>(
+    has_this: bool,
+    decls: &'a [Decl<Tree>],
+    all: &mut Vec<Declared<'a>>,
+) -> Result<(), AllocError>
+    ensures { OnOk result (map declared all.new.items ≡ map declared all.old.items
+        ++ named_by (this_scope has_this) decls.now) }
+{
+    for place in 0..decls.len() {
+        add_decl(has_this, &decls[..place], &decls[place], all)?;
+    }
+    Ok(())
+}
+
+/// Adds `this`, where something stands before the dot.
+fn add_this<'a>(receiver: &'a Option<Tree>, all: &mut Vec<Declared<'a>>) -> Result<(), AllocError>
+    ensures { OnOk result (map declared all.new.items ≡ map declared all.old.items
+        ++ this_by receiver.now) }
+{
+    match receiver {
+        None => Ok(()),
+        Some(bound) => {
+            all.push(Declared {
+                name: "this",
+                apart: 0,
+                has_this: false,
+                before: &[],
+                word: None,
+                bound,
+            })?;
+            Ok(())
+        }
+    }
+}
+
+/// What stands in brackets.
+pub fn decls_of(parameters: &Option<Parameters>) -> &[Decl<Tree>]
+    ensures { result.now ≡ decls_of parameters.now }
+{
+    match parameters {
+        None => &[],
+        Some(parameters) => parameters.decls.as_slice(),
+    }
+}
+
+/// Whether something stands before the dot.
+pub fn has_receiver(receiver: &Option<SigName>) -> bool
+    ensures { result ≡ is_some receiver.now }
+{
+    match receiver {
+        None => false,
+        Some(_) => true,
+    }
+}
+
+/// The parameters of a predicate or a function, with `this` first where something stands before the dot.
+pub fn all_parameters<'a>(
+    alloc: Global,
+    has_this: bool,
+    receiver: &'a Option<Tree>,
+    parameters: &'a Option<Parameters>,
+) -> Result<Vec<Declared<'a>>, AllocError>
+    ensures { IfOk result (λ all. map declared all.items ≡ this_by receiver.now
+        ++ named_by (this_scope has_this) (decls_of parameters.now)) }
+{
+    let mut all = Vec::new(alloc);
+    add_this(receiver, &mut all)?;
+    let decls = decls_of(parameters);
+    add_decls(has_this, decls, &mut all)?;
+    Ok(all)
+}

@@ -1,0 +1,49 @@
+//! A whole model is compared with the texts of which it was made.
+
+ghost use Rattle.std.specs.Prelude.{◌≡◌, IfOk, IsTrue};
+ghost use Rattle.resolve_names.specs.Gathered.{scopes_of};
+ghost use Rattle.resolve_told.specs.Texts.{IsOfTexts};
+
+use crate::bodies::are_bodies_told;
+use crate::commands::are_commands_told;
+use core_tree::Model;
+use resolve_names::{Names, names};
+use resolve_places::is_placed;
+use resolve_told_sigs::are_sigs_told;
+use std::alloc::{AllocError, Global};
+use syntax_tree::Loaded;
+
+/// The names that the texts declare. A model is made of them only where no rule on names is broken.
+fn names_of(alloc: Global, loaded: &Loaded) -> Result<Names, AllocError>
+    ensures { IfOk result (λ n. n.scopes ≡ scopes_of loaded.now.texts loaded.now.instances) }
+{
+    match names(alloc, loaded) {
+        Ok(names) => Ok(names),
+        Err(_) => Err(AllocError),
+    }
+}
+
+/// Whether a model says what the loaded texts do: its sigs, fields, facts, assertions, predicates and functions are just those
+/// that they declare, its commands are those of the root, and each of its formulas says what its text says.
+///
+/// It takes a model before the relation parameters of a command are fields. Where a name of the texts stands for several
+/// declarations that are seen, any one of them will do.
+pub fn is_of_texts(alloc: Global, loaded: &Loaded, model: &Model) -> Result<bool, AllocError>
+    ensures { IfOk result (λ b. IsTrue b → IsOfTexts loaded.now model.now) }
+{
+    let placed = is_placed(alloc, loaded, model)?;
+    if !placed {
+        return Ok(false);
+    }
+    let names = names_of(alloc, loaded)?;
+    let sigs = are_sigs_told(alloc, loaded, &names, model)?;
+    if !sigs {
+        return Ok(false);
+    }
+    let bodies = are_bodies_told(alloc, loaded, &names, model)?;
+    if !bodies {
+        return Ok(false);
+    }
+    let commands = are_commands_told(alloc, loaded, &names, model)?;
+    Ok(commands)
+}

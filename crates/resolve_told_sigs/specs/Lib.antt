@@ -1,0 +1,6 @@
+pub mod Words
+pub mod Kinds
+pub mod Own
+pub mod Says
+pub mod Walks
+pub mod Told
