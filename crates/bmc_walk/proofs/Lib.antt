@@ -12,3 +12,4 @@ pub mod ChoiceLaws
 pub mod NumberLaws
 pub mod ArrowLaws
 pub mod SumLaws
+mod ReadyLaws

@@ -1,24 +1,28 @@
 -- What a walk has left stays right, and the rules of forms.
-use Rattle.std.proofs.Common.{◌≤◌, ◌+◌, ◌-◌, ◌^◌, ℕ, Bool, List, max, refl, sym, subst, arith, inl, inr}
+use Rattle.std.proofs.Common.{◌≤◌, ◌+◌, ◌-◌, ◌^◌, ℕ, Bool, List, max, refl, sym, subst, arith, inl, inr, All}
+use Rattle.std.proofs.lemmas.List.Elements.{All-weaker}
 use Rattle.std.proofs.Math.Nat.{le-max_left, le-max_right}
 use Rattle.std.proofs.lemmas.Bool.{cases_lt, cond_below, cond_above}
 use Rattle.gate_trait.specs.declared.node.Node.{Node}
 use Rattle.gate_trait.specs.Built.{Keeps, AllIn}
 use Rattle.gate_trait.proofs.KeptLemmas.{keeps_trans}
-use Rattle.core_tree.specs.Trees.{Term, Claim, negation, choose_term}
+use Rattle.core_tree.specs.Trees.{Term, Claim, negation, choose_term, term_of}
 use Rattle.core_tree.specs.Past.{no_depths, one_more, past_in, past_of}
 use Rattle.gate_matrix.specs.Matrices.{MatrixEntries}
 use Rattle.bmc_stack.specs.declared.store.Store.{Store}
 use Rattle.bmc_stack.specs.Stored.{AreStored}
 use Rattle.bmc_stack.specs.Rows.{IsNegated}
-use Rattle.bmc_leaves.specs.Shown.{Reading, IsReading, IsRight, AreRight, none_nested}
+use Rattle.bmc_leaves.specs.Shown.{Reading, under, IsReading, IsRight, AreRight, none_nested}
 use Rattle.bmc_leaves.specs.Relations.{reading_of}
 use Rattle.bmc_leaves.proofs.KeptLaws.{kept_kept, tuples_kept, right_kept}
 use Rattle.bmc_leaves.proofs.RightLaws.{ok_under, negation_right}
 use Rattle.bmc_walk.specs.declared.walk.Known.{Known}
+use Rattle.bmc_walk.specs.declared.walk.Made.{Made}
+use Rattle.bmc_walk.specs.declared.walk.Ready.{Ready}
+use Rattle.bmc_walk.specs.declared.walk.Ready.TheVariants as ready
 use Rattle.bmc_walk.specs.declared.walk.Ground.{Ground}
 use Rattle.bmc_places.specs.Stores.{Extends, Stays}
-use Rattle.bmc_walk.specs.Walked.{atoms_of, read_in, IsGround, HasSets, HasRow}
+use Rattle.bmc_walk.specs.Walked.{atoms_of, read_in, IsReady, AreReady, IsGround, HasSets, HasRow}
 use Rattle.bmc_places.specs.Chosen.{AreChosen}
 use Rattle.bmc_places.proofs.StoreLaws.{stays_extends}
 use Rattle.bmc_places.proofs.ChosenLaws.{choose_right}
@@ -36,16 +40,29 @@ one_less n h le = elim (cases_lt n (2 ^ 32 - 1)) [
 ]
 
 module _ {S : Type 0} (belongs : S → Node → Type 0) (value : S → (ℕ → Bool) → Node → Bool) (ground : Ground) (known : Known) where
+  pub are_kept : (g h : S) → Keeps belongs value g h → (a b : Store) → AreStored (belongs g) a → Extends a b → (r : Reading) (e : Term) (numbers : List ℕ) → AreRight r (value g) a.matrices.items e numbers → AreRight r (value h) b.matrices.items e numbers
+  are_kept g h keeps a b stored extends r e numbers right = record {
+    sets = tuples_kept belongs value r g h keeps a.matrices.items b.matrices.items _ numbers stored.matrices extends.matrices right.sets;
+  }
+
+  -- what was built before stays right
+  ready_kept : (g h : S) → Keeps belongs value g h → (a b : Store) → AreStored (belongs g) a → Extends a b → (r : Reading) (n : ℕ) (all : Ready) → AreReady r (value g) a.matrices.items n all → AreReady r (value h) b.matrices.items n all
+  ready_kept g h keeps a b stored extends r n ready.Nothing are = are
+  ready_kept g h keeps a b stored extends r n (ready.Sets' made there p rest) are = (
+    All-weaker (IsReady r (value g) a.matrices.items n there.now) (IsReady r (value h) b.matrices.items n there.now)
+        (λ (m : Made) (is : IsReady r (value g) a.matrices.items n there.now m). record {
+          names = is.names;
+          right = λ le. are_kept g h keeps a b stored extends (under r (atoms_of there.now)) (term_of m.expr.now) m.numbers.items (is.right le);
+        }) made.now.items are.0,
+    ready_kept g h keeps a b stored extends r n rest are.1,
+  )
+
   -- a step of a walk: the circuit grows, and sets and integers are added
   pub ground_kept : (g h : S) → Keeps belongs value g h → (a b : Store) → AreStored (belongs g) a → Extends a b → (n : ℕ) → IsGround ground (value g) a.matrices.items n → IsGround ground (value h) b.matrices.items n
   ground_kept g h keeps a b stored extends n is = record {
     reading = is.reading;
     kept = kept_kept belongs value (reading_of ground.setting n) g h keeps a.matrices.items b.matrices.items ground.kept.now.items stored.matrices extends.matrices is.kept;
-  }
-
-  pub are_kept : (g h : S) → Keeps belongs value g h → (a b : Store) → AreStored (belongs g) a → Extends a b → (r : Reading) (e : Term) (numbers : List ℕ) → AreRight r (value g) a.matrices.items e numbers → AreRight r (value h) b.matrices.items e numbers
-  are_kept g h keeps a b stored extends r e numbers right = record {
-    sets = tuples_kept belongs value r g h keeps a.matrices.items b.matrices.items _ numbers stored.matrices extends.matrices right.sets;
+    ready = ready_kept g h keeps a b stored extends (reading_of ground.setting n) n ground.ready.now is.ready;
   }
 
   pub not_law : (g h : S) (before : List MatrixEntries) (f : Claim) (row new : List Node) → HasRow ground known (value g) (value h) before f row → IsNegated (value h) row new → HasRow ground known (value g) (value h) before (negation f) new

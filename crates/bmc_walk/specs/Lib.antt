@@ -6,3 +6,4 @@ pub mod Variables
 pub mod Choices
 pub mod Arrows
 pub mod Sums
+pub mod Ready

@@ -1,9 +1,10 @@
 -- What a walk along an expression or a formula leaves.
-use Rattle.std.specs.Prelude.{◌≡◌, ◌↔◌, ◌≤◌, ◌<◌, ◌+◌, ℕ, ℤ, Bool, List, [], ◌∷◌, length, slice_get, Some, IsTrue}
+use Rattle.std.specs.Prelude.{◌≡◌, ◌↔◌, ◌≤◌, ◌<◌, ◌+◌, ℕ, ℤ, Bool, List, [], ◌∷◌, length, slice_get, Some, IsTrue, All}
 use Rattle.gate_trait.specs.declared.node.Node.{Node}
 use Rattle.core_tree.specs.declared.operators.RelationOp.{RelationOp}
-use Rattle.core_tree.specs.Trees.{Term, Claim, Claims, combine, every, more_claims}
+use Rattle.core_tree.specs.Trees.{Term, Claim, Claims, combine, every, more_claims, term_of}
 use Rattle.core_tree.specs.Past.{no_depths, past_in, past_of}
+use Rattle.core_free.specs.Used.{used_in}
 use Rattle.core_meaning.specs.Sequence.{LassoValue}
 use Rattle.core_meaning.specs.Kept.{world_of}
 use Rattle.core_meaning.specs.World.{atom_of}
@@ -19,6 +20,9 @@ use Rattle.bmc_leaves.specs.Table.{Decodes}
 use Rattle.bmc_leaves.specs.Relations.{reading_of}
 use Rattle.bmc_walk.specs.declared.walk.Known.{Known}
 use Rattle.bmc_walk.specs.declared.walk.Known.TheVariants.{Nothing, Atom'}
+use Rattle.bmc_walk.specs.declared.walk.Made.{Made}
+use Rattle.bmc_walk.specs.declared.walk.Ready.{Ready}
+use Rattle.bmc_walk.specs.declared.walk.Ready.TheVariants as ready
 use Rattle.bmc_walk.specs.declared.walk.Ground.{Ground}
 
 -- for which atoms the names stand
@@ -53,10 +57,22 @@ pub record AreNumbers (r : Reading) (value : (ℕ → Bool) → Node → Bool) (
 pub record AreSingles (r : Reading) (value : (ℕ → Bool) → Node → Bool) (integers : List (List Node)) (e : Term) (numbers : List ℕ) : Type 0 where
   pub integers_are : HaveIntegers r value integers (λ lasso k z. (t : List ℕ) → (t ≡ atom_of (world_of r.scopes lasso) z ∷ []) ↔ InTerm (world_of r.scopes lasso) no_bodies e (names_of r.atoms) k t) numbers
 
--- the windows are long enough for past operators that nest so deep, and the sets without parts are right
+-- sets that were built where names stand for these atoms are right, where past operators nest so deep
+pub record IsReady (r : Reading) (value : (ℕ → Bool) → Node → Bool) (matrices : List MatrixEntries) (h : ℕ) (known : Known) (made : Made) : Type 0 where
+  pub names : made.names.items ≡ used_in (term_of made.expr.now)
+  pub right : past_in none_nested (term_of made.expr.now) no_depths ≤ h → AreRight (under r (atoms_of known)) value matrices (term_of made.expr.now) made.numbers.items
+
+-- all that was built before
+abbrev pub AreReady : Reading → ((ℕ → Bool) → Node → Bool) → List MatrixEntries → ℕ → Ready → Type 0
+AreReady r value matrices h ready.Nothing = Unit {0}
+AreReady r value matrices h (ready.Sets' made there p rest) = All (IsReady r value matrices h there.now) made.now.items × AreReady r value matrices h rest
+
+-- the windows are long enough for past operators that nest so deep, and the sets without parts and what was built
+-- before are right
 pub record IsGround (ground : Ground) (value : (ℕ → Bool) → Node → Bool) (matrices : List MatrixEntries) (h : ℕ) : Type 0 where
   pub reading : IsReading (reading_of ground.setting h)
   pub kept : AreKept (reading_of ground.setting h) value matrices ground.kept.now.items
+  pub ready : AreReady (reading_of ground.setting h) value matrices h ground.ready.now
 
 -- the sets are those of the expression
 pub record HasSets (ground : Ground) (known : Known) (old new : (ℕ → Bool) → Node → Bool) (before after : List MatrixEntries) (e : Term) (numbers : List ℕ) : Type 0 where

@@ -118,7 +118,7 @@ pub fn int_leaf(ground: &Ground<'_>) -> Result<Vec<usize>, AllocError>
 }
 
 /// The atom for which a name stands, if it stands for one.
-fn atom_of(known: &Known<'_>, name: u32) -> Option<u32>
+pub fn atom_of(known: &Known<'_>, name: u32) -> Option<u32>
     ensures { result ≡ atom_in (atoms_of known.now) name }
 {
     match known {

@@ -8,9 +8,12 @@ pub mod arrows;
 pub mod choices;
 pub mod forms;
 pub mod formulas;
+pub mod inside;
 pub mod integers;
 pub mod leaves;
 pub mod levels;
+pub mod once;
+pub mod ready;
 pub mod sets;
 pub mod sums;
 pub mod tied;
@@ -18,4 +21,4 @@ pub mod variables;
 pub mod walk;
 pub mod whole;
 
-pub use walk::{Answer, Ground, Known, Walk, Wanted};
+pub use walk::{Answer, Ground, Known, Made, Ready, Walk, Wanted};

@@ -6,8 +6,7 @@ ghost use Rattle.bmc_stack.specs.Stored.{AreStored};
 ghost use Rattle.bmc_places.specs.Stores.{Extends};
 ghost use Rattle.bmc_walk.specs.Walks.{IsAnswer};
 
-use crate::forms::{row_at, sets_at};
-use crate::integers::integers_at;
+use crate::once::{integers_once, row_once, sets_once};
 use crate::walk::{Answer, Ground, Known, Walk, Wanted};
 use bmc_places::cut_to;
 use bmc_stack::Store;
@@ -41,17 +40,17 @@ pub fn walked<'a, G: Gates>(
     };
     match wanted {
         Wanted::Sets(expr) => {
-            let sets = sets_at(&walk, gates, store, expr, known)?;
+            let sets = sets_once(&walk, gates, store, expr, known)?;
             Ok(Answer::Numbers(sets))
         }
         Wanted::Integers(expr) => {
-            let made = integers_at(&walk, gates, store, expr, known)?;
+            let made = integers_once(&walk, gates, store, expr, known)?;
             Ok(Answer::Numbers(made))
         }
         Wanted::Holds(formula) => {
             let matrices = store.matrices.len();
             let integers = store.integers.len();
-            let row = row_at(&walk, gates, store, formula, known)?;
+            let row = row_once(&walk, gates, store, formula, known)?;
             cut_to(gates, store, matrices, integers);
             Ok(Answer::Row(row))
         }

@@ -24,12 +24,33 @@ pub enum Known<'a> {
     Atom(u32, u32, &'a Known<'a>),
 }
 
-/// What all walks have in common: the setting, and what the sets without parts have, by their numbers.
+/// Sets that were built: of which expression, the names that it uses, and the sets' numbers, one for each
+/// place.
+#[derive(Drop)]
+pub struct Made<'a> {
+    pub expr: &'a Expr,
+    pub names: Vec<u32>,
+    pub numbers: Vec<usize>,
+}
+
+/// What was built before variables further in stood for their atoms: loop-invariant code motion (Aho, Lam,
+/// Sethi, Ullman: Compilers).
+#[derive(Clone, Copy)]
+pub enum Ready<'a> {
+    /// Nothing.
+    Nothing,
+    /// Sets, the atoms for which names stood where they were built, and what was built before.
+    Sets(&'a Vec<Made<'a>>, &'a Known<'a>, &'a Ready<'a>),
+}
+
+/// What all walks have in common: the setting, what the sets without parts have, by their numbers, and what
+/// was built before.
 #[derive(Clone, Copy)]
 pub struct Ground<'a> {
     pub alloc: Global,
     pub setting: Setting<'a>,
     pub kept: &'a Vec<Vec<usize>>,
+    pub ready: &'a Ready<'a>,
 }
 
 /// What is wanted of a part.

@@ -11,13 +11,13 @@ returns-in_ok-made-in-Integers-clause-answers g t c = rw c.in-Integers.is c.in_o
 pub returns-in_ok-row-in-Holds-clause-extends : goal.returns-in_ok-row-in-Holds-clause-extends
 returns-in_ok-row-in-Holds-clause-extends g t c =
     let s = c.args.store.now in
-    stays_extends s c.cut_to.new.store (cut_extended s c.row_at.new.store c.cut_to.new.store c.len-matrices.result c.len-integers.result (omega (arith, c.len-matrices.ensures, s.matrices.ok.0)) (omega (arith, c.len-integers.ensures, s.integers.ok.0)) c.in_ok-row-in-Holds.ensures.extends c.cut_to.ensures.matrices c.cut_to.ensures.integers)
+    stays_extends s c.cut_to.new.store (cut_extended s c.row_once.new.store c.cut_to.new.store c.len-matrices.result c.len-integers.result (omega (arith, c.len-matrices.ensures, s.matrices.ok.0)) (omega (arith, c.len-integers.ensures, s.integers.ok.0)) c.in_ok-row-in-Holds.ensures.extends c.cut_to.ensures.matrices c.cut_to.ensures.integers)
 
 pub returns-in_ok-row-in-Holds-clause-answers : goal.returns-in_ok-row-in-Holds-clause-answers
 returns-in_ok-row-in-Holds-clause-answers g t c =
     let s = c.args.store.now in
     rw c.in-Holds.is (
-      cut_extended s c.row_at.new.store c.cut_to.new.store c.len-matrices.result c.len-integers.result (omega (arith, c.len-matrices.ensures, s.matrices.ok.0)) (omega (arith, c.len-integers.ensures, s.integers.ok.0)) c.in_ok-row-in-Holds.ensures.extends c.cut_to.ensures.matrices c.cut_to.ensures.integers,
+      cut_extended s c.row_once.new.store c.cut_to.new.store c.len-matrices.result c.len-integers.result (omega (arith, c.len-matrices.ensures, s.matrices.ok.0)) (omega (arith, c.len-integers.ensures, s.integers.ok.0)) c.in_ok-row-in-Holds.ensures.extends c.cut_to.ensures.matrices c.cut_to.ensures.integers,
       c.in_ok-row-in-Holds.ensures.belongs,
       c.in_ok-row-in-Holds.ensures.right,
     )

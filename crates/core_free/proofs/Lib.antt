@@ -1,0 +1,3 @@
+mod Added
+mod Pairs
+pub mod AlikeLemmas
