@@ -1,11 +1,15 @@
 #!/usr/bin/env python3
 """Runs alloyc's search beside minisat and cadical on the same clauses, and writes a table in Markdown.
 
-usage: solvers.py BENCH_ALLOYC [--limit SECONDS] [--runs N] [--only WORD] [CNF ..]
+usage: solvers.py BENCH_ALLOYC [--limit SECONDS] [--runs N] [--only WORD] [--models ALLOYC FOLDER ..] [CNF ..]
 
 BENCH_ALLOYC is the built program of crates/bench_alloyc, whose mode dimacs is run. minisat and cadical are looked for on the path (Debian has
 both). CNF files that are named are run behind the made ones. Each run is cut off behind the limit (60 seconds of its
 own processor time), and of several runs the least time counts.
+
+With --models the made clauses are left out. In their place stand those that ALLOYC prints for each command of the models
+(NAME.als) of the folders, and of the ring that mode make makes for 3 to 6 nodes. What took no solver 0.05 s is one row
+together, and the last row is the sum over those that each solver ended within the limit.
 """
 import argparse
 import os
@@ -194,31 +198,92 @@ def seconds(value):
     return "over" if value is None else f"{value:.2f}"
 
 
+SOLVERS = (
+    ("minisat", ["minisat", "-verb=1"], r"conflicts\s*:\s*(\d+)"),
+    ("minisat -no-pre", ["minisat", "-no-pre", "-verb=1"], r"conflicts\s*:\s*(\d+)"),
+    ("cadical", ["cadical"], r"c conflicts:\s+(\d+)"),
+)
+
+
 def row(name, path, program, limit, runs):
-    """A row of the table: seconds, conflicts and memory of each solver."""
+    """A row of the table, seconds, conflicts and memory of each solver; and the seconds alone."""
     ours, ours_memory, ours_text = run([program, "dimacs", path], limit, runs)
     cells = [name, verdict_in(ours_text), seconds(ours), number_in(ours_text, r"(\d+) lemmas"), f"{ours_memory // 1024}"]
-    other_time = None
+    times = [ours]
     verdicts = {verdict_in(ours_text)}
-    for solver, words, pattern in (
-        ("minisat", ["minisat", "-verb=1", path], r"conflicts\s*:\s*(\d+)"),
-        ("cadical", ["cadical", path], r"c conflicts:\s+(\d+)"),
-    ):
-        if not shutil.which(solver):
+    for solver, words, pattern in SOLVERS:
+        if not shutil.which(words[0]):
             cells += ["-", "-", "-"]
+            times.append(None)
             continue
-        took, memory, text = run(words, limit, runs)
+        took, memory, text = run([*words, path], limit, runs)
         verdicts.add(verdict_in(text))
-        if solver == "minisat":
-            other_time = took
+        times.append(took)
         cells += [seconds(took), number_in(text, pattern), f"{memory // 1024}"]
     ratio = "-"
-    if ours is not None and other_time is not None:
-        ratio = f"{ours / max(other_time, 0.01):.1f}"
+    if ours is not None and times[1] is not None:
+        ratio = f"{ours / max(times[1], 0.01):.1f}"
     cells.append(ratio)
     if len(verdicts - {"-"}) > 1:
         cells.append("THE VERDICTS DIFFER")
+    return "| " + " | ".join(cells) + " |", times
+
+
+def sum_row(name, all_times):
+    """A row with the sums of the seconds of several, all of which ended."""
+    sums = [sum(column) for column in zip(*all_times)]
+    cells = [name, "", seconds(sums[0]), "", ""]
+    for one in sums[1:]:
+        cells += [seconds(one), "", ""]
+    cells.append(f"{sums[0] / max(sums[1], 0.01):.1f}")
     return "| " + " | ".join(cells) + " |"
+
+
+def printed(alloyc, folders, path):
+    """The name of each command of the models of the folders, and of each ring, whose clauses alloyc prints; they lie in the file."""
+    for folder in folders:
+        for name in sorted(os.listdir(folder)):
+            if not name.endswith(".als"):
+                continue
+            model = os.path.join(folder, name)
+            listed = subprocess.run([alloyc, "commands", name], cwd=folder, stdout=subprocess.PIPE, check=False).stdout
+            for number in range(len(listed.splitlines())):
+                words = [alloyc, "exec", name, "--command", str(number)]
+                if print_clauses(words, folder, path):
+                    yield f"{os.path.basename(model)[:-4]} {number}"
+    for nodes in range(3, 7):
+        if print_clauses([alloyc, "make", str(nodes)], None, path):
+            yield f"ring of {nodes}"
+
+
+def print_clauses(words, folder, path):
+    """Whether clauses are printed: where a trace is found without a conflict there are none."""
+    words = [*words, "--conflicts", "0", "--part", "all"]
+    text = subprocess.run(words, cwd=folder, stdout=subprocess.PIPE, stderr=subprocess.DEVNULL, check=False).stdout
+    found = re.search(rb"^p cnf .*?(?=^(?:derivation|refutation)$)", text, re.M | re.S)
+    with open(path, "wb") as out:
+        out.write(found.group(0) if found else b"")
+    return bool(found)
+
+
+def of_models(given, folder):
+    """Prints the rows of the clauses of models."""
+    alloyc, *folders = given.models
+    path, small, every = os.path.join(folder, "printed.cnf"), [], []
+    for name in printed(os.path.abspath(alloyc), folders, path):
+        if given.only not in name:
+            continue
+        line, times = row(name, path, given.program, given.limit, given.runs)
+        if None not in times:
+            every.append(times)
+        if all(took is not None and took < 0.05 for took in times):
+            small.append(times)
+        else:
+            print(line, flush=True)
+    if small:
+        print(sum_row(f"{len(small)} others", small))
+    if every:
+        print(sum_row(f"all {len(every)} that ended", every))
 
 
 def processor():
@@ -233,22 +298,29 @@ def main():
     words.add_argument("--limit", type=int, default=60)
     words.add_argument("--runs", type=int, default=3)
     words.add_argument("--only", default="")
+    words.add_argument("--models", nargs="+", default=[])
     words.add_argument("files", nargs="*")
     given = words.parse_args()
     load = os.getloadavg()
     print(f"Seconds in user code (the least of {given.runs} runs), conflicts or lemmas, megabytes.")
     print(f"{processor()}, {os.cpu_count()} processors, load {load[0]:.1f}.\n")
-    print("| Clauses | Satisfiable | alloyc s | lemmas | MB | minisat s | conflicts | MB | cadical s | conflicts | MB | alloyc/minisat |")
-    print("|---|---|---|---|---|---|---|---|---|---|---|---|")
+    heads = ["Clauses", "Satisfiable", "alloyc s", "lemmas", "MB"]
+    for solver, _, _ in SOLVERS:
+        heads += [f"{solver} s", "conflicts", "MB"]
+    heads.append("alloyc/minisat")
+    print("| " + " | ".join(heads) + " |")
+    print("|" + "---|" * len(heads))
     with tempfile.TemporaryDirectory() as folder:
-        for name, made in instances():
+        if given.models:
+            of_models(given, folder)
+        for name, made in () if given.models else instances():
             if given.only not in name:
                 continue
             path = os.path.join(folder, "made.cnf")
             write_cnf(path, *made)
-            print(row(name, path, given.program, given.limit, given.runs), flush=True)
+            print(row(name, path, given.program, given.limit, given.runs)[0], flush=True)
         for path in given.files:
-            print(row(os.path.basename(path), path, given.program, given.limit, given.runs), flush=True)
+            print(row(os.path.basename(path), path, given.program, given.limit, given.runs)[0], flush=True)
 
 
 if __name__ == "__main__":
