@@ -4,6 +4,7 @@
 
 ghost use Rattle.std.specs.Prelude.{◌≡◌, ◌+◌, ◌-◌, ◌*◌, ◌/◌, ◌<◌, ◌≤◌, length, IfSome};
 
+use crate::picks::MOST;
 use std::alloc::{AllocError, Global};
 
 /// The weight of a variable, or 0 where it has none.
@@ -18,24 +19,24 @@ fn weight_of(weights: &[u64], variable: usize) -> u64 {
 
 /// Puts a variable at a place of the order.
 #[inline]
-fn put(order: &mut [usize], places: &mut [usize], place: usize, variable: usize) {
-    if place < order.len() && variable < places.len() {
-        order[place] = variable;
-        places[variable] = place;
+fn put(order: &mut [u32], places: &mut [u32], place: usize, variable: usize) {
+    if place < order.len().min(MOST) && variable < places.len().min(MOST) {
+        order[place] = variable as u32;
+        places[variable] = place as u32;
     }
 }
 
 /// Moves the variable at a place up, as far as its weight is greater.
-fn rise(weights: &[u64], order: &mut [usize], places: &mut [usize], start: usize) {
+fn rise(weights: &[u64], order: &mut [u32], places: &mut [u32], start: usize) {
     if start >= order.len() {
         return;
     }
-    let variable = order[start];
+    let variable = order[start] as usize;
     let weight = weight_of(weights, variable);
     let mut place = start;
     'up: while place > 0 {
         let parent = (place - 1) / 2;
-        let above = order[parent];
+        let above = order[parent] as usize;
         if weight_of(weights, above) >= weight {
             break;
         }
@@ -47,7 +48,7 @@ fn rise(weights: &[u64], order: &mut [usize], places: &mut [usize], start: usize
 
 /// The one of the two places below a place whose variable has the greater weight.
 #[inline]
-fn greater_child(weights: &[u64], order: &[usize], place: usize, len: usize) -> usize
+fn greater_child(weights: &[u64], order: &[u32], place: usize, len: usize) -> usize
     requires in_order { len ≤ length order.now }
     requires has_child { place < len / 2 }
     ensures below { place < result }
@@ -55,7 +56,9 @@ fn greater_child(weights: &[u64], order: &[usize], place: usize, len: usize) -> 
 {
     let left = 2 * place + 1;
     let right = left + 1;
-    if right < len && weight_of(weights, order[right]) > weight_of(weights, order[left]) {
+    if right < len
+        && weight_of(weights, order[right] as usize) > weight_of(weights, order[left] as usize)
+    {
         right
     } else {
         left
@@ -63,18 +66,18 @@ fn greater_child(weights: &[u64], order: &[usize], place: usize, len: usize) -> 
 }
 
 /// Moves the first variable down, as far as its weight is smaller.
-fn sink(weights: &[u64], order: &mut [usize], places: &mut [usize], len: usize)
+fn sink(weights: &[u64], order: &mut [u32], places: &mut [u32], len: usize)
     requires { len ≤ length order.old }
 {
     if len == 0 {
         return;
     }
-    let variable = order[0];
+    let variable = order[0] as usize;
     let weight = weight_of(weights, variable);
     let mut place = 0;
     'down: while place < len / 2 {
         let child = greater_child(weights, order, place, len);
-        let below = order[child];
+        let below = order[child] as usize;
         if weight_of(weights, below) <= weight {
             break;
         }
@@ -89,9 +92,9 @@ fn sink(weights: &[u64], order: &mut [usize], places: &mut [usize], len: usize)
 pub(crate) struct WeightHeap {
     weights: Vec<u64>,
     /// The waiting variables stand at the first `len` places.
-    order: Vec<usize>,
+    order: Vec<u32>,
     /// Where each waiting variable stands.
-    places: Vec<usize>,
+    places: Vec<u32>,
     pub len: usize,
     ghost within: { len ≤ length order.items },
 }
@@ -107,10 +110,13 @@ impl WeightHeap {
         }
     }
 
-    /// So many variables of weight 0, all waiting.
+    /// So many variables of weight 0, all waiting. The only error is want of memory, which is also that they are too many.
     pub fn new(alloc: Global, variables: usize) -> Result<WeightHeap, AllocError> {
-        let order: Vec<usize> = (0..variables).collect(alloc)?;
-        let places: Vec<usize> = (0..variables).collect(alloc)?;
+        if variables >= MOST {
+            return Err(AllocError);
+        }
+        let order: Vec<u32> = (0..variables as u32).collect(alloc)?;
+        let places: Vec<u32> = (0..variables as u32).collect(alloc)?;
         let len = order.len();
         Ok(WeightHeap {
             weights: vec![in alloc; 0; variables]?,
@@ -125,8 +131,8 @@ impl WeightHeap {
         if variable >= self.places.len() {
             return None;
         }
-        let place = self.places[variable];
-        if place < self.len && self.order[place] == variable {
+        let place = self.places[variable] as usize;
+        if place < self.len && self.order[place] as usize == variable {
             Some(place)
         } else {
             None
@@ -151,10 +157,10 @@ impl WeightHeap {
         if self.len == 0 {
             return None;
         }
-        let first = self.order[0];
+        let first = self.order[0] as usize;
         self.len -= 1;
         let len = self.len;
-        let last = self.order[len];
+        let last = self.order[len] as usize;
         put(&mut self.order, &mut self.places, 0, last);
         sink(&self.weights, &mut self.order, &mut self.places, len);
         Some(first)
