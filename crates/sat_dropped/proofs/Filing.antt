@@ -1,5 +1,5 @@
 -- Entries come to a list and leave it.
-use Rattle.std.proofs.Common.{ℕ, ◌+◌, ◌-◌, ◌<◌, ◌≤◌, ◌≡◌, ◌≢◌, ℤ, pos, List, [], ◌∷◌, ◌++◌, length, get_or, set, refl, sym, ap, subst, ◌∙◌, inl, inr, ◌⊎◌, ⊎_elim, arith, length-append}
+use Rattle.std.proofs.Common.{ℕ, ◌+◌, ◌-◌, ◌*◌, ◌<◌, ◌≤◌, ◌≡◌, ◌≢◌, ℤ, pos, Bool, true, false, List, [], ◌∷◌, ◌++◌, length, get_or, set, refl, sym, ap, subst, ◌∙◌, inl, inr, ◌⊎◌, ⊎_elim, arith, length-append}
 use Rattle.std.specs.List.{Contains, remove, sum_by}
 use Rattle.std.proofs.lemmas.Bool.{cases_lt, cases_eq}
 use Rattle.std.proofs.lemmas.List.{get_or_default, get_or_append_left, get_or_push, get_or-set_same, get_or-set_other, get_or_past}
@@ -9,6 +9,7 @@ use Rattle.std.proofs.lemmas.List.Sums.{sum_by-set}
 use Rattle.sat_trail.specs.State.{Search, clause_at}
 use Rattle.sat_dropped.specs.Part.{IsPart, slot_of, signature_of}
 use Rattle.sat_dropped.specs.Entries.{Entries, list_at, HasEntry, IsFiled, IsListFiled, AreFiled}
+use Rattle.sat_dropped.specs.Kept.{list_count}
 
 at_same : (lists : List (List ℕ)) (c d : ℕ) (ns : List ℕ) → c < length lists → d ≡ c → list_at (set lists c ns) d ≡ ns
 at_same lists c d ns b is = ap (λ (n : ℕ). list_at (set lists c ns) n) is ∙ get_or-set_same lists c ns [] b
@@ -168,3 +169,21 @@ pub none_in : (s : Search) (literals : List ℤ) (numbers : List (List ℕ)) (ro
     → (k : ℕ) → k < length (list_at numbers slot) → IsPart (clause_at s (get_or (list_at numbers slot) k 0 - 1)) literals → ⊥
 none_in s literals numbers row c slot is at h =
     subst (λ (xs : List ℕ). (k : ℕ) → k < length xs → IsPart (clause_at s (get_or xs k 0 - 1)) literals → ⊥) (is ∙ ap (list_at numbers) at) h
+
+-- ---- lists that are made when the first entry comes
+
+pub made_room : {X : Type 0} (lists : List X) (variables : ℕ) (is_open : Bool) → length lists ≡ list_count variables is_open → is_open ≡ true → 2 * variables < length lists
+made_room lists variables is_open size made = omega (arith, size ∙ ap (list_count variables) made)
+
+pub none_made : (lists : List (List ℕ)) (variables : ℕ) (is_open : Bool) → length lists ≡ list_count variables is_open → is_open ≡ false → (c : ℕ) → list_at lists c ≡ []
+none_made lists variables is_open size none c = get_or_past lists c [] (omega (arith, size ∙ ap (list_count variables) none))
+
+pub no_entry : (d : Entries) (n : ℕ) → ((c : ℕ) → list_at d.numbers c ≡ []) → HasEntry d n → ⊥
+no_entry d n none h = absurd (omega (arith, h.1.1, ap length (none h.0)))
+
+pub filed_same : (s : Search) (signatures numbers signatures' numbers' : List (List ℕ)) → ((c : ℕ) → (list_at signatures' c ≡ list_at signatures c) × (list_at numbers' c ≡ list_at numbers c)) → AreFiled s signatures numbers → AreFiled s signatures' numbers'
+filed_same s signatures numbers signatures' numbers' same h c =
+    list_filed_at s c c (list_at signatures' c) (list_at numbers' c) (list_at signatures c) (list_at numbers c) refl (same c).0 (same c).1 (h c)
+
+pub entry_same : (d e : Entries) (n : ℕ) → ((c : ℕ) → (list_at e.signatures c ≡ list_at d.signatures c) × (list_at e.numbers c ≡ list_at d.numbers c)) → HasEntry d n → HasEntry e n
+entry_same d e n same h = (h.0, subst (λ (xs : List ℕ). Contains xs n) (sym (same h.0).1) h.1)

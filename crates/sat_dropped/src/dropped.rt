@@ -44,6 +44,8 @@ fn shortest(numbers: &[NumberList], literals: &[i32]) -> usize
 pub struct Dropped {
     /// How many variables there are.
     variables: usize,
+    /// Whether the lists and places are made; before the first entry there are none.
+    is_open: bool,
     /// For each literal the signatures of the lemmas in its list.
     signatures: Vec<NumberList>,
     /// For each literal the numbers of these lemmas, in the same order.
@@ -67,7 +69,8 @@ impl Model for Dropped {
 }
 
 impl Dropped {
-    /// No entry, over so many variables. The only error is want of memory.
+    /// No entry, over so many variables. The only error is want of memory, which is also that the literals are too many to
+    /// have lists.
     pub fn new(alloc: Global, variables: usize) -> Result<Dropped, AllocError>
         ensures variables { IfOk result (λ d. d.variables ≡ variables) }
         ensures none { IfOk result (λ d. (c : ℕ) → (list_at d.signatures c ≡ [])
@@ -76,14 +79,48 @@ impl Dropped {
         if variables > usize::MAX / 4 {
             return Err(AllocError);
         }
+        Ok(Dropped {
+            variables,
+            is_open: false,
+            signatures: Vec::new(alloc),
+            numbers: Vec::new(alloc),
+            places: Vec::new(alloc),
+            count: 0,
+        })
+    }
+
+    /// No entry, with a list for each literal over so many variables. The only error is want of memory.
+    fn opened(alloc: Global, variables: usize) -> Result<Dropped, AllocError>
+        requires { variables < 2 ^ 62 }
+        ensures variables { IfOk result (λ d. d.variables ≡ variables) }
+        ensures none { IfOk result (λ d. (c : ℕ) → (list_at d.signatures c ≡ [])
+            × (list_at d.numbers c ≡ [])) }
+        ensures room { IfOk result (λ d. 2 * variables < length d.numbers) }
+    {
         let count = 2 * variables + 1;
         Ok(Dropped {
             variables,
+            is_open: true,
             signatures: no_lists(alloc, count)?,
             numbers: no_lists(alloc, count)?,
             places: vec![in alloc; 0; count]?,
             count: 0,
         })
+    }
+
+    /// Makes the lists, unless they are there. The only error is want of memory.
+    fn open(&mut self) -> Result<(), AllocError>
+        ensures variables { self.new.variables ≡ self.old.variables }
+        ensures room { OnOk result (2 * self.new.variables < length self.new.numbers) }
+        ensures same { (c : ℕ) → (list_at self.new.signatures c ≡ list_at self.old.signatures c)
+            × (list_at self.new.numbers c ≡ list_at self.old.numbers c) }
+    {
+        if self.is_open {
+            return Ok(());
+        }
+        let opened = Dropped::opened(*self.numbers.allocator(), self.variables)?;
+        *self = opened;
+        Ok(())
     }
 
     /// How many entries there are.
@@ -96,7 +133,7 @@ impl Dropped {
 
     /// Adds an entry at the end of a list.
     fn file(&mut self, list: usize, signature: u64, number: u64) -> Result<(), AllocError>
-        requires { list < 2 * self.old.variables + 1 }
+        requires { list < length self.old.numbers }
         ensures variables { self.new.variables ≡ self.old.variables }
         ensures signatures { OnOk result (self.new.signatures ≡ slice_set self.old.signatures list
             (list_at self.old.signatures list ++ signature ∷ [])) }
@@ -114,8 +151,9 @@ impl Dropped {
         Ok(())
     }
 
-    /// Adds an entry of a clause, unless that is empty, and tells whether it did. The only error is want of memory.
-    pub fn add(&mut self, trail: &Trail, number: u64) -> Result<bool, AllocError>
+    /// As `add`, where the lists are made.
+    fn enter(&mut self, trail: &Trail, number: u64) -> Result<bool, AllocError>
+        requires room { 2 * self.old.variables < length self.old.numbers }
         requires variables { self.old.variables ≡ trail.now.variables }
         requires number { (0 < number) × (number ≤ length trail.now.ends) }
         requires filed { AreFiled trail.now self.old.signatures self.old.numbers }
@@ -131,6 +169,21 @@ impl Dropped {
         let list = slot(literal_at(literals, shortest(&self.numbers, literals)));
         self.file(list, kept_signature(literals), number)?;
         Ok(true)
+    }
+
+    /// Adds an entry of a clause, unless that is empty, and tells whether it did. The only error is want of memory.
+    pub fn add(&mut self, trail: &Trail, number: u64) -> Result<bool, AllocError>
+        requires variables { self.old.variables ≡ trail.now.variables }
+        requires number { (0 < number) × (number ≤ length trail.now.ends) }
+        requires filed { AreFiled trail.now self.old.signatures self.old.numbers }
+        ensures variables { self.new.variables ≡ self.old.variables }
+        ensures filed { OnOk result (AreFiled trail.now self.new.signatures self.new.numbers) }
+        ensures kept { OnOk result ((n : ℕ) → HasEntry self.old n → HasEntry self.new n) }
+        ensures added { IfOk result (λ is_added. IsTrue is_added → HasEntry self.new number) }
+    {
+        self.open()?;
+        let is_added = self.enter(trail, number)?;
+        Ok(is_added)
     }
 
     /// Takes out an entry of a list, and gives its number.
@@ -171,6 +224,9 @@ impl Dropped {
             IsPart (clause_at trail.now (n - 1)) literals.now → ⊥) }
         ensures same { IfNone result (self.new ≡ self.old) }
     {
+        if !self.is_open {
+            return None;
+        }
         keep_places(&mut self.places, literals);
         let bits = signature(literals);
         match find(

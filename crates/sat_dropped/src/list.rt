@@ -61,7 +61,7 @@ impl NumberList {
 pub(crate) fn no_lists(alloc: Global, count: usize) -> Result<Vec<NumberList>, AllocError>
     ensures { IfOk result (λ lists. lists.items ≡ replicate count []) }
 {
-    let mut lists = Vec::new(alloc);
+    let mut lists = Vec::with_capacity(alloc, count)?;
     for _place in 0..count {
         lists.push(NumberList::new(alloc))?;
     }

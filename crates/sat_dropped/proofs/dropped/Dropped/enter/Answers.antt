@@ -2,7 +2,7 @@ use Rattle.std.proofs.Common.{◌≡◌, ◌∙◌, ap, pos, get_or, rules, w64,
 use Rattle.std.proofs.lemmas.Int.{to_z-of_z}
 use Rattle.sat_dropped.specs.Part.{slot_of}
 use Rattle.sat_dropped.proofs.Filing.{entry_made, filed_pushed, entry_pushed, entry_added}
-use Rattle.sat_dropped.proofs.dropped.Dropped.add.Goals as goal
+use Rattle.sat_dropped.proofs.dropped.Dropped.enter.Goals as goal
 
 pub returns-clause-filed : goal.returns-clause-filed
 returns-clause-filed c =
