@@ -191,8 +191,11 @@ class Builds:
         for at, crate in enumerate(ready):
             idle = self.rt.processors() - sum(self.jobs[it] for it in self.running)
             room = self.most - sum(self.needs(it, self.jobs[child]) for child, it in self.running.items())
-            if idle < 1 or self.running and self.needs(crate, 1) > room:
+            if idle < 1:
                 return
+            # (where there is no room for a large one, smaller ones go first: what ends makes room for it)
+            if self.running and self.needs(crate, 1) > room:
+                continue
             # (a crate gets the processors that no other waits for; the first one two, where what stands above it is longer
             # than an equal share of all that is left)
             jobs = max(2 if at == 0 and self.is_long(crate) else 1, idle // (len(ready) - at))

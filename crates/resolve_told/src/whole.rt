@@ -9,6 +9,8 @@ use crate::commands::are_commands_told;
 use core_tree::Model;
 use resolve_names::{Names, names};
 use resolve_places::is_placed;
+use resolve_told_literals::are_literals_told;
+use resolve_told_opens::are_opens_told;
 use resolve_told_sigs::are_sigs_told;
 use std::alloc::{AllocError, Global};
 use syntax_tree::Loaded;
@@ -24,7 +26,8 @@ fn names_of(alloc: Global, loaded: &Loaded) -> Result<Names, AllocError>
 }
 
 /// Whether a model says what the loaded texts do: its sigs, fields, facts, assertions, predicates and functions are just those
-/// that they declare, its commands are those of the root, and each of its formulas says what its text says.
+/// that they declare, its commands are those of the root, and each of its formulas says what its text says. It has a sig for each
+/// literal in them, and its sigs are exact where their opens say so.
 ///
 /// It takes a model before the relation parameters of a command are fields. Where a name of the texts stands for several
 /// declarations that are seen, any one of them will do.
@@ -45,5 +48,13 @@ pub fn is_of_texts(alloc: Global, loaded: &Loaded, model: &Model) -> Result<bool
         return Ok(false);
     }
     let commands = are_commands_told(alloc, loaded, &names, model)?;
-    Ok(commands)
+    if !commands {
+        return Ok(false);
+    }
+    let literals = are_literals_told(alloc, loaded, model)?;
+    if !literals {
+        return Ok(false);
+    }
+    let opens = are_opens_told(alloc, loaded, &names, model)?;
+    Ok(opens)
 }
