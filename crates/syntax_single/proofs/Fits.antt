@@ -5,7 +5,7 @@ use Rattle.syntax_tree.specs.declared.token.TokenKind.{TokenKind}
 use Rattle.syntax_tree.specs.declared.expr.Expr.{Expr}
 use Rattle.syntax_tree.specs.declared.shape.Shape.{Shape}
 use Rattle.syntax_tree.specs.Words.{Spelled}
-use Rattle.syntax_single.proofs.Reader.{Frame, Last, Consequence, Row, Steps, Closing, Items, Arguments, Bounds, Values, Have, ahead, named, low, least, least_of, forms, complete, settle, settled, operate, inside, go_on, run}
+use Rattle.syntax_single.proofs.Reader.{Frame, Last, Consequence, Row, Steps, Closing, Items, Arguments, Bounds, Values, Stop, Have, ahead, named, low, least, least_of, forms, complete, settle, settled, operate, inside, go_on, run}
 
 -- Facts of Bools.
 
@@ -312,6 +312,7 @@ kept a (Items items) h = grind (arith, nat_tests)
 kept a (Arguments first steps arguments) h = grind (arith, nat_tests)
 kept a (Bounds form decls is_disjoint names word) h = grind (arith, nat_tests)
 kept a (Values bindings name) h = grind (arith, nat_tests)
+kept a Stop h = grind (arith, nat_tests)
 
 pub settles : (a : ℕ) (x : Expr) (k : List Frame) → nat_le (least_of k) a ≡ true → settle a x k ≡ (x, k)
 settles a x [] h = refl

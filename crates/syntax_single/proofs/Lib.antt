@@ -6,3 +6,9 @@ mod Rows
 mod Lists
 mod Variables
 mod Law
+mod Cut
+mod Pieces
+mod Parts
+mod Paragraphs
+mod Commands
+mod Modules

@@ -13,7 +13,7 @@ use Rattle.syntax_tree.specs.Words.{Spelled, symbol}
 use Rattle.syntax_tree.specs.Spelling.{separated, after_each, joined, access_words}
 use Rattle.syntax_tree.specs.Levels.{may_end, every, with_item, items_right, block, begun, stepped, join}
 use Rattle.syntax_single.specs.Placeless.{nowhere}
-use Rattle.syntax_single.proofs.Reader.{Frame, Last, Consequence, Row, Steps, Closing, Items, Arguments, Bounds, Values, State, Need, Have, Names, Blocking, Boxing, Boxed, Comprehend, other, sign, sign_at, is_disj, behind_name, named, looks, ahead, least_of, settle, by_look, by_slash, chained, boxed, on_item, on_box, on_block, begin, go_on, step, run}
+use Rattle.syntax_single.proofs.Reader.{Frame, Last, Consequence, Row, Steps, Closing, Items, Arguments, Bounds, Values, Stop, State, Need, Have, Names, Blocking, Boxing, Boxed, Comprehend, other, sign, sign_at, is_disj, behind_name, named, looks, ahead, least_of, settle, by_look, by_slash, chained, boxed, on_item, on_box, on_block, begin, go_on, step, run}
 use Rattle.syntax_single.proofs.Fits.{both_left, both_right, of_not, has_first, has_second, itself, at_most, limit_of, lead_limit, inner_limit, lower, Fits, whole_fits, first_fits, last_fits, inner_fits, pops, operates_at, leads}
 use Rattle.syntax_single.proofs.Forms.{Reads, Front, Part, sign_append, no_name, node_front}
 use Rattle.syntax_single.proofs.Rows.{Kept, three_zeros, row_tight, row_level}
@@ -292,6 +292,7 @@ chained_new x (Items items ∷ k) h = refl
 chained_new x (Arguments first steps arguments ∷ k) h = refl
 chained_new x (Bounds form decls is_disjoint names word ∷ k) h = refl
 chained_new x (Values bindings name ∷ k) h = refl
+chained_new x (Stop ∷ k) h = refl
 
 -- what is known of a join
 record Join_of (p : Part) (x : Access Part) (xs : List (Access Part)) (t : Shape) : Type 0 where

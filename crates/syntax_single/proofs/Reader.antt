@@ -180,6 +180,8 @@ pub data Frame : Type 0 where
   Arguments : (first : Expr) (steps : List (Access Expr)) (arguments : List Expr) → Frame
   Bounds : (form : Form) (decls : List (Decl Expr)) (is_disjoint : Bool) (names : List Named) (word : Option Multiplicity) → Frame
   Values : (bindings : List (Binding Expr)) (name : List ℕ) → Frame
+  -- the end of a bound outside expressions
+  Stop : Frame
 
 pub data State : Type 0 where
   Need : (k : List Frame) → State
@@ -223,6 +225,7 @@ forms (Consequence is_word condition ∷ k) = forms k
 forms (Row level first links operator ∷ k) = forms k
 forms (Steps first steps ∷ k) = forms k
 forms (Bounds form decls is_disjoint names word ∷ k) = false
+forms (Stop ∷ k) = false
 forms (_ ∷ k) = true
 
 abbrev pub complete : Frame → Expr → Expr

@@ -16,7 +16,7 @@ use Rattle.syntax_tree.specs.declared.shape.Shape.{Shape}
 use Rattle.syntax_tree.specs.Words.{Spelled, word, symbol, multiplicity_word, multiplicity_words, infix_words}
 use Rattle.syntax_tree.specs.Spelling.{joined, link_words}
 use Rattle.syntax_tree.specs.Levels.{may_end, infix_level, linked, begun, chain}
-use Rattle.syntax_single.proofs.Reader.{Frame, Last, Consequence, Row, Steps, Closing, Items, Arguments, Bounds, Values, Need, Have, named, looks, ahead, least_of, forms, complete, settle, unless, word_at, past, rowed, rowed_on, arrowed, run}
+use Rattle.syntax_single.proofs.Reader.{Frame, Last, Consequence, Row, Steps, Closing, Items, Arguments, Bounds, Values, Stop, Need, Have, named, looks, ahead, least_of, forms, complete, settle, unless, word_at, past, rowed, rowed_on, arrowed, run}
 use Rattle.syntax_single.proofs.Fits.{both_left, both_right, of_not, has_first, has_second, itself, at_most, is_below, is_same, limit_of, lead_limit, inner_limit, lower, Fits, first_fits, last_fits, inner_fits, pops, operates_at, leads}
 use Rattle.syntax_single.proofs.Forms.{Reads, Front, Part, Within, no_name, node_front}
 use Rattle.syntax_single.proofs.Operators.{after_word}
@@ -104,6 +104,7 @@ rowed_new o x (Items items ∷ k) h = refl
 rowed_new o x (Arguments first steps arguments ∷ k) h = refl
 rowed_new o x (Bounds form decls is_disjoint names word ∷ k) h = refl
 rowed_new o x (Values bindings name ∷ k) h = refl
+rowed_new o x (Stop ∷ k) h = refl
 
 -- Operands of a row.
 

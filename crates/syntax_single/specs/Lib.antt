@@ -1,2 +1,3 @@
 pub mod Placeless
+pub mod PlacelessModule
 pub mod Single

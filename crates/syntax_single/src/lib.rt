@@ -5,7 +5,7 @@
 //! do nothing; a caller that needs a law calls it.
 #![tactic(auto)]
 
-ghost use Rattle.syntax_single.specs.Single.{TreesAreSingle, BoundsAreSingle};
+ghost use Rattle.syntax_single.specs.Single.{TreesAreSingle, BoundsAreSingle, ModulesAreSingle};
 
 /// A law: two right trees that spell the same tokens are the same, but for their places.
 pub fn trees_are_single()
@@ -15,4 +15,10 @@ pub fn trees_are_single()
 /// The same law for bounds, with the multiplicity words before them.
 pub fn bounds_are_single()
     ensures { BoundsAreSingle }
+{}
+
+/// The same law for whole texts: two right modules that spell the same tokens are the same, but for
+/// their places.
+pub fn modules_are_single()
+    ensures { ModulesAreSingle }
 {}
