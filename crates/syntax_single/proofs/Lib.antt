@@ -12,3 +12,5 @@ mod Parts
 mod Paragraphs
 mod Commands
 mod Modules
+mod Placing
+mod PlacedModules
