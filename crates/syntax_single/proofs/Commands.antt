@@ -347,8 +347,8 @@ the_label = worded label_or_none label_words label_spelled
 abbrev pub CommandParts : Type 0
 CommandParts = Option Named × (Bool × (Subject × (Option Scope × Option ℕ)))
 
-abbrev pub command_parts : ℕ → Piece CommandParts CommandParts
-command_parts depth = both the_label (both the_keyword (both (a_subject depth) (both the_scope the_count (λ o r p f. for_end o r f)) (λ x r p f. subject_end x.0 x.1 r f)) (λ b r p f. tt))
+abbrev pub parts_of_command : ℕ → Piece CommandParts CommandParts
+parts_of_command depth = both the_label (both the_keyword (both (a_subject depth) (both the_scope the_count (λ o r p f. for_end o r f)) (λ x r p f. subject_end x.0 x.1 r f)) (λ b r p f. tt))
     (λ x r p f. (tt, keyword_nameless x.0 (subject_words x.1.0 ++ (for_words x.1.1.0 ++ expect_words x.1.1.1)) r))
 
 pub count_ok : (o : Option ℕ) → the_count.Ok o
@@ -363,7 +363,7 @@ pub command_plain : (c : Command) → placeless_command c ≡ record (placeless_
 command_plain c = ap (λ o. record (placeless_command c) { expected = o }) (same_counts c.expected)
 
 abbrev pub a_command : ℕ → Piece Command Command
-a_command depth = seen (command_parts depth) command_words placeless_command (λ c. command_right depth c ≡ true) Behind (λ c. (c.label, (c.is_check, (c.subject, (c.scope, c.expected)))))
+a_command depth = seen (parts_of_command depth) command_words placeless_command (λ c. command_right depth c ≡ true) Behind (λ c. (c.label, (c.is_check, (c.subject, (c.scope, c.expected)))))
     (λ v. record { place = nowhere; label = v.0; keyword = nowhere; is_check = v.1.0; subject = v.1.1.0; scope = v.1.1.1.0; expected = v.1.1.1.1 })
     (λ c p. (named_ok c.label, (tt, (both_left (subject_right depth c.subject) (on scope_right c.scope) p, (part_passed scope_right c.scope (both_right (subject_right depth c.subject) (on scope_right c.scope) p), count_ok c.expected)))))
     (λ r f. f) (λ c p. refl) (λ c p. command_plain c)

@@ -45,7 +45,7 @@ use Rattle.syntax_single.specs.PlacelessModule.{each_part, placeless_sig_name, p
 use Rattle.syntax_single.specs.Single.{TokensHaveOneTree, TokensHaveOneModule}
 use Rattle.syntax_single.proofs.Law.{single}
 use Rattle.syntax_single.proofs.Modules.{modules_single}
-use Rattle.syntax_single.proofs.Placing.{tree_places, Put, Puts, pure, skip, skips, skip_if, here, bind, mapped, put_each, put_separated, put_named, put_names, put_name, put_decl, put, pure_puts, skip_puts, skips_puts, skip_if_puts, here_puts, bind_puts, mapped_puts, named_puts, names_put, name_puts, list_puts, row_puts, tree_put, the_tokens}
+use Rattle.syntax_single.proofs.Placing.{trees_agree, Put, Puts, pure, skip, skips, skip_if, here, bind, mapped, put_each, put_separated, put_named, put_names, put_name, put_decl, put, pure_puts, skip_puts, skips_puts, skip_if_puts, here_puts, bind_puts, mapped_puts, named_puts, names_put, name_puts, list_puts, row_puts, tree_put, the_tokens}
 
 -- Lists in brackets.
 
@@ -315,11 +315,11 @@ module_puts : (m : Module) → Puts (put_module (placeless_module m)) (module_pi
 module_puts m = bind_puts _ _ _ _ _ _ (first_puts m.header) (bind_puts _ _ _ _ _ _ (row_puts put_open placeless_open open_pieces open_puts m.opens) (bind_puts _ _ _ _ _ _ (row_puts put_paragraph placeless_paragraph paragraph_pieces paragraph_puts m.paragraphs) (skip_puts _ _ _ _ (pure_puts _))))
 
 -- the same places in the same tokens
-pub module_places : (m n : Module) (ts : List Token) → placeless_module m ≡ placeless_module n → at_places (module_pieces m) ts ≡ true → at_places (module_pieces n) ts ≡ true → m ≡ n
-module_places m n ts same a b = sym (the_tokens (put_module (placeless_module m)) (module_pieces m) m ts (module_puts m) a) ∙ (ap (λ z. (put_module z ts).0) same ∙ the_tokens (put_module (placeless_module n)) (module_pieces n) n ts (module_puts n) b)
+pub modules_agree : (m n : Module) (ts : List Token) → placeless_module m ≡ placeless_module n → at_places (module_pieces m) ts ≡ true → at_places (module_pieces n) ts ≡ true → m ≡ n
+modules_agree m n ts same a b = sym (the_tokens (put_module (placeless_module m)) (module_pieces m) m ts (module_puts m) a) ∙ (ap (λ z. (put_module z ts).0) same ∙ the_tokens (put_module (placeless_module n)) (module_pieces n) n ts (module_puts n) b)
 
 pub one_tree : TokensHaveOneTree
-one_tree tokens t u a b = tree_places t u tokens (single t u a.0 b.0 (sym a.1 ∙ b.1)) a.2 b.2
+one_tree tokens t u a b = trees_agree t u tokens (single t u a.0 b.0 (sym a.1 ∙ b.1)) a.2 b.2
 
 pub one_module : TokensHaveOneModule
-one_module depth tokens m n a b = module_places m n tokens (modules_single depth m n a.0 b.0 (sym a.1 ∙ b.1)) a.2 b.2
+one_module depth tokens m n a b = modules_agree m n tokens (modules_single depth m n a.0 b.0 (sym a.1 ∙ b.1)) a.2 b.2

@@ -410,5 +410,5 @@ pub the_tokens : {A : Type 0} (f : Put A) (ps : Pieces) (a : A) (ts : List Token
 unfolding Puts
 the_tokens {A} f ps a ts it h = let found : (left : List Token) × (◌≡◌ {A = A × List Token} (f ts) (a, left)) × (at_places [] left ≡ true) = it [] ts (ap (λ z. at_places z ts) (append-nil ps) ∙ h) in ap (λ (z : A × List Token). z.0) found.1
 
-pub tree_places : (e u : Expr) (ts : List Token) → placeless e ≡ placeless u → at_places (pieces e) ts ≡ true → at_places (pieces u) ts ≡ true → e ≡ u
-tree_places e u ts same a b = sym (the_tokens (put (placeless e)) (pieces e) e ts (tree_put e) a) ∙ (ap (λ z. (put z ts).0) same ∙ the_tokens (put (placeless u)) (pieces u) u ts (tree_put u) b)
+pub trees_agree : (e u : Expr) (ts : List Token) → placeless e ≡ placeless u → at_places (pieces e) ts ≡ true → at_places (pieces u) ts ≡ true → e ≡ u
+trees_agree e u ts same a b = sym (the_tokens (put (placeless e)) (pieces e) e ts (tree_put e) a) ∙ (ap (λ z. (put z ts).0) same ∙ the_tokens (put (placeless u)) (pieces u) u ts (tree_put u) b)

@@ -21,7 +21,14 @@ abbrev pub placeless_named : Named → Named
 placeless_named named = record { place = nowhere; name = named.name }
 
 abbrev pub placeless_decl : {E : Type 0} → Decl E → Decl E
-placeless_decl d = record { place = nowhere; is_disjoint = d.is_disjoint; names = map placeless_named d.names; bound_place = nowhere; word = d.word; bound = d.bound }
+placeless_decl d = record {
+  place = nowhere;
+  is_disjoint = d.is_disjoint;
+  names = map placeless_named d.names;
+  bound_place = nowhere;
+  word = d.word;
+  bound = d.bound;
+}
 
 abbrev pub placeless_binding : {E : Type 0} → Binding E → Binding E
 placeless_binding b = record { place = nowhere; name = b.name; value = b.value }
@@ -36,11 +43,15 @@ placeless_layer (Expr-F.Negative place number) = Expr-F.Negative nowhere number
 placeless_layer (Expr-F.Literal place text) = Expr-F.Literal nowhere text
 placeless_layer (Expr-F.Parenthesis place inner) = Expr-F.Parenthesis nowhere inner
 placeless_layer (Expr-F.Block place items) = Expr-F.Block nowhere items
-placeless_layer (Expr-F.Comprehension place decls has_bar body) = Expr-F.Comprehension nowhere (map placeless_decl decls) has_bar body
-placeless_layer (Expr-F.Quantified place quantifier decls has_bar body) = Expr-F.Quantified nowhere quantifier (map placeless_decl decls) has_bar body
-placeless_layer (Expr-F.Let place bindings has_bar body) = Expr-F.Let nowhere (map placeless_binding bindings) has_bar body
+placeless_layer (Expr-F.Comprehension place decls has_bar body) =
+    Expr-F.Comprehension nowhere (map placeless_decl decls) has_bar body
+placeless_layer (Expr-F.Quantified place quantifier decls has_bar body) =
+    Expr-F.Quantified nowhere quantifier (map placeless_decl decls) has_bar body
+placeless_layer (Expr-F.Let place bindings has_bar body) =
+    Expr-F.Let nowhere (map placeless_binding bindings) has_bar body
 placeless_layer (Expr-F.Sequence first second) = Expr-F.Sequence first second
-placeless_layer (Expr-F.Implication is_word condition consequence other) = Expr-F.Implication is_word condition consequence other
+placeless_layer (Expr-F.Implication is_word condition consequence other) =
+    Expr-F.Implication is_word condition consequence other
 placeless_layer (Expr-F.Compare comparison left right) = Expr-F.Compare comparison left right
 placeless_layer (Expr-F.Prefix place operator operand) = Expr-F.Prefix nowhere operator operand
 placeless_layer (Expr-F.Infix first links) = Expr-F.Infix first links
