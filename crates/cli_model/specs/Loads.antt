@@ -5,6 +5,7 @@ use Rattle.syntax_lexer.specs.Tokens.{tokens_of}
 use Rattle.syntax_tree.specs.declared.loaded.Loaded.{Loaded}
 use Rattle.syntax_tree.specs.declared.module.Module.{Module}
 use Rattle.load_state.specs.Keys.{AreDistinct, pairs_of}
+use Rattle.load_state.specs.Named.{AllNamed}
 use Rattle.load_modules.specs.Led.{OpensTold}
 use Rattle.load_modules.specs.Reached.{AreReached}
 use Rattle.load_modules.specs.Told.{LoadsGiven, LoadsTree}
@@ -19,6 +20,8 @@ pub record IsLoaded (held : List (Option Texts)) (file text : List ℕ) (loaded 
   pub texts : LoadsTree held file tree loaded.texts
   -- each open leads to an instance of the text that is found for its path, with arguments that fit
   pub opens : OpensTold held file loaded.texts loaded.instances
+  -- each argument of an open is the one thing that its name names there
+  pub named : AllNamed loaded.instances loaded.texts
   -- no two instances have one text with equal arguments,
   pub distinct : AreDistinct (pairs_of loaded.instances)
   -- and there is none but that of the root and those to which opens lead from it
@@ -35,6 +38,8 @@ pub record IsLoadedText (held : List (Option Texts)) (name text : List ℕ) (loa
   pub texts : LoadsGiven held name text loaded.texts
   -- each open leads to an instance of the text that is found for its path, with arguments that fit
   pub opens : OpensTold held name loaded.texts loaded.instances
+  -- each argument of an open is the one thing that its name names there
+  pub named : AllNamed loaded.instances loaded.texts
   -- no two instances have one text with equal arguments,
   pub distinct : AreDistinct (pairs_of loaded.instances)
   -- and there is none but that of the root and those to which opens lead from it

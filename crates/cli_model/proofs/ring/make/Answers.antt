@@ -23,6 +23,7 @@ returns-in-Ok-clause-on g c =
       texts = subst (λ (t : List ℕ). LoadsGiven held (codes "make") t c.in-Ok.loaded.texts) (c.deref.ensures.value ∙ c.in_ok-text.ensures) told.texts;
       opens = told.opens;
       distinct = told.distinct;
+      named = told.named;
       reached = told.reached;
     } in
     made_on held c.args.settings.now (g.L.Libraries.counts c.args.libraries.now) _ c.in-Some.nodes c.in-Ok.loaded c.made.result told.cause named given c.made.ensures
