@@ -13,7 +13,7 @@ use Rattle.syntax_tree.specs.declared.expr.QualName.{QualName}
 use Rattle.syntax_tree.specs.declared.module.Module.{Module}
 use Rattle.syntax_tree.specs.declared.module.Open.{Open}
 use Rattle.syntax_tree.specs.declared.module.SigName.TheVariants as sig_name
-use Rattle.load_state.specs.Opens.{Opening, written, implied, alias_of, path_of, place_of}
+use Rattle.load_state.specs.Opens.{Opening, written, implied, openings_of, alias_of, path_of, place_of}
 use Rattle.load_state.specs.Refusals.{start_of, refusal_at}
 use Rattle.load_modules.specs.Told.{near_name, far_name, IsAbsent, IsFound, IsModuleUnder}
 use Rattle.load_modules.specs.Refused.{IsOfBytes}
@@ -52,14 +52,17 @@ AreLabels taken [] (label ∷ labels) = ⊥
 AreLabels taken (way ∷ ways) [] = ⊥
 
 module _ (told : List Texts) (root : List ℕ) (tree : Module) where
+  -- the point of the open of the integers: it is the root's, behind all its others
+  abbrev pub of_integers : Point
+  of_integers = 1 ∷ length (openings_of tree) ∷ []
+
   -- The instance in which the walk stands at a point, and the aliases by which it came there. The checks of an open have the
-  -- numbers 0 to 8 after its own, and what is behind it the number 9. The open of the integers comes after all that the root
-  -- reaches.
+  -- numbers 0 to 8 after its own, and what is behind it the number 9.
   pub data StandsAt : Point → Given → List ℕ → Type 0 where
     at_root : StandsAt (1 ∷ []) (given root nothing) []
     behind : (p : Point) (i j : Given) (way : List ℕ) (k : ℕ) (asked : Opening) → StandsAt p i way → Asks told root tree i k asked → Leads told root tree i k j →
         StandsAt (p ++ k ∷ 9 ∷ []) j (slashed_to way (alias_of asked))
-    at_integers : (text : List ℕ) → IsFound told root (codes "util/integer") text → StandsAt (2 ∷ 9 ∷ []) (given text nothing) (codes "integer")
+    at_integers : (text : List ℕ) → IsFound told root (codes "util/integer") text → StandsAt (of_integers ++ 9 ∷ []) (given text nothing) (codes "integer")
 
   -- the point at which an instance is met first, and the way there
   pub record IsMet (i : Given) (p : Point) (way : List ℕ) : Type 0 where
@@ -100,13 +103,13 @@ module _ (told : List Texts) (root : List ℕ) (tree : Module) where
         IsBroken (p ++ k ∷ 7 ∷ []) (refusal_at rule.ModuleArguments (place_of asked)) (text_of_given i)
     too_many : (p : Point) (i j : Given) (way : List ℕ) (k : ℕ) (asked : Opening) (others : List Given) → StandsAt p i way → Asks told root tree i k asked →
         Leads told root tree i k j → AllPairs (λ a b. a ≢ b) others → MODULE_INSTANCES ≤ length others →
-        ((n : ℕ) (l : Given) → slice_get others n ≡ Some l → (l ≢ j) × (q : Point) × (w : List ℕ) × StandsAt q l w × (q ≢ 2 ∷ 9 ∷ []) × Before q (p ++ k ∷ 8 ∷ [])) →
+        ((n : ℕ) (l : Given) → slice_get others n ≡ Some l → (l ≢ j) × (q : Point) × (w : List ℕ) × StandsAt q l w × (q ≢ of_integers ++ 9 ∷ []) × Before q (p ++ k ∷ 8 ∷ [])) →
         IsBroken (p ++ k ∷ 8 ∷ []) (refusal_at rule.TooManyModules (place_of asked)) (text_of_given i)
     root_parameters : parameter_count tree ≢ 0 → IsBroken (0 ∷ []) (refusal_at rule.ModuleArguments (start_of 0)) root
     integers_break : (text bytes : List ℕ) (number : ℕ) (r : Refusal) → IsFound told root (codes "util/integer") text → text ≢ root → text_of told text ≡ Some bytes →
-        IsOfBytes bytes number r → IsBroken (2 ∷ 4 ∷ []) r text
+        IsOfBytes bytes number r → IsBroken (of_integers ++ 4 ∷ []) r text
     integers_parameters : (text : List ℕ) (m : Module) → IsFound told root (codes "util/integer") text → HasTree told root tree (given text nothing) m → parameter_count m ≢ 0 →
-        IsBroken (2 ∷ 7 ∷ []) (refusal_at rule.ModuleArguments (start_of 0)) root
+        IsBroken (of_integers ++ 7 ∷ []) (refusal_at rule.ModuleArguments (start_of 0)) root
 
   -- the walk's first refusal: nothing is broken at an earlier point
   pub record IsFirstRefusal (r : Refusal) (text : List ℕ) : Type 0 where

@@ -5,6 +5,7 @@ ghost use Rattle.std.specs.Prelude.{◌≡◌, ◌≤◌, ◌++◌, ◌∷◌, [
 ghost use Rattle.syntax_tree.specs.Instances.{literals_of};
 ghost use Rattle.load_state.specs.Causes.{Causes};
 ghost use Rattle.load_state.specs.Keys.{pair_of, pairs_of, AreDistinct, Lacks};
+ghost use Rattle.load_state.specs.Named.{AllNamed};
 ghost use Rattle.load_modules.specs.Led.{OpensTold, OpensFrom};
 ghost use Rattle.load_modules.specs.Reached.{AreReached};
 ghost use Rattle.load_modules.specs.Refused.{Refuses, RefusesTree, RefusesGiven, RefusesTold};
@@ -40,6 +41,7 @@ pub fn load<L: Libraries>(alloc: Global, libraries: &mut L, root: &str) -> Resul
     ensures opens { IfOk result (λ m. OpensTold (L.told libraries.old) root.now m.texts
         m.instances) }
     ensures refused { IfErr result (RefusesTold (L.told libraries.old) root.now) }
+    ensures named { IfOk result (λ m. AllNamed m.instances m.texts) }
     ensures distinct { IfOk result (λ m. AreDistinct (pairs_of m.instances)) }
     ensures reached { IfOk result (λ m. AreReached m.instances) }
 {
@@ -63,6 +65,7 @@ pub fn load_text<L: Libraries>(
     ensures opens { IfOk result (λ m. OpensTold (L.told libraries.old) root.now m.texts
         m.instances) }
     ensures refused { IfErr result (RefusesGiven (L.told libraries.old) root.now text.now) }
+    ensures named { IfOk result (λ m. AllNamed m.instances m.texts) }
     ensures distinct { IfOk result (λ m. AreDistinct (pairs_of m.instances)) }
     ensures reached { IfOk result (λ m. AreReached m.instances) }
 {
@@ -88,6 +91,7 @@ pub fn load_tree<L: Libraries>(
     ensures opens { IfOk result (λ m. OpensTold (L.told libraries.old) root.now m.texts
         m.instances) }
     ensures refused { IfErr result (RefusesTree (L.told libraries.old) root.now tree) }
+    ensures named { IfOk result (λ m. AllNamed m.instances m.texts) }
     ensures distinct { IfOk result (λ m. AreDistinct (pairs_of m.instances)) }
     ensures reached { IfOk result (λ m. AreReached m.instances) }
 {
@@ -112,6 +116,7 @@ fn follow<L: Libraries>(
     ensures opens { IfOk result (λ m. OpensFrom (L.told libraries.old) root.now loading m.texts
         m.instances) }
     ensures refused { IfErr result (Refuses (L.told libraries.old) root.now loading) }
+    ensures named { IfOk result (λ m. AllNamed m.instances m.texts) }
     ensures distinct { IfOk result (λ m. AreDistinct (pairs_of m.instances)) }
     ensures reached { IfOk result (λ m. AreReached m.instances) }
 {

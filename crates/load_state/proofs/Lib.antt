@@ -1,8 +1,14 @@
+pub mod Counts
 pub mod Faults
 pub mod Folders
 pub mod Heavy
 pub mod Led
+pub mod Noted
 pub mod Opens
 pub mod Pairs
 pub mod Ranges
 pub mod Refusals
+pub mod Replay
+pub mod Sets
+pub mod Through
+pub mod Told

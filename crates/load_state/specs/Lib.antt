@@ -1,10 +1,14 @@
 pub mod Causes
+pub mod Counts
+pub mod Doors
 pub mod Keys
 pub mod Leads
 pub mod Loadings
+pub mod Named
 pub mod Names
 pub mod Opens
 pub mod Places
 pub mod Refusals
+pub mod Sets
 pub mod Sigs
 pub mod Weights

@@ -4,12 +4,14 @@ ghost use Rattle.std.specs.Prelude.{◌≡◌, IfOk, map};
 ghost use Rattle.syntax_tree.specs.Instances.{sig_count};
 ghost use Rattle.load_state.specs.Keys.{pair_of, pairs_of, texts_of};
 ghost use Rattle.load_state.specs.Leads.{IsAnswered, AllLed};
+ghost use Rattle.load_state.specs.Named.{AllNamed};
 ghost use Rattle.load_state.specs.Weights.{Weighs};
 
 use crate::check::are_closed;
 use crate::count::{names_of, plus, sig_count, weight};
 use crate::leads::all_led;
 use crate::loading::{Asked, Finished, Key, Loading};
+use crate::named::all_named;
 use crate::refuse::small;
 use crate::source::Source;
 use base_lists::Items;
@@ -39,6 +41,7 @@ pub fn finished_model(
     ensures texts { IfOk result (λ m. m.texts ≡ map (λ s. s.text) loading.sources.items) }
     ensures led { IfOk result (λ m. AllLed (IsAnswered loading.asked.items root.now) m.instances
         m.texts) }
+    ensures named { IfOk result (λ m. AllNamed m.instances m.texts) }
     ensures instances { IfOk result (λ m. pairs_of m.instances ≡ map pair_of loading.keys.items) }
 {
     let Loading {
@@ -100,13 +103,28 @@ fn led_instances(
     ensures pairs { IfOk result (λ instances. pairs_of instances ≡ map pair_of keys.items) }
     ensures led { IfOk result (λ instances. AllLed (IsAnswered asked.now.items root.now) instances
         (texts_of sources.now.items)) }
+    ensures named { IfOk result (λ instances. AllNamed instances (texts_of sources.now.items)) }
 {
+    let order = order_of(alloc, &finished)?;
     let instances = instances_of(alloc, keys, finished, integer)?;
     let led = all_led(alloc, asked, root, sources, instances.as_slice())?;
     if !led {
         return Err(AllocError);
     }
+    let named = all_named(alloc, sources, instances.as_slice(), &order)?;
+    if !named {
+        return Err(AllocError);
+    }
     Ok(instances)
+}
+
+/// The instances in the order in which their opens were all followed.
+fn order_of(alloc: Global, finished: &[Finished]) -> Result<Vec<u32>, AllocError> {
+    let mut order = Vec::new(alloc);
+    for f in finished {
+        order.push(f.instance)?;
+    }
+    Ok(order)
 }
 
 /// The text of the instance of this number.

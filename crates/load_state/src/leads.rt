@@ -98,7 +98,7 @@ fn is_declared(source: &Source, number: u32, name: &str, harmless: bool) -> bool
 
 /// The text of an instance.
 #[tactic(auto, using(crate::proofs::Led::text_of_source))]
-fn source_at<'a>(sources: &'a [Source], instance: &Instance) -> Option<&'a Source>
+pub fn source_at<'a>(sources: &'a [Source], instance: &Instance) -> Option<&'a Source>
     ensures { IfSome result (λ source. slice_get (texts_of sources.now) instance.now.text
         ≡ Some source.now.text) }
 {
@@ -106,7 +106,7 @@ fn source_at<'a>(sources: &'a [Source], instance: &Instance) -> Option<&'a Sourc
 }
 
 /// The instance of this number.
-fn instance_at<'a>(instances: &'a [Instance], number: u32) -> Option<&'a Instance>
+pub fn instance_at<'a>(instances: &'a [Instance], number: u32) -> Option<&'a Instance>
     ensures { IfSome result (λ instance. slice_get instances.now number ≡ Some instance.now) }
 {
     instances.get(number as usize)
@@ -196,13 +196,9 @@ fn is_given(
 ) -> bool
     ensures { result ≡ true → IsGiven source.now.text.tree arguments.now name.now argument }
 {
-    match source.table.known(name.text()) {
-        Some(known) => {
-            has_parameter(&source.text.tree.header, known.parameter, name)
-                && has_argument(arguments, known.parameter, argument)
-        }
-        None => false,
-    }
+    let known = source.table.known(name.text());
+    has_parameter(&source.text.tree.header, known.parameter, name)
+        && has_argument(arguments, known.parameter, argument)
 }
 
 /// The one part of a name, where it has one alone.

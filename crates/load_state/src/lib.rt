@@ -11,6 +11,7 @@ mod fault;
 mod label;
 mod leads;
 mod loading;
+mod named;
 mod names;
 mod placing;
 mod reach;

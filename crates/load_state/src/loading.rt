@@ -1,7 +1,11 @@
 //! What has been loaded so far: answers for names, texts, instances and their opens.
 
-ghost use Rattle.std.specs.Prelude.{◌≡◌, ◌++◌, [], ◌∷◌, OnOk, IfOk, MatchOption, slice_get, Some};
+ghost use Rattle.std.specs.Prelude.{◌≡◌, ◌++◌, ℕ, List, [], ◌∷◌, map, Contains, OnOk, IfOk, IfSome, IfNone, MatchOption, slice_get, None, Some};
 ghost use Rattle.std.specs.Bool.{Decides};
+ghost use Rattle.std.specs.HashMap.{get_by_text};
+ghost use Rattle.std.specs.Map.{update};
+ghost use Rattle.std.specs.Str.{bytes_eq};
+ghost use Rattle.load_state.specs.Sets.{IsNoted, IsAliased, reach_or};
 ghost use Rattle.load_state.specs.Keys.{pair_of, Lacks, IsAt, answer_in, is_followed, is_open_from};
 ghost use Rattle.load_state.specs.Loadings.{instance_text};
 
@@ -66,7 +70,9 @@ pub struct Loading {
 impl Doors {
     /// No open.
     pub fn new(alloc: Global) -> Doors
-        ensures { result.opens ≡ [] }
+        ensures opens { result.opens ≡ [] }
+        ensures reach { result.reach ≡ reach_or None }
+        ensures aliases { (alias : List ℕ) → get_by_text result.aliases alias ≡ None }
     {
         Doors {
             opens: Items::new(alloc),
@@ -85,12 +91,26 @@ impl Doors {
     ) -> Result<(), AllocError>
         ensures { OnOk result (self.new.opens ≡ self.old.opens ++ opened ∷ []) }
     {
-        let instance = InstanceSet::of(opened.instance);
-        let alias = String::from_str(alloc, opened.alias.text())?;
-        let reach = self.aliases.entry(alias)?.or_insert(Reach::EMPTY);
-        reach.add(instance, is_private);
-        self.reach.add(instance.with(beyond), is_private);
+        self.note(alloc, &opened, beyond, is_private)?;
         self.opens.push(opened)?;
+        Ok(())
+    }
+
+    /// Notes where an open leads, and isn't among the opens after.
+    pub fn note(
+        &mut self,
+        alloc: Global,
+        opened: &Opened,
+        beyond: InstanceSet,
+        is_private: bool,
+    ) -> Result<(), AllocError>
+        ensures opens { self.new.opens ≡ self.old.opens }
+        ensures noted { OnOk result (IsNoted opened.now.alias opened.now.instance beyond is_private
+            self.old.reach self.new.reach (get_by_text self.old.aliases)
+            (get_by_text self.new.aliases)) }
+    {
+        note_alias(alloc, &mut self.aliases, opened, is_private)?;
+        self.reach.add(beyond.adding(opened.instance), is_private);
         Ok(())
     }
 }
@@ -110,6 +130,47 @@ impl Loading {
             finished: Vec::new(alloc),
         }
     }
+}
+
+/// Notes to which instance an open with an alias leads.
+fn note_alias(
+    alloc: Global,
+    aliases: &mut HashMap<String, Reach>,
+    opened: &Opened,
+    is_private: bool,
+) -> Result<(), AllocError>
+    ensures { OnOk result (IsAliased opened.now.alias opened.now.instance is_private
+        (get_by_text aliases.old) (get_by_text aliases.new)) }
+{
+    let mut reach = aliased(aliases, opened.alias.text());
+    reach.add(InstanceSet::EMPTY.adding(opened.instance), is_private);
+    put_alias(alloc, aliases, opened.alias.text(), reach)?;
+    Ok(())
+}
+
+/// The instances to which the opens with an alias lead.
+pub fn aliased(aliases: &HashMap<String, Reach>, alias: &str) -> Reach
+    ensures { result ≡ reach_or (get_by_text aliases.now alias.now) }
+{
+    match aliases.get(alias) {
+        Some(reach) => *reach,
+        None => Reach::EMPTY,
+    }
+}
+
+/// Puts the instances of an alias.
+fn put_alias(
+    alloc: Global,
+    aliases: &mut HashMap<String, Reach>,
+    alias: &str,
+    reach: Reach,
+) -> Result<(), AllocError>
+    ensures { OnOk result ((other : List ℕ) → get_by_text aliases.new other
+        ≡ update bytes_eq (get_by_text aliases.old) alias.now (Some reach) other) }
+{
+    let key = String::from_str(alloc, alias)?;
+    aliases.insert(key, reach)?;
+    Ok(())
 }
 
 /// The answer for a name, where the libraries were asked for it.
@@ -170,14 +231,46 @@ fn are_same(a: &[Option<SigRef>], b: &[Option<SigRef>]) -> bool
     a == b
 }
 
-/// The instances that are reached from this one by opens that aren't private.
-pub fn public_reach(finished: &[Finished], instance: usize) -> InstanceSet {
+/// The item of this place.
+pub fn item_at<T>(items: &[T], place: usize) -> Option<&T>
+    ensures some { IfSome result (λ item. slice_get items.now place ≡ Some item.now) }
+    ensures none { IfNone result (slice_get items.now place ≡ None) }
+{
+    match items.get(place) {
+        Some(item) => Some(item),
+        None => None,
+    }
+}
+
+/// The opens of this instance, where they are all followed.
+pub fn finished_at(finished: &[Finished], instance: usize) -> Option<&Finished>
+    ensures { IfSome result (λ f. Contains finished.now f.now × (f.now.instance ≡ instance)) }
+{
     for f in finished {
         if f.instance as usize == instance {
-            return f.doors.reach.public;
+            return Some(f);
         }
     }
-    InstanceSet::EMPTY
+    None
+}
+
+/// The instances that are reached from this one by opens that aren't private.
+pub fn public_reach(finished: &[Finished], instance: usize) -> InstanceSet {
+    match finished_at(finished, instance) {
+        Some(f) => f.doors.reach.public,
+        None => InstanceSet::EMPTY,
+    }
+}
+
+/// The numbers of the texts of instances.
+pub fn numbers_of(alloc: Global, keys: &[Key]) -> Result<Vec<u32>, AllocError>
+    ensures { IfOk result (λ numbers. numbers.items ≡ map (λ k. k.text) keys.now) }
+{
+    let mut numbers = Vec::new(alloc);
+    for key in keys {
+        numbers.push(key.text)?;
+    }
+    Ok(numbers)
 }
 
 /// The instance of this number.

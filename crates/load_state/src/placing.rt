@@ -12,8 +12,8 @@ ghost use Rattle.load_state.specs.Loadings.{instance_text};
 use crate::argument::Opener;
 use crate::label::{longer_path, new_label};
 use crate::loading::{
-    Asked, Doors, Finished, Key, Loading, instance_with, is_being_opened, key_at, public_reach,
-    source_of,
+    Asked, Doors, Finished, Key, Loading, instance_with, is_being_opened, key_at, numbers_of,
+    public_reach, source_of,
 };
 use crate::refuse::{refused, small};
 use crate::request::{Request, implied_request, written_request};
@@ -70,13 +70,14 @@ pub fn request_at(
 {
     let key = key_at(&loading.keys, instance)?;
     let source = source_of(loading, instance)?;
+    let texts = numbers_of(alloc, &loading.keys)?;
     let opener = Opener {
         number: small(instance)?,
-        key,
+        arguments: key.arguments.as_slice(),
         source,
         doors,
         sources: &loading.sources,
-        keys: &loading.keys,
+        texts: &texts,
         finished: &loading.finished,
     };
     let written = source.text.tree.opens.as_slice();

@@ -1,4 +1,6 @@
-use Rattle.std.proofs.Common.{rules, arith, ◌-◌, ◌^◌}
+use Rattle.std.proofs.Common.{rules, arith, List, ◌-◌, ◌^◌, subst, sym}
+use Rattle.syntax_tree.specs.declared.instance.Text.{Text}
+use Rattle.load_state.specs.Named.{AllNamed}
 use Rattle.load_state.proofs.Heavy.{countable_by}
 use Rattle.load_state.proofs.Led.{led_texts}
 use Rattle.load_state.proofs.assembly.finished_model.Goals as goal
@@ -12,3 +14,6 @@ pub returns-clause-led : goal.returns-clause-led
 returns-clause-led c =
     led_texts c.args.loading.asked.items c.args.loading.asked.items c.args.root.now c.in_ok-instances.instances c.args.loading.sources.items c.args.loading.sources.items c.in_ok-texts.field-0.texts
     c.in_ok-instances.ensures.led (search rules) (search rules) (search rules)
+
+pub returns-clause-named : goal.returns-clause-named
+returns-clause-named c = subst (λ (ts : List Text). AllNamed c.in_ok-instances.instances ts) (sym c.in_ok-texts.ensures.texts) c.in_ok-instances.ensures.named
