@@ -3,7 +3,7 @@ use Rattle.std.proofs.Common.{◌≡◌, ◌≢◌, ℕ, zero, suc, neg_ℤ, ◌
 use Rattle.std.specs.Ordering.{int_eq}
 use Rattle.std.specs.Cmp.{signed_Decides}
 use Rattle.std.proofs.lemmas.List.{get_or-set_other, get_or-set_same}
-use Rattle.sat_lrat.specs.Step.{beside, with_literal}
+use Rattle.sat_lrat.specs.Step.{with_literal}
 use Rattle.sat_checker.specs.Marks.{slot_of, fails_by, HasMarks}
 
 -- two literals with one slot are one

@@ -8,36 +8,35 @@ ghost use Rattle.sat_checker.specs.Answers.{broken_rule, rule_of, kind_of};
 use crate::fault::{LineFault, Step};
 use crate::marks::fresh_stamp;
 use crate::store::{all_stand, are_distinct, cover, remove_all};
+use crate::table::ClauseTable;
 use crate::walk::check_hints;
 use sat_dimacs::{Clause, Cnf};
 use sat_lrat::{Hints, Line, start_is_sound, step_is_sound};
 use std::alloc::{AllocError, Global};
-use std::collections::HashMap;
 use std::marker::Model;
 
 /// The clauses that stand under their numbers, and the greatest number that there was so far.
 #[derive(Drop)]
 pub struct Checker {
-    clauses: HashMap<u64, Clause>,
+    clauses: ClauseTable,
     marks: Vec<u32>,
     stamp: u32,
     top: u64,
 }
 
 impl Model for Checker {
-    ghost use Rattle.std.specs.Prelude.{nat_eq};
-    ghost use Rattle.std.specs.HashMap as hash;
     ghost use Rattle.std.specs.FinMap as map;
     ghost use Rattle.sat_lrat.specs.Step.{State, state_code};
+    ghost use Rattle.sat_checker.specs.Table.{found};
     ghost use Rattle.sat_checker.specs.Marks.{AreReady};
 
     ghost Value = { State };
 
     ghost coded = { state_code };
 
-    ghost view = { λ c. record { standing = map.from_entries c.clauses.entries; top = c.top } };
+    ghost view = { λ c. record { standing = map.from_entries c.clauses; top = c.top } };
 
-    ghost invariant = { λ c. AreReady (hash.get nat_eq c.clauses) c.marks.items c.stamp };
+    ghost invariant = { λ c. AreReady (found c.clauses) c.marks.items c.stamp };
 }
 
 impl Checker {
@@ -49,7 +48,7 @@ impl Checker {
     {
         start_is_sound();
         let mut checker = Checker {
-            clauses: HashMap::new(alloc),
+            clauses: ClauseTable::new(alloc),
             marks: Vec::new(alloc),
             stamp: 0,
             top: 0,
@@ -94,9 +93,8 @@ impl Checker {
         ensures err { OnErr result (self.new ≡ self.old) }
     {
         let literals = clause.literals();
-        let copy = clause.copy(*self.marks.allocator())?;
         cover(&mut self.marks, literals)?;
-        self.clauses.insert(id, copy)?;
+        self.clauses.insert(id, literals)?;
         self.top = id;
         Ok(())
     }

@@ -5,9 +5,11 @@
 #![tactic(auto)]
 
 mod checker;
+mod compact;
 mod fault;
 mod marks;
 mod store;
+mod table;
 mod walk;
 
 pub use checker::Checker;

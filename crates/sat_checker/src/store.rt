@@ -3,16 +3,16 @@
 ghost use Rattle.std.specs.Prelude.{◌≡◌, ◌≤◌, ◌*◌, ◌<◌, ℕ, length, nat_eq, is_some, OnOk, OnErr, vec_len, All};
 ghost use Rattle.std.specs.Prelude.{if◌then◌else◌, ◌==◌, nat_abs, IsSome, None, ◌^◌, IfOk, IsTrue, true, ◌+◌, slice_index};
 ghost use Rattle.std.specs.Ordering.{nat_cmp};
-ghost use Rattle.std.specs.HashMap as hash;
 ghost use Rattle.std.specs.FinMap as map;
 ghost use Rattle.std.specs.List.{list_all};
 ghost use Rattle.sat_dimacs.specs.Literal.{IsLiteral};
 ghost use Rattle.sat_lrat.specs.Step.{are_distinct, without};
 ghost use Rattle.sat_checker.specs.Marks.{IsCovered, AreUpTo};
+ghost use Rattle.sat_checker.specs.Table.{found};
 
-use sat_dimacs::Clause;
+use crate::table::ClauseTable;
 use std::alloc::{AllocError, Global};
-use std::collections::{HashMap, HashSet};
+use std::collections::HashSet;
 
 /// Whether a number is below the next, if there is one.
 #[inline]
@@ -80,29 +80,29 @@ pub(crate) fn are_distinct(alloc: Global, ids: &[u64]) -> bool
 }
 
 /// Whether a clause stands under each number.
-pub(crate) fn all_stand(clauses: &HashMap<u64, Clause>, ids: &[u64]) -> bool
-    ensures { result ≡ list_all (λ id. is_some (hash.get nat_eq clauses.now id)) ids.now }
+pub(crate) fn all_stand(clauses: &ClauseTable, ids: &[u64]) -> bool
+    ensures { result ≡ list_all (λ id. is_some (found clauses.now id)) ids.now }
 {
-    ids.iter().all(|id| clauses.contains_key(id))
+    ids.iter().all(|id| clauses.has(*id))
 }
 
 /// Takes out the clause of a number.
 #[tactic(auto, using(crate::proofs::Standing::view_removed))]
-fn remove_one(clauses: &mut HashMap<u64, Clause>, id: u64)
-    ensures without { map.from_entries {R = nat_cmp} clauses.new.entries
-        ≡ map.remove (map.from_entries clauses.old.entries) id }
-    ensures others { (other : ℕ) → hash.get nat_eq clauses.new other
-        ≡ (if id == other then None else hash.get nat_eq clauses.old other) }
+fn remove_one(clauses: &mut ClauseTable, id: u64)
+    ensures without { map.from_entries {R = nat_cmp} clauses.new
+        ≡ map.remove (map.from_entries clauses.old) id }
+    ensures others { (other : ℕ) → found clauses.new other
+        ≡ (if id == other then None else found clauses.old other) }
 {
-    clauses.remove(&id);
+    clauses.remove(id);
 }
 
 /// Takes out the clauses of the numbers.
-pub(crate) fn remove_all(clauses: &mut HashMap<u64, Clause>, ids: &[u64])
-    ensures without { map.from_entries {R = nat_cmp} clauses.new.entries
-        ≡ without (map.from_entries clauses.old.entries) ids.now }
-    ensures fewer { (other : ℕ) → IsSome (hash.get nat_eq clauses.new other)
-        → hash.get nat_eq clauses.new other ≡ hash.get nat_eq clauses.old other }
+pub(crate) fn remove_all(clauses: &mut ClauseTable, ids: &[u64])
+    ensures without { map.from_entries {R = nat_cmp} clauses.new
+        ≡ without (map.from_entries clauses.old) ids.now }
+    ensures fewer { (other : ℕ) → IsSome (found clauses.new other)
+        → found clauses.new other ≡ found clauses.old other }
 {
     for id in ids {
         remove_one(clauses, *id);

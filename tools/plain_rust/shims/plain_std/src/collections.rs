@@ -2,7 +2,7 @@
 
 use crate::alloc::{AllocError, AllocFailed, Global};
 use std::borrow::Borrow;
-use std::collections::hash_map::Entry;
+use std::collections::hash_map::{Entry, Iter};
 use std::fmt::{Debug, Formatter, Result as Shown};
 use std::hash::{BuildHasherDefault, Hash, Hasher};
 
@@ -103,6 +103,15 @@ impl<K: Eq + Hash, V> HashMap<K, V> {
     #[inline]
     pub fn entry(&mut self, key: K) -> Result<Entry<'_, K, V>, AllocFailed<K>> {
         Ok(self.0.entry(key))
+    }
+
+    /// The entries, in the order in which `retain` goes over them.
+    pub fn iter(&self) -> Iter<'_, K, V> {
+        self.0.iter()
+    }
+
+    pub fn retain(&mut self, keeps: impl FnMut(&K, &mut V) -> bool) {
+        self.0.retain(keeps);
     }
 }
 

@@ -17,21 +17,21 @@ not_second a b x y p q = rw (p, q) refl
 
 pub returns-then-are_distinct-clause-passes : goal.returns-then-are_distinct-clause-passes
 returns-then-are_distinct-clause-passes c =
-    let e : list_all (λ id. is_some (lookup (nat_eq id) c.self.inside.clauses.entries)) c.args.ids.now ≡ true = cc in
+    let e : list_all (λ id. is_some (lookup (nat_eq id) c.self.inside.clauses)) c.args.ids.now ≡ true = cc in
     let d : are_distinct c.args.ids.now ≡ true = cc in
-    rw (← c.self.view_is, same_stand {X = List ℤ} c.self.inside.clauses.entries c.args.ids.now) (both _ _ _ _ e d ∙ ap (λ s. let t : State = record { standing = s; top = c.self.inside.top } in Ok t) (sym (c.remove_all.ensures.without ∙ (cc))), refl)
+    rw (← c.self.view_is, same_stand {X = List ℤ} c.self.inside.clauses c.args.ids.now) (both _ _ _ _ e d ∙ ap (λ s. let t : State = record { standing = s; top = c.self.inside.top } in Ok t) (sym (c.remove_all.ensures.without ∙ (cc))), refl)
 
 pub returns-clause-fault : goal.returns-clause-fault
 returns-clause-fault c =
-    rw (← c.self.view_is, same_stand {X = List ℤ} c.self.inside.clauses.entries c.args.ids.now) (
+    rw (← c.self.view_is, same_stand {X = List ℤ} c.self.inside.clauses c.args.ids.now) (
       refl,
       elim c.else-all_stand.branch [
         | else-all_stand-via-then-all_stand+else-are_distinct w ↦
-            let e : list_all (λ id. is_some (lookup (nat_eq id) c.self.inside.clauses.entries)) c.args.ids.now ≡ true = cc in
+            let e : list_all (λ id. is_some (lookup (nat_eq id) c.self.inside.clauses)) c.args.ids.now ≡ true = cc in
             let d : are_distinct c.args.ids.now ≡ false = cc in
             not_second _ _ _ _ e d
         | else-all_stand-via-else-all_stand w ↦
-            let e : list_all (λ id. is_some (lookup (nat_eq id) c.self.inside.clauses.entries)) c.args.ids.now ≡ false = cc in
+            let e : list_all (λ id. is_some (lookup (nat_eq id) c.self.inside.clauses)) c.args.ids.now ≡ false = cc in
             not_first _ _ _ _ e
       ],
     )

@@ -5,5 +5,5 @@ use Rattle.sat_checker.proofs.checker.Checker.keep.Goals as goal
 
 pub returns-clause-kept : goal.returns-clause-kept
 returns-clause-kept c =
-    rw (← c.self.view_is, ← c.in_ok-copy.ensures)
-    (ap (λ s. let t : State = record { standing = s; top = c.args.id } in t) (view_inserted _ _ _ _ c.in_ok-insert.ensures.updates.0))
+    rw (← c.self.view_is, ← c.literals-literals.ensures.value)
+    (ap (λ s. let t : State = record { standing = s; top = c.args.id } in t) (view_inserted _ _ _ _ c.in_ok-insert.ensures.put))
