@@ -153,7 +153,7 @@ class Builds:
 
     def __init__(self, rt, crates):
         self.rt, self.left, self.count = rt, list(crates), len(crates)
-        self.done, self.seen, self.running, self.jobs, self.begun, self.failed = set(), {}, {}, {}, set(), []
+        self.done, self.seen, self.running, self.jobs, self.started, self.begun, self.failed = set(), {}, {}, {}, {}, set(), []
         self.most = min(MOST, int(0.85 * rt.free()))
         # (a crate is first that has the longest chain of others above it)
         self.above, self.seconds, self.below = {}, {}, {}
@@ -185,17 +185,37 @@ class Builds:
     def needs(self, crate, jobs):
         return max(EACH * (1 + JOB * (jobs - 1)), self.peaks.get(crate.name, 0))
 
+    def room(self):
+        return self.most - sum(self.needs(it, self.jobs[child]) for child, it in self.running.items())
+
+    def opening(self, crate):
+        """Returns in how many seconds what ends makes room for a crate, and how much memory is then left beside it."""
+        room, ends = self.room(), []
+        for child, it in self.running.items():
+            ends.append((self.seconds[it.name] / self.jobs[child] - (time.monotonic() - self.started[child]), self.needs(it, self.jobs[child])))
+        for seconds, memory in sorted(ends):
+            room += memory
+            if room >= self.needs(crate, 1):
+                return seconds, room - self.needs(crate, 1)
+        return 0, 0
+
     def start_some(self):
         ready = [it for it in self.left if self.is_ready(it)]
         ready.sort(key=lambda it: -self.above[it.name])
+        opening = None
         for at, crate in enumerate(ready):
             idle = self.rt.processors() - sum(self.jobs[it] for it in self.running)
-            room = self.most - sum(self.needs(it, self.jobs[child]) for child, it in self.running.items())
+            room = self.room()
             if idle < 1:
                 return
-            # (where there is no room for a large one, smaller ones go first: what ends makes room for it)
+            # (where there is no room for a large one, smaller ones go first that don't keep it from what ends makes room for)
             if self.running and self.needs(crate, 1) > room:
+                opening = opening or self.opening(crate)
                 continue
+            if opening and self.seconds[crate.name] > opening[0]:
+                if self.needs(crate, 1) > opening[1]:
+                    continue
+                opening = opening[0], opening[1] - self.needs(crate, 1)
             # (a crate gets the processors that no other waits for; the first one two, where what stands above it is longer
             # than an equal share of all that is left)
             jobs = max(2 if at == 0 and self.is_long(crate) else 1, idle // (len(ready) - at))
@@ -213,7 +233,7 @@ class Builds:
             words = [*self.rt.rtlib.guarded(), sys.executable, os.path.abspath(__file__), "--one", crate.name, str(jobs)]
             child = subprocess.Popen(words, stdin=subprocess.DEVNULL, stdout=log, stderr=subprocess.STDOUT)
         self.left.remove(crate)
-        self.running[child], self.jobs[child] = crate, jobs
+        self.running[child], self.jobs[child], self.started[child] = crate, jobs, time.monotonic()
 
     def watch(self):
         """Notes the memory that the builds take, and ends the one that was begun last where that is too much: it is begun anew once there is room."""
