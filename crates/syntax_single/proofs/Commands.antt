@@ -35,14 +35,11 @@ use Rattle.syntax_single.proofs.Paragraphs.{each_passed, part_passed, first_name
 
 -- Scopes.
 
-same_number : (a b : ℕ) → kind.Number a ≡ kind.Number b → a ≡ b
+pub same_number : (a b : ℕ) → kind.Number a ≡ kind.Number b → a ≡ b
 same_number a b h = cc
 
 pub same_numeral : (a b : Numeral) → kind.Number a.value ≡ kind.Number b.value → placeless_numeral a ≡ placeless_numeral b
 same_numeral a b h = ap (λ n. record { place = nowhere; value = n }) (same_number a.value b.value h)
-
-pub same_count : (a b : ℕ) → kind.Number a ≡ kind.Number b → a ≡ b
-same_count a b h = same_number a b h
 
 abbrev pub a_numeral : Piece Numeral Numeral
 a_numeral = one (λ n. kind.Number n.value) placeless_numeral same_numeral
@@ -233,7 +230,7 @@ abbrev pub at_expect : Spelled → Bool
 at_expect ts = going ts == 11
 
 abbrev pub count_or_none : Piece (Option ℕ) (Option ℕ)
-count_or_none = narrow (maybe (led (word w.Expect) (one (λ n. kind.Number n) (λ n. n) same_count)) at_expect (λ n r p f. refl)) Behind (λ r f. (tt, ap (λ n. n == 11) f.quiet))
+count_or_none = narrow (maybe (led (word w.Expect) (one (λ n. kind.Number n) (λ n. n) same_number)) at_expect (λ n r p f. refl)) Behind (λ r f. (tt, ap (λ n. n == 11) f.quiet))
 
 pub expect_spelled : (o : Option ℕ) → expect_words o ≡ count_or_none.words o
 expect_spelled None = refl

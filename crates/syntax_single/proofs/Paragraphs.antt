@@ -1,5 +1,7 @@
 -- The paragraphs of a module, as pieces of a text.
 use Rattle.std.proofs.Common.{◌≡◌, ◌⊎◌, inl, inr, ℕ, Bool, true, false, not, ◌&&◌, ◌||◌, ◌==◌, nat_le, List, [], ◌∷◌, ◌++◌, Option, Some, None, map, fold, is_some, refl, sym, ap, ◌∙◌, true≢false, append_assoc}
+use Rattle.std.proofs.lemmas.List.{map-id}
+use Rattle.std.proofs.lemmas.Simd.{map-map}
 use Rattle.syntax_tree.specs.declared.token.TokenKind.{TokenKind}
 use Rattle.syntax_tree.specs.declared.token.TokenKind.TheVariants as kind
 use Rattle.syntax_tree.specs.declared.token.Word.{Word}
@@ -37,7 +39,7 @@ use Rattle.syntax_single.specs.PlacelessModule.{placeless_field, placeless_paren
 use Rattle.syntax_single.proofs.Fits.{both_left, both_right, or_true}
 use Rattle.syntax_single.proofs.Cut.{Quiet, Halts}
 use Rattle.syntax_single.proofs.Pieces.{Piece, Any, one, flag, both, either, maybe, seen, worded, led, ended, Each, Some_, listed, row, part_ok, part_words}
-use Rattle.syntax_single.proofs.Parts.{going, at_slash, at_brace, at_plus, at_disj, at_close, more_items, map_same, units, some_units, some_each, from_token, a_named, names, a_sig_name, a_bound, bound_begins, a_value, a_block, block_begins, items, braces}
+use Rattle.syntax_single.proofs.Parts.{going, at_slash, at_brace, at_plus, at_disj, at_close, more_items, units, some_units, some_each, from_token, a_named, names, a_sig_name, a_bound, bound_begins, a_value, a_block, block_begins, items, braces}
 
 -- From tests of lists to facts.
 
@@ -51,10 +53,6 @@ each_passed test xs h = (every_fact test true xs h).1
 pub each_before : {A B : Type 0} (Ok : B → Type 0) (f : A → B) (xs : List A) → Each Ok (map f xs) → Each (λ x. Ok (f x)) xs
 each_before Ok f [] p = tt
 each_before Ok f (x ∷ xs) p = (p.0, each_before Ok f xs p.1)
-
-map_twice : {A B C : Type 0} (f : B → C) (g : A → B) (xs : List A) → map f (map g xs) ≡ map (λ x. f (g x)) xs
-map_twice f g [] = refl
-map_twice f g (x ∷ xs) = ap (λ ys. f (g x) ∷ ys) (map_twice f g xs)
 
 pub part_passed : {A : Type 0} (test : A → Bool) (o : Option A) → on test o ≡ true → part_ok (λ x. test x ≡ true) o
 part_passed test None h = tt
@@ -108,7 +106,7 @@ field_back v = record { place = nowhere; words = v.0; names = v.1.0; is_disjoint
 abbrev pub a_field : ℕ → Piece Field Field
 a_field depth = seen field_parts field_words placeless_field (λ f. field_right depth f ≡ true) Quiet field_to field_back
     (λ f p. (units f.words, (some_units f.names (both_left (has_some f.names) (bound_right depth f.bound) p), (tt, both_left (is_bound f.bound.tree) (nat_le (depth_of f.bound.tree) depth) (both_right (has_some f.names) (bound_right depth f.bound) p)))))
-    (λ r f. f) (λ f p. refl) (λ f p. ap (λ ws. record (placeless_field f) { words = ws }) (sym (map_same f.words)))
+    (λ r f. f) (λ f p. refl) (λ f p. ap (λ ws. record (placeless_field f) { words = ws }) (sym (map-id f.words)))
 
 pub field_begins : (f : Field) (ts : Spelled) → has_some f.names ≡ true → at_close (field_words f ++ ts) ≡ false
 field_begins f ts h = by f.words f.names h
@@ -264,7 +262,7 @@ sig_ok depth g h =
 
 abbrev pub a_sig : ℕ → Piece Sig Sig
 a_sig depth = seen (sig_parts depth) sig_words placeless_sig (λ g. sig_right depth g ≡ true) (λ r. Halts r × (at_brace r ≡ false)) sig_to sig_back (sig_ok depth) (λ r f. f) (λ g p. refl)
-    (λ g p. ap (λ qs. record (placeless_sig g) { qualifiers = qs }) (sym (map_same g.qualifiers)))
+    (λ g p. ap (λ qs. record (placeless_sig g) { qualifiers = qs }) (sym (map-id g.qualifiers)))
 
 -- Enumerations.
 
@@ -354,7 +352,7 @@ decls_ok (d ∷ ds) p = p
 
 pub decls_spelled : (ds : List (Decl Expr)) → decls_spelling ds ≡ decls_or_none.words (decls_to ds)
 decls_spelled [] = refl
-decls_spelled (d ∷ ds) = ap (separated mark.Comma) (map_twice decl_words spelled_decl (d ∷ ds))
+decls_spelled (d ∷ ds) = ap (separated mark.Comma) (map-map decl_words spelled_decl (d ∷ ds))
 
 pub decls_plain : (ds : List (Decl Expr)) → map placeless_variables ds ≡ decls_back (decls_or_none.plain (decls_to ds))
 decls_plain [] = refl

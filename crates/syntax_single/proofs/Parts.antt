@@ -1,5 +1,6 @@
 -- Names, bounds, blocks and lists in brackets, as pieces of a text.
 use Rattle.std.proofs.Common.{◌≡◌, ◌⊎◌, inl, inr, ℕ, Bool, true, false, not, ◌&&◌, ◌||◌, ◌==◌, List, [], ◌∷◌, ◌++◌, Option, Some, None, map, refl, sym, ap, ◌∙◌, true≢false, append_assoc}
+use Rattle.std.proofs.lemmas.List.{map-id}
 use Rattle.syntax_tree.specs.declared.token.TokenKind.{TokenKind}
 use Rattle.syntax_tree.specs.declared.token.TokenKind.TheVariants as kind
 use Rattle.syntax_tree.specs.declared.token.Word.{Word}
@@ -99,10 +100,6 @@ more_items ts = at_comma ts && not (at_close (rest ts))
 
 -- Small facts.
 
-pub map_same : {A : Type 0} (xs : List A) → map (λ x. x) xs ≡ xs
-map_same [] = refl
-map_same (x ∷ xs) = ap (λ ys. x ∷ ys) (map_same xs)
-
 pub units : {A : Type 0} (xs : List A) → Each (λ x. Unit {0}) xs
 units [] = tt
 units (x ∷ xs) = (tt, units xs)
@@ -128,17 +125,14 @@ from_token token_of back is a b h = same_some a b (sym (is a) ∙ (ap back h ∙
 
 -- Names.
 
-same_name : (a b : List ℕ) → kind.Name a ≡ kind.Name b → a ≡ b
+pub same_name : (a b : List ℕ) → kind.Name a ≡ kind.Name b → a ≡ b
 same_name a b h = cc
 
 pub same_named : (a b : Named) → kind.Name a.name ≡ kind.Name b.name → placeless_named a ≡ placeless_named b
 same_named a b h = ap (λ n. record { place = nowhere; name = n }) (same_name a.name b.name h)
 
-pub same_part : (a b : List ℕ) → kind.Name a ≡ kind.Name b → a ≡ b
-same_part a b h = same_name a b h
-
 abbrev pub a_part : Piece (List ℕ) (List ℕ)
-a_part = one (λ n. kind.Name n) (λ n. n) same_part
+a_part = one (λ n. kind.Name n) (λ n. n) same_name
 
 abbrev pub a_named : Piece Named Named
 a_named = one (λ n. kind.Name n.name) placeless_named same_named
@@ -164,7 +158,7 @@ path_begins (n ∷ ps) r p = refl
 
 abbrev pub qual_name : Piece QualName QualName
 qual_name = seen (both is_own path (λ ps r p f. path_begins ps r p)) name_words placeless_name (λ q. name_right q ≡ true) (λ r. at_slash r ≡ false) (λ q. (q.is_own, q.parts)) (λ v. record { place = nowhere; is_own = v.0; parts = v.1 })
-    (λ q p. (tt, some_units q.parts p)) (λ r f. f) (λ q p. refl) (λ q p. ap (λ ps. record { place = nowhere; is_own = q.is_own; parts = ps }) (sym (map_same q.parts)))
+    (λ q p. (tt, some_units q.parts p)) (λ r f. f) (λ q p. refl) (λ q p. ap (λ ps. record { place = nowhere; is_own = q.is_own; parts = ps }) (sym (map-id q.parts)))
 
 pub name_begins : (is_own : Bool) (ps : List (List ℕ)) (r : Spelled) → has_some ps ≡ true → at_int ((own_words is_own ++ separated mark.Slash (map one_name ps)) ++ r) ≡ false
 name_begins true ps r h = refl

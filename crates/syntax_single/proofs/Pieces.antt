@@ -196,10 +196,6 @@ abbrev pub Each : {A : Type 0} → (A → Type 0) → List A → Type 0
 Each Ok [] = Unit {0}
 Each Ok (x ∷ xs) = Ok x × Each Ok xs
 
-pub each_of : {A : Type 0} (Ok : A → Type 0) → ((a : A) → Ok a) → (xs : List A) → Each Ok xs
-each_of Ok all [] = tt
-each_of Ok all (x ∷ xs) = (all x, each_of Ok all xs)
-
 -- at least one
 abbrev pub Some_ : {A : Type 0} → (A → Type 0) → List A → Type 0
 Some_ Ok [] = ⊥

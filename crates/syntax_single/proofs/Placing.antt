@@ -1,5 +1,7 @@
 -- The places of a tree are those of its tokens: what puts the places of tokens into a tree without places gives the tree.
 use Rattle.std.proofs.Common.{◌≡◌, ℕ, Bool, true, false, ◌&&◌, List, [], ◌∷◌, ◌++◌, Option, Some, None, map, refl, sym, ap, subst, ◌∙◌, true≢false, append_assoc, append-nil, eqb-true}
+use Rattle.std.proofs.lemmas.List.{map-id}
+use Rattle.std.proofs.lemmas.Simd.{map-map}
 use Rattle.std.specs.Prelude.{nat_eq}
 use Rattle.base_types.specs.declared.place.Position.{Position}
 use Rattle.syntax_tree.specs.declared.token.Token.{Token}
@@ -164,28 +166,17 @@ put_named n = here (λ p. skip (pure (record { place = p; name = n.name })))
 pub named_puts : (n : Named) → Puts (put_named (placeless_named n)) (declared_name n) n
 named_puts n = here_puts n.place (λ p. skip (pure (record { place = p; name = n.name }))) (Says (kind.Name n.name) ∷ []) n (skip_puts (kind.Name n.name) (pure n) [] n (pure_puts n))
 
-put_same : {A : Type 0} (f g : Put A) (ps : Pieces) (a : A) → f ≡ g → Puts f ps a → Puts g ps a
-put_same f g ps a same it = subst (λ z. Puts z ps a) same it
-
 abbrev pub put_names : List Named → Put (List Named)
 put_names ns = put_separated (map put_named ns)
 
-map_twice : {A B C : Type 0} (f : B → C) (g : A → B) (xs : List A) → map f (map g xs) ≡ map (λ x. f (g x)) xs
-map_twice f g [] = refl
-map_twice f g (x ∷ xs) = ap (λ ys. f (g x) ∷ ys) (map_twice f g xs)
-
-map_same : {A : Type 0} (xs : List A) → map (λ x. x) xs ≡ xs
-map_same [] = refl
-map_same (x ∷ xs) = ap (λ ys. x ∷ ys) (map_same xs)
-
 -- a list of parts without places, from the parts
 pub list_puts : {A B : Type 0} (m : Symbol) (put : B → Put A) (plain : A → B) (at : A → Pieces) → ((x : A) → Puts (put (plain x)) (at x) x) → (xs : List A) → Puts (put_separated (map put (map plain xs))) (separated m (map at xs)) xs
-list_puts {A} m put plain at puts xs = subst (λ z. Puts (put_separated z) (separated m (map at xs)) xs) (sym (map_twice put plain xs))
-    (subst (λ z. Puts (put_separated (map (λ x. put (plain x)) xs)) (separated m (map at xs)) z) (map_same xs) (separated_puts (λ x. put (plain x)) at (λ x. x) puts m xs))
+list_puts {A} m put plain at puts xs = subst (λ z. Puts (put_separated z) (separated m (map at xs)) xs) (sym (map-map put plain xs))
+    (subst (λ z. Puts (put_separated (map (λ x. put (plain x)) xs)) (separated m (map at xs)) z) (map-id xs) (separated_puts (λ x. put (plain x)) at (λ x. x) puts m xs))
 
 pub row_puts : {A B : Type 0} (put : B → Put A) (plain : A → B) (at : A → Pieces) → ((x : A) → Puts (put (plain x)) (at x) x) → (xs : List A) → Puts (put_each (map put (map plain xs))) (joined (map at xs)) xs
-row_puts {A} put plain at puts xs = subst (λ z. Puts (put_each z) (joined (map at xs)) xs) (sym (map_twice put plain xs))
-    (subst (λ z. Puts (put_each (map (λ x. put (plain x)) xs)) (joined (map at xs)) z) (map_same xs) (each_puts (λ x. put (plain x)) at (λ x. x) puts xs))
+row_puts {A} put plain at puts xs = subst (λ z. Puts (put_each z) (joined (map at xs)) xs) (sym (map-map put plain xs))
+    (subst (λ z. Puts (put_each (map (λ x. put (plain x)) xs)) (joined (map at xs)) z) (map-id xs) (each_puts (λ x. put (plain x)) at (λ x. x) puts xs))
 
 pub names_put : (ns : List Named) → Puts (put_names (map placeless_named ns)) (separated mark.Comma (map declared_name ns)) ns
 names_put ns = list_puts mark.Comma put_named placeless_named declared_name named_puts ns
@@ -206,7 +197,7 @@ pub name_puts : (q : QualName) → Puts (put_name (placeless_name q)) (name_piec
 name_puts q = here_puts q.place (λ p. skips (own_words q.is_own) (mapped (named_by p q.is_own) (put_separated (map put_part q.parts)))) (says (own_words q.is_own) ++ separated mark.Slash (map one_name q.parts)) q
     (skips_puts (own_words q.is_own) (mapped (named_by q.place q.is_own) (put_separated (map put_part q.parts))) (separated mark.Slash (map one_name q.parts)) q
     (mapped_puts (named_by q.place q.is_own) (put_separated (map put_part q.parts)) (separated mark.Slash (map one_name q.parts)) q.parts
-    (subst (λ z. Puts (put_separated (map put_part q.parts)) (separated mark.Slash (map one_name q.parts)) z) (map_same q.parts) (separated_puts put_part one_name (λ n. n) part_puts mark.Slash q.parts))))
+    (subst (λ z. Puts (put_separated (map put_part q.parts)) (separated mark.Slash (map one_name q.parts)) z) (map-id q.parts) (separated_puts put_part one_name (λ n. n) part_puts mark.Slash q.parts))))
 
 -- Layers of trees.
 
