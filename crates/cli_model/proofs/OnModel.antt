@@ -20,6 +20,7 @@ use Rattle.cli_words.specs.declared.named.Part.{Part}
 use Rattle.cli_words.specs.declared.settings.Settings.{Settings}
 use Rattle.load_state.specs.Named.{AllNamed}
 use Rattle.load_modules.specs.Led.{OpensTold}
+use Rattle.load_modules.specs.Numbered.{NumberedTold}
 use Rattle.load_modules.specs.Reached.{AreReached}
 use Rattle.load_modules.specs.Refused.{RefusesTree}
 use Rattle.load_modules.specs.Told.{LoadsTree}
@@ -142,8 +143,8 @@ module _ (settings : Settings) (held : List (Option Texts)) (text before now : L
 
 -- what is loaded of a tree that the text spells is what is loaded of the text
 pub loaded_of : (held : List (Option Texts)) (root file text : List ℕ) (tree : Module) (loaded : Loaded) → root ≡ file → SpellIn (tokens_of 0 text) tree → LoadsTree held root tree loaded.texts →
-    OpensTold held root loaded.texts loaded.instances → AllNamed loaded.instances loaded.texts → AreDistinct (pairs_of loaded.instances) → AreReached loaded.instances → IsLoaded held file text loaded
-loaded_of held root file text tree loaded at spells texts opens named distinct reached = record {
+    OpensTold held root loaded.texts loaded.instances → AllNamed loaded.instances loaded.texts → AreDistinct (pairs_of loaded.instances) → AreReached loaded.instances → NumberedTold held root loaded.texts loaded.instances → IsLoaded held file text loaded
+loaded_of held root file text tree loaded at spells texts opens named distinct reached numbered = record {
   tree = tree;
   spelled = spells;
   texts = subst (λ n. LoadsTree held n tree loaded.texts) at texts;
@@ -151,6 +152,7 @@ loaded_of held root file text tree loaded at spells texts opens named distinct r
   named = named;
   distinct = distinct;
   reached = reached;
+  numbered = subst (λ n. NumberedTold held n loaded.texts loaded.instances) at numbered;
 }
 
 -- a trace is read of a model that was loaded

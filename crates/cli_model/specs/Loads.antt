@@ -7,6 +7,7 @@ use Rattle.syntax_tree.specs.declared.module.Module.{Module}
 use Rattle.load_state.specs.Keys.{AreDistinct, pairs_of}
 use Rattle.load_state.specs.Named.{AllNamed}
 use Rattle.load_modules.specs.Led.{OpensTold}
+use Rattle.load_modules.specs.Numbered.{NumberedTold}
 use Rattle.load_modules.specs.Reached.{AreReached}
 use Rattle.load_modules.specs.Told.{LoadsGiven, LoadsTree}
 use Rattle.cli_model.specs.Root.{SpellIn}
@@ -26,6 +27,9 @@ pub record IsLoaded (held : List (Option Texts)) (file text : List ℕ) (loaded 
   pub distinct : AreDistinct (pairs_of loaded.instances)
   -- and there is none but that of the root and those to which opens lead from it
   pub reached : AreReached loaded.instances
+  -- texts and instances are numbered and labelled as a walk over opens meets them, and each instance opens the module of the
+  -- integers, where there is one that isn't its own
+  pub numbered : NumberedTold held file loaded.texts loaded.instances
 
 -- the same of a text that may not be there
 abbrev pub IsLoadedIn : List (Option Texts) → List ℕ → Option (List ℕ) → Loaded → Type 0
@@ -44,3 +48,6 @@ pub record IsLoadedText (held : List (Option Texts)) (name text : List ℕ) (loa
   pub distinct : AreDistinct (pairs_of loaded.instances)
   -- and there is none but that of the root and those to which opens lead from it
   pub reached : AreReached loaded.instances
+  -- texts and instances are numbered and labelled as a walk over opens meets them, and each instance opens the module of the
+  -- integers, where there is one that isn't its own
+  pub numbered : NumberedTold held name loaded.texts loaded.instances

@@ -1,1 +1,15 @@
+mod Alike
+mod Ends
+mod Found
+mod Least
+mod LeastAlike
+mod LeastBack
+mod LeastMeant
+mod LeastRun
+mod LeastTree
+mod LeastWalk
+mod Lockstep
+mod Names
 mod One
+mod Targets
+mod Unique

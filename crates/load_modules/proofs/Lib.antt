@@ -3,6 +3,9 @@ pub mod Bytes
 pub mod Ends
 pub mod Known
 pub mod Led
+pub mod Numbering
 pub mod Placed
 pub mod Reached
 pub mod Reading
+pub mod Told
+pub mod Walking

@@ -9,7 +9,8 @@ use Rattle.syntax_tree.specs.declared.module.Module.{Module}
 use Rattle.syntax_tree.specs.declared.module.Open.{Open}
 use Rattle.syntax_tree.specs.declared.module.SigName.{SigName}
 use Rattle.syntax_tree.specs.declared.module.SigName.TheVariants as sig_name
-use Rattle.load_state.specs.Names.{path_bytes}
+use Rattle.load_state.specs.Named.{front_of}
+use Rattle.load_state.specs.Names.{path_bytes, last_part}
 use Rattle.load_state.specs.Opens.{Opening, written, implied, openings_of, alias_of, is_hidden}
 use Rattle.load_state.specs.Sigs.{sigs_of, parameters_of}
 use Rattle.load_state.specs.declared.table.DeclaredSig.{DeclaredSig}
@@ -86,28 +87,29 @@ module _ (told : List Texts) (root : List ℕ) (tree : Module) where
       name_given : (i : Given) (k : ℕ) (name : QualName) (c : Candidate) (a : Argument) (names : List SigName) (arguments : Arguments) → Names i k name c → StandsFor i c a →
           AreGiven i k names arguments → AreGiven i k (sig_name.Name name ∷ names) (with_argument a arguments)
 
-    -- A name in the open of this number names a sig of its own module, a parameter, or a sig that an earlier open reaches.
+    -- What a name in the open of this number names. Without aliases before its last part it is a sig of its own module or a parameter,
+    -- or, where `this/` isn't before it, a sig that an earlier open reaches; after aliases it is a sig that they lead to.
     pub data Names : Given → ℕ → QualName → Candidate → Type 0 where
-      own_sig : (i : Given) (k : ℕ) (name : QualName) (part : List ℕ) (sig : ℕ) (hidden : Bool) → name.parts ≡ part ∷ [] → HasSig i sig part hidden →
+      own_sig : (i : Given) (k : ℕ) (name : QualName) (sig : ℕ) (hidden : Bool) → front_of name.parts ≡ [] → HasSig i sig (last_part name.parts) hidden →
           Names i k name (a_sig i sig)
-      own_parameter : (i : Given) (k : ℕ) (name : QualName) (part : List ℕ) (m : Module) (number : ℕ) → name.parts ≡ part ∷ [] → HasTree i m →
-          slice_get (parameters_of m) number ≡ Some part → Names i k name (a_parameter number)
-      reached : (i : Given) (k earlier : ℕ) (j l : Given) (name : QualName) (part : List ℕ) (sig : ℕ) → name.is_own ≡ false → name.parts ≡ part ∷ [] →
-          earlier < k → Leads i earlier j → Reaches j l → HasSig l sig part false → Names i k name (a_sig l sig)
-      through : (i : Given) (k earlier : ℕ) (j l : Given) (name : QualName) (asked : Opening) (rest : List (List ℕ)) (sig : ℕ) (part : List ℕ) →
-          name.parts ≡ alias_of asked ∷ rest → earlier < k → Asks i earlier asked → Leads i earlier j → Follows j rest l part → HasSig l sig part false →
-          Names i k name (a_sig l sig)
+      own_parameter : (i : Given) (k : ℕ) (name : QualName) (m : Module) (number : ℕ) → front_of name.parts ≡ [] → HasTree i m →
+          slice_get (parameters_of m) number ≡ Some (last_part name.parts) → Names i k name (a_parameter number)
+      reached : (i : Given) (k earlier : ℕ) (j l : Given) (name : QualName) (sig : ℕ) → name.is_own ≡ false → front_of name.parts ≡ [] → earlier < k →
+          Leads i earlier j → Reaches j l → HasSig l sig (last_part name.parts) false → Names i k name (a_sig l sig)
+      through : (i : Given) (k earlier : ℕ) (j l : Given) (name : QualName) (asked : Opening) (aliases : List (List ℕ)) (sig : ℕ) →
+          front_of name.parts ≡ alias_of asked ∷ aliases → earlier < k → Asks i earlier asked → Leads i earlier j → Follows j aliases l →
+          HasSig l sig (last_part name.parts) false → Names i k name (a_sig l sig)
 
     -- by opens that aren't private one instance reaches another
     pub data Reaches : Given → Given → Type 0 where
       itself : (i : Given) → Reaches i i
       further : (i j l : Given) (k : ℕ) (asked : Opening) → Asks i k asked → is_hidden asked ≡ false → Leads i k j → Reaches j l → Reaches i l
 
-    -- aliases of opens that aren't private lead on to an instance, and the last part is left
-    pub data Follows : Given → List (List ℕ) → Given → List ℕ → Type 0 where
-      the_last : (i : Given) (part : List ℕ) → Follows i (part ∷ []) i part
-      an_alias : (i j l : Given) (k : ℕ) (asked : Opening) (rest : List (List ℕ)) (part : List ℕ) → Asks i k asked → is_hidden asked ≡ false → Leads i k j →
-          Follows j rest l part → Follows i (alias_of asked ∷ rest) l part
+    -- by opens with these aliases in turn, which aren't private, one instance leads to another
+    pub data Follows : Given → List (List ℕ) → Given → Type 0 where
+      no_alias : (i : Given) → Follows i [] i
+      an_alias : (i j l : Given) (k : ℕ) (asked : Opening) (aliases : List (List ℕ)) → Asks i k asked → is_hidden asked ≡ false → Leads i k j →
+          Follows j aliases l → Follows i (alias_of asked ∷ aliases) l
 
   -- the instances of the root
   pub data IsInstance : Given → Type 0 where

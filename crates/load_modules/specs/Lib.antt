@@ -1,7 +1,9 @@
 pub mod Instances
 pub mod Led
+pub mod Numbered
 pub mod Order
 pub mod Reached
 pub mod Reading
 pub mod Refused
+pub mod Steps
 pub mod Told

@@ -2,6 +2,7 @@
 #![tactic(auto)]
 
 mod loader;
+mod order;
 mod reach;
 mod source;
 mod walk;

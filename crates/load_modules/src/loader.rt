@@ -7,10 +7,12 @@ ghost use Rattle.load_state.specs.Causes.{Causes};
 ghost use Rattle.load_state.specs.Keys.{pair_of, pairs_of, AreDistinct, Lacks};
 ghost use Rattle.load_state.specs.Named.{AllNamed};
 ghost use Rattle.load_modules.specs.Led.{OpensTold, OpensFrom};
+ghost use Rattle.load_modules.specs.Numbered.{NumberedTold, NumberedFrom};
 ghost use Rattle.load_modules.specs.Reached.{AreReached};
 ghost use Rattle.load_modules.specs.Refused.{Refuses, RefusesTree, RefusesGiven, RefusesTold};
 ghost use Rattle.load_modules.specs.Told.{Keeps, LoadsTold, LoadsGiven, LoadsTree, Follows, StaysDistinct};
 
+use crate::order::order_all;
 use crate::reach::reach_all;
 use crate::source::with_tree;
 use crate::walk::{fetch_text, open_all, take_in, text_of_path};
@@ -33,7 +35,7 @@ const LIMIT: usize = MODULE_INSTANCES as usize;
 /// has the text of the first library that holds it. `util/integer` is opened by every other module, where a library has it. A
 /// model is refused by the first rule of loading that its texts break in the order of the walk: each open is followed to its
 /// end before the next one, those that enums imply after the written ones.
-#[tactic(auto, using(crate::proofs::Ends::refuses_told, crate::proofs::Ends::told_absent, crate::proofs::Ends::told_unread, crate::proofs::Led::opens_same, load_state::proofs::Faults::root_is_tried, load_state::proofs::Faults::quiet_fault, load_state::proofs::Faults::refusal_is_quiet, load_state::proofs::Faults::later_causes, crate::proofs::Known::loads_told))]
+#[tactic(auto, using(crate::proofs::Ends::refuses_told, crate::proofs::Ends::told_absent, crate::proofs::Ends::told_unread, crate::proofs::Led::opens_same, crate::proofs::Told::numbered_same, load_state::proofs::Faults::root_is_tried, load_state::proofs::Faults::quiet_fault, load_state::proofs::Faults::refusal_is_quiet, load_state::proofs::Faults::later_causes, crate::proofs::Known::loads_told))]
 pub fn load<L: Libraries>(alloc: Global, libraries: &mut L, root: &str) -> Result<Loaded, LoadFault>
     ensures keeps { L.told libraries.new ≡ L.told libraries.old }
     ensures cause { Causes root.now (L.counts libraries.old) (L.counts libraries.new) result }
@@ -44,6 +46,8 @@ pub fn load<L: Libraries>(alloc: Global, libraries: &mut L, root: &str) -> Resul
     ensures named { IfOk result (λ m. AllNamed m.instances m.texts) }
     ensures distinct { IfOk result (λ m. AreDistinct (pairs_of m.instances)) }
     ensures reached { IfOk result (λ m. AreReached m.instances) }
+    ensures numbered { IfOk result (λ m. NumberedTold (L.told libraries.old) root.now m.texts
+        m.instances) }
 {
     match fetch_text(alloc, libraries, root, root)? {
         Some(bytes) => load_text(alloc, libraries, root, &bytes),
@@ -52,7 +56,7 @@ pub fn load<L: Libraries>(alloc: Global, libraries: &mut L, root: &str) -> Resul
 }
 
 /// The same for a root whose text is given. No library is asked for its name.
-#[tactic(auto, using(load_state::proofs::Faults::quiet_causes, load_state::proofs::Faults::later_causes, load_state::proofs::Faults::quiet_fault, load_state::proofs::Faults::memory_fault, crate::proofs::Ends::given_memory, crate::proofs::Ends::breaks_given, crate::proofs::Ends::refuses_given, crate::proofs::Led::opens_given, crate::proofs::Known::loads_given))]
+#[tactic(auto, using(load_state::proofs::Faults::quiet_causes, load_state::proofs::Faults::later_causes, load_state::proofs::Faults::quiet_fault, load_state::proofs::Faults::memory_fault, crate::proofs::Ends::given_memory, crate::proofs::Ends::breaks_given, crate::proofs::Ends::refuses_given, crate::proofs::Led::opens_given, crate::proofs::Told::numbered_given, crate::proofs::Known::loads_given))]
 pub fn load_text<L: Libraries>(
     alloc: Global,
     libraries: &mut L,
@@ -68,6 +72,8 @@ pub fn load_text<L: Libraries>(
     ensures named { IfOk result (λ m. AllNamed m.instances m.texts) }
     ensures distinct { IfOk result (λ m. AreDistinct (pairs_of m.instances)) }
     ensures reached { IfOk result (λ m. AreReached m.instances) }
+    ensures numbered { IfOk result (λ m. NumberedTold (L.told libraries.old) root.now m.texts
+        m.instances) }
 {
     let mut loading = Loading::new(alloc);
     let number = take_in(alloc, &mut loading.sources, root, text)?;
@@ -76,7 +82,7 @@ pub fn load_text<L: Libraries>(
 }
 
 /// The same for a root that was read: its tree, and how many tokens spell it.
-#[tactic(auto, using(load_state::proofs::Faults::quiet_causes, load_state::proofs::Faults::later_causes, load_state::proofs::Faults::quiet_fault, load_state::proofs::Faults::memory_fault, crate::proofs::Ends::tree_memory, crate::proofs::Ends::refuses_tree, crate::proofs::Led::opens_tree, crate::proofs::Known::loads_tree))]
+#[tactic(auto, using(load_state::proofs::Faults::quiet_causes, load_state::proofs::Faults::later_causes, load_state::proofs::Faults::quiet_fault, load_state::proofs::Faults::memory_fault, crate::proofs::Ends::tree_memory, crate::proofs::Ends::refuses_tree, crate::proofs::Led::opens_tree, crate::proofs::Told::numbered_tree, crate::proofs::Known::loads_tree))]
 pub fn load_tree<L: Libraries>(
     alloc: Global,
     libraries: &mut L,
@@ -94,6 +100,8 @@ pub fn load_tree<L: Libraries>(
     ensures named { IfOk result (λ m. AllNamed m.instances m.texts) }
     ensures distinct { IfOk result (λ m. AreDistinct (pairs_of m.instances)) }
     ensures reached { IfOk result (λ m. AreReached m.instances) }
+    ensures numbered { IfOk result (λ m. NumberedTold (L.told libraries.old) root.now m.texts
+        m.instances) }
 {
     let mut loading = Loading::new(alloc);
     loading.sources.push(with_tree(alloc, root, tree, tokens)?)?;
@@ -119,6 +127,8 @@ fn follow<L: Libraries>(
     ensures named { IfOk result (λ m. AllNamed m.instances m.texts) }
     ensures distinct { IfOk result (λ m. AreDistinct (pairs_of m.instances)) }
     ensures reached { IfOk result (λ m. AreReached m.instances) }
+    ensures numbered { IfOk result (λ m. NumberedFrom (L.told libraries.old) root.now loading
+        m.texts m.instances) }
 {
     if parameter_count(&loading.sources, 0) != 0 {
         return Err(refused(alloc, Rule::ModuleArguments, start_of(0), root));
@@ -127,8 +137,11 @@ fn follow<L: Libraries>(
     let doors = open_all(alloc, libraries, &mut loading, root, first, LIMIT)?;
     let integer = open_integer(alloc, libraries, &mut loading, root)?;
     finish(&mut loading, first, doors)?;
+    // (this was answered before, so no library is asked)
+    let integers = text_of_path(alloc, libraries, &mut loading, root, "util/integer")?;
     let loaded = finished_model(alloc, loading, integer, root)?;
     reach_all(alloc, loaded.instances.as_slice())?;
+    order_all(alloc, &loaded, integers)?;
     Ok(loaded)
 }
 

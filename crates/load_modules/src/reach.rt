@@ -27,7 +27,7 @@ pub fn reach_all(alloc: Global, instances: &[Instance]) -> Result<(), AllocError
 }
 
 /// The instance of this number.
-fn instance_at<'a>(instances: &'a [Instance], number: usize) -> Option<&'a Instance>
+pub fn instance_at<'a>(instances: &'a [Instance], number: usize) -> Option<&'a Instance>
     ensures { IfSome result (λ instance. slice_get instances.now number ≡ Some instance.now) }
 {
     instances.get(number)
@@ -35,7 +35,7 @@ fn instance_at<'a>(instances: &'a [Instance], number: usize) -> Option<&'a Insta
 
 /// Whether an instance has this text, and no arguments.
 #[tactic(auto, using(crate::proofs::Reached::is_plain))]
-fn is_plain(instance: &Instance, text: u32) -> bool
+pub fn is_plain(instance: &Instance, text: u32) -> bool
     ensures { result ≡ true → IsPlain text instance.now }
 {
     instance.text == text && instance.arguments.len() == 0

@@ -25,6 +25,7 @@ returns-in-Ok-clause-on g c =
       distinct = told.distinct;
       named = told.named;
       reached = told.reached;
+      numbered = told.numbered;
     } in
     made_on held c.args.settings.now (g.L.Libraries.counts c.args.libraries.now) _ c.in-Some.nodes c.in-Ok.loaded c.made.result told.cause named given c.made.ensures
 

@@ -1,0 +1,10 @@
+-- What is loaded of a text is one model.
+use Rattle.std.specs.Prelude.{◌≡◌, ℕ, List, map, Some}
+use Rattle.base_types.specs.Texts.{Texts}
+use Rattle.syntax_tree.specs.declared.loaded.Loaded.{Loaded}
+use Rattle.cli_model.specs.Loads.{IsLoaded}
+
+-- Where the libraries hold these texts, two models that are loaded of a file with this name and text have the same texts and the
+-- same instances.
+abbrev pub LoadedModelsAreOne : Type 0
+LoadedModelsAreOne = (told : List Texts) (file text : List ℕ) (a b : Loaded) → IsLoaded (map Some told) file text a → IsLoaded (map Some told) file text b → (a.texts ≡ b.texts) × (a.instances ≡ b.instances)
