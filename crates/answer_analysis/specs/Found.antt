@@ -26,6 +26,7 @@ use Rattle.form_skolem.specs.Opened.{IsOpened}
 use Rattle.form_target.specs.Targets.{IsTargetOf}
 use Rattle.resolve_check.specs.Kept.{IsModelButTypes}
 use Rattle.resolve_model.specs.Refused.{IsOfReadings}
+use Rattle.resolve_read.specs.declared.types.Readings.{Readings}
 use Rattle.resolve_told.specs.Texts.{IsOfTexts}
 use Rattle.answer_search.specs.Clauses.{IsRuledOut, SayTarget}
 use Rattle.answer_search.specs.Found.{AreNewWithin}
@@ -41,12 +42,12 @@ use Rattle.answer_analysis.specs.declared.answer.Answer.TheVariants.{Trace, Refu
 use Rattle.answer_analysis.specs.declared.fault.AnalyseFault.{AnalyseFault}
 use Rattle.answer_analysis.specs.declared.fault.AnalyseFault.TheVariants.{Refused, Read, Memory}
 
--- A model is the one that these texts declare, in which each relation parameter of the predicate that the command of this number
--- runs is a field, and over these fields the command asks.
-pub record OpensResolved (loaded : Loaded) (number : ℕ) (model : Model) : Type 0 where
+-- A model is the one that these texts declare by these readings, in which each relation parameter of the predicate that the command
+-- of this number runs is a field, and over these fields the command asks.
+pub record OpensResolved (loaded : Loaded) (number : ℕ) (model : Model) (readings : Readings) : Type 0 where
   pub resolved : Model
   pub kept : IsModelButTypes resolved
-  pub of_texts : IsOfTexts loaded resolved
+  pub of_texts : IsOfTexts loaded resolved readings
   pub opens : IsOpened resolved number model
 
 -- a model made ready for its command of this number: the model keeps what resolved models keep, and no sig of it extends an
@@ -57,7 +58,7 @@ pub record OpensResolved (loaded : Loaded) (number : ℕ) (model : Model) : Type
 pub record IsReady (number : ℕ) (ready : Ready) : Type 0 where
   pub kept : IsModel ready.model
   pub plain : ExtendsPlain ready.model.sigs
-  pub opened : OpensResolved ready.loaded number ready.model
+  pub opened : OpensResolved ready.loaded number ready.model ready.readings
   pub command : Command
   pub asked : ready.command ≡ number
   pub chosen : slice_get ready.model.commands number ≡ Some command
@@ -132,7 +133,8 @@ IsOfText loaded refusal name = option_map (λ t. t.name) (slice_get loaded.texts
 -- a model of what is loaded, opened for its command of this number: it keeps what resolved models keep
 pub record IsModelIn (loaded : Loaded) (number : ℕ) (model : Model) : Type 0 where
   pub kept : IsModel model
-  pub opened : OpensResolved loaded number model
+  pub readings : Readings
+  pub opened : OpensResolved loaded number model readings
 
 -- By a rule on a command and its scopes, of a model of what is loaded: there is no command of the number that was asked for, which
 -- is said at the beginning of the root; or the command of this number breaks a rule on its scopes, or on formulas under them, and

@@ -29,7 +29,8 @@ use core_meaning::{Scopes, Target};
 use core_tree::{Command, Model};
 use form_skolem::open_params;
 use form_target::target_of;
-use resolve_model::resolve;
+use resolve_model::{Resolved, resolve_with};
+use resolve_read::Readings;
 use resolve_told::is_of_texts;
 use std::alloc::{AllocError, Global};
 use syntax_tree::Loaded;
@@ -39,6 +40,8 @@ use syntax_tree::Loaded;
 pub struct Ready {
     pub loaded: Loaded,
     pub model: Model,
+    /// The types of all declarations, and what the names of the texts are taken to stand for.
+    pub readings: Readings,
     /// The number of the command.
     pub command: u32,
     pub scopes: Scopes,
@@ -55,25 +58,29 @@ pub struct Prepared {
     pub first_fact: u32,
 }
 
-/// The model of what is loaded.
-fn model_of(alloc: Global, loaded: &Loaded, command: u32) -> Result<Model, AnalyseFault>
-    ensures kept { IfOk result IsModelButTypes }
+/// The model of what is loaded, and what is told of its readings.
+fn model_of(alloc: Global, loaded: &Loaded, command: u32) -> Result<Resolved, AnalyseFault>
+    ensures kept { IfOk result (λ resolved. IsModelButTypes resolved.model) }
     ensures fault { IfErr result (IsLoadedFault loaded.now command) }
 {
-    match resolve(alloc, loaded) {
-        Ok(model) => Ok(model),
+    match resolve_with(alloc, loaded) {
+        Ok(resolved) => Ok(resolved),
         Err(Fault::Refused(refusal)) => Err(refused_in(alloc, loaded, command, refusal)),
         Err(Fault::Memory) => Err(AnalyseFault::Memory),
     }
 }
 
 /// The model, where it says what the loaded texts do. It is tested on the model itself: no resolved model is known that doesn't.
-fn told(alloc: Global, loaded: &Loaded, model: Model) -> Result<Model, AllocError>
-    ensures told { IfOk result (IsOfTexts loaded.now) }
-    ensures same { IfOk result (λ m. m ≡ model) }
+fn told(alloc: Global, loaded: &Loaded, resolved: Resolved) -> Result<Resolved, AllocError>
+    ensures told { IfOk result (λ r. IsOfTexts loaded.now r.model r.readings) }
+    ensures same { IfOk result (λ r. r ≡ resolved) }
 {
-    let is_told = is_of_texts(alloc, loaded, &model)?;
-    if is_told { Ok(model) } else { Err(AllocError) }
+    let is_told = is_of_texts(alloc, loaded, &resolved.model, &resolved.readings)?;
+    if is_told {
+        Ok(resolved)
+    } else {
+        Err(AllocError)
+    }
 }
 
 /// The model, where the types of its fields are those of their declarations too, and no sig of it extends an `in` sig. It is
@@ -193,7 +200,11 @@ pub fn ready_loaded(alloc: Global, loaded: Loaded, command: u32) -> Result<Ready
 {
     let resolved = model_of(alloc, &loaded, command)?;
     let told = told(alloc, &loaded, resolved)?;
-    let opened = open_params(alloc, told, command)?;
+    let Resolved {
+        model: plain,
+        readings,
+    } = told;
+    let opened = open_params(alloc, plain, command)?;
     let model = kept(alloc, opened)?;
     let scopes = scopes_of(alloc, &loaded, &model, command)?;
     if command as usize >= model.commands.len() {
@@ -210,6 +221,7 @@ pub fn ready_loaded(alloc: Global, loaded: Loaded, command: u32) -> Result<Ready
     Ok(Ready {
         loaded,
         model,
+        readings,
         command,
         scopes,
         bounds,

@@ -1,10 +1,18 @@
 -- What is read of the tokens of an expression.
-use Rattle.std.proofs.Common.{◌≡◌, ℕ, zero, suc, ◌<◌, List, [], ◌∷◌, length, get_or, Result, Ok, Err, Some, IfOk, slice_get, inr, sym, ap, arith}
+use Rattle.std.proofs.Common.{◌≡◌, ℕ, zero, suc, ◌<◌, ◌≤◌, List, [], ◌∷◌, length, get_or, Result, Ok, Err, Some, IfOk, slice_get, inr, sym, ap, subst, arith}
 use Rattle.std.specs.declared.alloc.AllocError.{AllocError}
+use Rattle.base_types.specs.declared.limits.TheConstants.{MODULE_BYTES}
+use Rattle.base_types.specs.declared.place.Position.{Position}
+use Rattle.syntax_tree.specs.declared.expr.Expr.{Expr as Written}
+use Rattle.syntax_tree.specs.declared.loaded.Loaded.{Loaded}
 use Rattle.syntax_tree.specs.declared.token.Token.{Token}
+use Rattle.syntax_lexer.specs.Tokens.{tokens_of}
 use Rattle.core_tree.specs.declared.model.Model.{Model}
 use Rattle.core_tree.specs.Trees.{Term, term_of}
-use Rattle.answer_judge.specs.Expression.{IfTree, IsReadAt, IsReadOf}
+use Rattle.resolve_check.specs.Kept.{IsRightValue}
+use Rattle.resolve_read.specs.declared.types.Types.{Types}
+use Rattle.bound_definitions.specs.Refusals.{IsValueKept}
+use Rattle.answer_judge.specs.Expression.{IfTree, IsChecked, IsReadAt, IsReadOf, SaysValue, SpellValue, TextSays, TokensSay}
 use Rattle.answer_judge.specs.declared.expression.ReadValue.{ReadValue}
 use Rattle.answer_judge.specs.declared.expression.ReadValue.TheVariants.{Tree, Refused}
 
@@ -13,22 +21,39 @@ item_there [] k token lt item = absurd (omega (arith, lt))
 item_there (x ∷ tokens) zero token lt item = ap Some (sym item)
 item_there (x ∷ tokens) (suc k) token lt item = item_there tokens k token (omega (arith, lt)) item
 
-module _ (model : Model) (bits : ℕ) (tokens : List Token) where
-  read_one : (first : Token) (read : ReadValue) → slice_get tokens 0 ≡ Some first → IsReadAt model bits first.place read → IsReadOf model bits tokens read
-  read_one first (Tree value) at is = (first, at, is)
-  read_one first (Refused refusal) at is = inr (first, at, is)
+module _ (loaded : Loaded) (model : Model) (types : Types) (bits : ℕ) where
+  module _ (tree : Written) (first : Position) (value : Term) (right : IsRightValue model value) (says : SaysValue loaded model types tree value) where
+    one_checked : (read : ReadValue) → IsChecked model bits value first read → IsReadAt loaded model types bits tree first read
+    one_checked (Tree v) is = record {
+      right = subst (IsRightValue model) (sym is.0) right;
+      says = subst (SaysValue loaded model types tree) (sym is.0) says;
+      kept = subst (λ (t : Term). IsValueKept model bits t first) (sym is.0) is.1;
+    }
+    one_checked (Refused refusal) is = inr (record { value = value; right = right; says = says; breaks = is })
 
-  -- what is read at the first token
-  pub read_first : (first : Token) (r : Result ReadValue AllocError) → 0 < length tokens → first ≡ get_or tokens 0 first → IfOk r (IsReadAt model bits first.place) → IfOk r (IsReadOf model bits tokens)
-  read_first first (Ok read) lt item is = read_one first read (item_there tokens 0 first lt item) is
-  read_first first (Err e) lt item is = tt
+    -- what is read of an expression that says a value, once this is checked
+    pub checked_read : (r : Result ReadValue AllocError) → IfOk r (IsChecked model bits value first) → IfOk r (IsReadAt loaded model types bits tree first)
+    checked_read (Ok read) is = one_checked read is
+    checked_read (Err e) is = tt
 
-module _ (P Q : Term → Type 0) (more : (t : Term) → P t → Q t) where
-  -- more is so of the value that is read
-  if_tree : (read : ReadValue) → IfTree read P → IfTree read Q
-  if_tree (Tree value) is = more (term_of value) is
-  if_tree (Refused refusal) is = tt
+  module _ (tokens : List Token) where
+    read_one : (tree : Written) (first : Token) (read : ReadValue) → SpellValue tokens tree → slice_get tokens 0 ≡ Some first → IsReadAt loaded model types bits tree first.place read →
+        IsReadOf loaded model types bits tokens read
+    read_one tree first (Tree value) spelt at is = record { tree = tree; spelt = spelt; first = first; at = at; is = is }
+    read_one tree first (Refused refusal) spelt at is = inr (record { tree = tree; spelt = spelt; first = first; at = at; is = is })
 
-  pub if_read : (r : Result ReadValue AllocError) → IfOk r (λ read. IfTree read P) → IfOk r (λ read. IfTree read Q)
-  if_read (Ok read) is = if_tree read is
-  if_read (Err e) is = tt
+    -- what is read of the tokens of an expression
+    pub read_first : (tree : Written) (first : Token) (r : Result ReadValue AllocError) → SpellValue tokens tree → 0 < length tokens → first ≡ get_or tokens 0 first →
+        IfOk r (IsReadAt loaded model types bits tree first.place) → IfOk r (IsReadOf loaded model types bits tokens)
+    read_first tree first (Ok read) spelt lt item is = read_one tree first read spelt (item_there tokens 0 first lt item) is
+    read_first tree first (Err e) spelt lt item is = tt
+
+    module _ (number : ℕ) (text : List ℕ) (short : length text ≤ MODULE_BYTES) (cut : tokens_of number text ≡ Ok tokens) where
+      says_one : (read : ReadValue) → IsReadOf loaded model types bits tokens read → IfTree read (TextSays loaded model types number text)
+      says_one (Tree value) is = record { short = short; tokens = tokens; cut = cut; say = record { tree = is.tree; spelt = is.spelt; says = is.is.says } }
+      says_one (Refused refusal) is = tt
+
+      -- what the text says that is cut into them
+      pub says_text : (r : Result ReadValue AllocError) → IfOk r (IsReadOf loaded model types bits tokens) → IfOk r (λ read. IfTree read (TextSays loaded model types number text))
+      says_text (Ok read) is = says_one read is
+      says_text (Err e) is = tt

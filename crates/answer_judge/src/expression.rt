@@ -7,20 +7,23 @@ ghost use Rattle.syntax_tree.specs.declared.token.Token.{Token};
 ghost use Rattle.syntax_lexer.specs.Tokens.{tokens_of};
 ghost use Rattle.syntax_machine.specs.declared.thread.Root.TheVariants as root;
 ghost use Rattle.syntax_parser.specs.Refuses.{IsOfTokens};
+ghost use Rattle.syntax_tree.specs.declared.loaded.Loaded.{Loaded};
 ghost use Rattle.core_tree.specs.declared.model.Model.{Model};
+ghost use Rattle.resolve_read.specs.declared.types.Types.{Types};
 ghost use Rattle.core_tree.specs.Trees.{term_of};
 ghost use Rattle.resolve_check.specs.Kept.{IsRightValue};
-ghost use Rattle.resolve_said.specs.Said.{SaysSet};
-ghost use Rattle.answer_judge.specs.Expression.{large_text, in_root, IfTree, IsReadAt, IsReadOf, TextSays, TokensSay};
+ghost use Rattle.answer_judge.specs.Expression.{large_text, IfTree, IsChecked, IsReadAt, IsReadOf, SaysValue, TextSays};
 
 use base_types::limits::MODULE_BYTES;
 use base_types::{Fault, Position, Refusal, Rule};
 use bound_scopes::check_value;
 use core_meaning::Scopes;
 use core_tree::{Expr, Model};
-use resolve_model::resolve_value;
+use resolve_model::{Value, resolve_value_with};
 use resolve_names::names;
-use resolve_said::{Locals, Site, says_set};
+use resolve_picks::Picks;
+use resolve_read::Types;
+use resolve_told_sigs::says_value;
 use std::alloc::{AllocError, Global};
 use syntax_lexer::lex;
 use syntax_machine::Root;
@@ -36,8 +39,8 @@ pub enum ReadValue {
     Refused(Refusal),
 }
 
-/// Reads the text of an expression in the root of a model that was made from these texts, and checks it under the scopes of
-/// a command.
+/// Reads the text of an expression in the root of a model that was made from these texts, whose declarations have these types, and
+/// checks it under the scopes of a command.
 ///
 /// The text has this number in places. It is refused where it is longer than a module may be, where it can't be
 /// cut into tokens, at the least of these at which no expression goes on, where a rule on names or readings is broken in it, or one on literals, on
@@ -46,6 +49,7 @@ pub fn read_value(
     alloc: Global,
     loaded: &Loaded,
     model: &Model,
+    types: &Types,
     scopes: &Scopes,
     number: u32,
     text: &[u8],
@@ -57,15 +61,15 @@ pub fn read_value(
         (λ read. read ≡ ReadValue.Refused broken) }
     ensures told { (tokens : List Token) → length text.now ≤ MODULE_BYTES →
         tokens_of number text.now ≡ Ok tokens → IfOk result
-        (IsReadOf model.now scopes.now.bits tokens) }
+        (IsReadOf loaded.now model.now types.now scopes.now.bits tokens) }
     ensures says { IfOk result (λ read. IfTree read
-        (TextSays loaded.now model.now number text.now)) }
+        (TextSays loaded.now model.now types.now number text.now)) }
 {
     if text.len() > MODULE_BYTES {
         return Ok(ReadValue::Refused(large_text(number)));
     }
     match lex(alloc, number, text) {
-        Ok(tokens) => parsed(alloc, loaded, model, scopes, &tokens),
+        Ok(tokens) => parsed(alloc, loaded, model, types, scopes, &tokens),
         Err(Fault::Refused(refusal)) => Ok(ReadValue::Refused(refusal)),
         Err(Fault::Memory) => Err(AllocError),
     }
@@ -90,13 +94,13 @@ fn parsed(
     alloc: Global,
     loaded: &Loaded,
     model: &Model,
+    types: &Types,
     scopes: &Scopes,
     tokens: &[Token],
 ) -> Result<ReadValue, AllocError>
     requires ends { EndsWell tokens.now }
     requires some { 0 < length tokens.now }
-    ensures told { IfOk result (IsReadOf model.now scopes.now.bits tokens.now) }
-    ensures says { IfOk result (λ read. IfTree read (TokensSay loaded.now model.now tokens.now)) }
+    ensures { IfOk result (IsReadOf loaded.now model.now types.now scopes.now.bits tokens.now) }
 {
     match parse_expr(alloc, tokens, 0) {
         Ok(parsed) => {
@@ -108,7 +112,7 @@ fn parsed(
             }
             let first = 0;
             let place = tokens[first].place;
-            resolved(alloc, loaded, model, scopes, &parsed.tree, place)
+            resolved(alloc, loaded, model, types, scopes, &parsed.tree, place)
         }
         Err(Fault::Refused(refusal)) => Ok(ReadValue::Refused(refusal)),
         Err(Fault::Memory) => Err(AllocError),
@@ -118,8 +122,8 @@ fn parsed(
 /// What it comes to that no expression goes along these tokens.
 fn stopped(tokens: &[Token], fault: Fault) -> Result<ReadValue, AllocError>
     requires { IsOfTokens root.Expr tokens.now fault }
-    ensures told { (model : Model) (bits : ℕ) → IfOk result (IsReadOf model bits tokens.now) }
-    ensures none { IfOk result (λ read. IfTree read (λ value. ⊥)) }
+    ensures { (loaded : Loaded) (model : Model) (types : Types) (bits : ℕ) →
+        IfOk result (IsReadOf loaded model types bits tokens.now) }
 {
     // for the proof: only the clauses name the tokens
     let _ = tokens;
@@ -135,21 +139,17 @@ fn is_said(
     alloc: Global,
     loaded: &Loaded,
     model: &Model,
+    types: &Types,
+    picks: &Picks,
     tree: &Tree,
     value: &Expr,
 ) -> Result<bool, AllocError>
-    ensures { IfOk result (λ b. IsTrue b → SaysSet (in_root loaded.now model.now) [] tree.now
+    ensures { IfOk result (λ b. IsTrue b → SaysValue loaded.now model.now types.now tree.now
         (term_of value.now)) }
 {
     match names(alloc, loaded) {
         Ok(names) => {
-            let site = Site {
-                names: &names,
-                model,
-                instance: 0,
-                own: &[],
-            };
-            let said = says_set(alloc, &site, &Locals::Empty, tree, value)?;
+            let said = says_value(alloc, &names, model, types, picks, 0, tree, value)?;
             Ok(said)
         }
         Err(_) => Err(AllocError),
@@ -162,17 +162,18 @@ fn resolved(
     alloc: Global,
     loaded: &Loaded,
     model: &Model,
+    types: &Types,
     scopes: &Scopes,
     tree: &Tree,
     first: Position,
 ) -> Result<ReadValue, AllocError>
-    ensures read { IfOk result (IsReadAt model.now scopes.now.bits first) }
-    ensures says { IfOk result (λ read. IfTree read
-        (SaysSet (in_root loaded.now model.now) [] tree.now)) }
+    ensures { IfOk result (IsReadAt loaded.now model.now types.now scopes.now.bits tree.now
+        first) }
 {
-    match resolve_value(alloc, loaded, model, tree) {
-        Ok(value) => {
-            let said = is_said(alloc, loaded, model, tree, &value)?;
+    match resolve_value_with(alloc, loaded, model, tree) {
+        Ok(found) => {
+            let Value { value, picks } = found;
+            let said = is_said(alloc, loaded, model, types, &picks, tree, &value)?;
             if !said {
                 return Err(AllocError);
             }
@@ -192,8 +193,7 @@ fn checked(
     first: Position,
 ) -> Result<ReadValue, AllocError>
     requires { IsRightValue model.now (term_of value) }
-    ensures read { IfOk result (IsReadAt model.now scopes.now.bits first) }
-    ensures same { IfOk result (λ read. IfTree read (λ t. t ≡ term_of value)) }
+    ensures { IfOk result (IsChecked model.now scopes.now.bits (term_of value) first) }
 {
     if scopes.bits < 1 || scopes.bits > 12 {
         // Scopes have no such bitwidth.

@@ -1,14 +1,14 @@
-//! A law of the program: what is loaded of a text is one model.
+//! Laws of the program: what is loaded of a text is one model.
 //!
 //! `cli_model` says of which loaded model an answer is: one whose texts are those that the libraries
 //! tell, whose opens lead where their paths and arguments say, and whose numbers and labels are those
-//! of a walk over opens. The law says that there is no other. The function does nothing; a caller
-//! that needs the law calls it.
+//! of a walk over opens. The laws say that there is no other. The functions do nothing; a caller
+//! that needs a law calls its function.
 #![tactic(auto)]
 
-ghost use Rattle.cli_laws.specs.Loaded.{LoadedModelsAreOne};
+ghost use Rattle.cli_laws.specs.Loaded.{LoadedModelsAreOne, GivenModelsAreOne};
 
-use load_laws::loads_are_unique;
+use load_laws::{loads_are_unique, texts_have_one_module};
 use syntax_single::tokens_have_one_module;
 
 /// A law: where the libraries tell what they hold, at most one model is loaded of a file's text.
@@ -16,5 +16,13 @@ pub fn loaded_models_are_one()
     ensures { LoadedModelsAreOne }
 {
     tokens_have_one_module();
+    loads_are_unique();
+}
+
+/// A law: where the libraries tell what they hold, at most one model is loaded of a text that is given, as that of the ring.
+pub fn given_models_are_one()
+    ensures { GivenModelsAreOne }
+{
+    texts_have_one_module();
     loads_are_unique();
 }

@@ -10,6 +10,7 @@ use Rattle.syntax_tree.specs.declared.token.Token.{Token}
 use Rattle.answer_analysis.specs.declared.ready.Ready.{Ready}
 use Rattle.answer_judge.specs.Expression.{large_text, RefusesTokens, TextSays}
 use Rattle.core_tree.specs.Trees.{term_of}
+use Rattle.resolve_read.specs.declared.types.Types.{Types}
 use Rattle.core_tree.specs.declared.model.Model.{Model}
 use Rattle.core_tree.specs.declared.tree.Expr.{Expr}
 use Rattle.cli_model.specs.Model.{RefusesAt}
@@ -31,7 +32,7 @@ beside_all loaded refusal name past at = record { name = name; is = refl; named 
 -- what was read of the text of an expression, which has the next number behind those of the loaded texts
 pub breaks_of : (ready : Ready) (expression text : List ℕ) (number : ℕ) (refusal : Refusal) → text ≡ expression → number ≡ length ready.loaded.texts →
     (MODULE_BYTES < length text → refusal ≡ large_text number) → ((broken : Refusal) → length text ≤ MODULE_BYTES → tokens_of number text ≡ Err broken → refusal ≡ broken) →
-    ((tokens : List Token) → length text ≤ MODULE_BYTES → tokens_of number text ≡ Ok tokens → RefusesTokens ready.model ready.scopes.bits tokens refusal) →
+    ((tokens : List Token) → length text ≤ MODULE_BYTES → tokens_of number text ≡ Ok tokens → RefusesTokens ready.loaded ready.model ready.readings.types ready.scopes.bits tokens refusal) →
     BreaksExpression ready expression refusal
 breaks_of ready expression text number refusal same count large cut told = record {
   large = λ over. large (subst (λ (b : List ℕ). MODULE_BYTES < length b) (sym same) over) ∙ ap large_text count;
@@ -42,8 +43,8 @@ breaks_of ready expression text number refusal same count large cut told = recor
 }
 
 -- the same of what the text says
-pub says_of : (loaded : Loaded) (model : Model) (number count : ℕ) (text expression : List ℕ) (v w : Expr) → number ≡ count → text ≡ expression → v ≡ w →
-    TextSays loaded model number text (term_of v) → TextSays loaded model count expression (term_of w)
-says_of loaded model number count text expression v w counted same are says =
-    subst (λ (e : Expr). TextSays loaded model count expression (term_of e)) are
-    (subst (λ (b : List ℕ). TextSays loaded model count b (term_of v)) same (subst (λ (n : ℕ). TextSays loaded model n text (term_of v)) counted says))
+pub says_of : (loaded : Loaded) (model : Model) (types : Types) (number count : ℕ) (text expression : List ℕ) (v w : Expr) → number ≡ count → text ≡ expression → v ≡ w →
+    TextSays loaded model types number text (term_of v) → TextSays loaded model types count expression (term_of w)
+says_of loaded model types number count text expression v w counted same are says =
+    subst (λ (e : Expr). TextSays loaded model types count expression (term_of e)) are
+    (subst (λ (b : List ℕ). TextSays loaded model types count b (term_of v)) same (subst (λ (n : ℕ). TextSays loaded model types n text (term_of v)) counted says))

@@ -62,11 +62,11 @@ ShownSpent loaded Least number budget text = OfPrepared loaded number (λ prepar
 ShownSpent loaded Core number budget text = OfPrepared loaded number (λ prepared. ShowsSpentCore prepared budget text)
 ShownSpent loaded _ number budget text = ⊥
 
--- the expression that is given says this value in the root of a model that was made ready
+-- the expression that is given says this value in the root of a model that was made ready, by the types of its declarations
 pub record IsAsked (ready : Ready) (given : Option (List ℕ)) (value : Term) : Type 0 where
   pub expression : List ℕ
   pub is : given ≡ Some expression
-  pub says : TextSays ready.loaded ready.model (length ready.loaded.texts) expression value
+  pub says : TextSays ready.loaded ready.model ready.readings.types (length ready.loaded.texts) expression value
 
 -- what is said of the text of a trace in a mode: what a model and its command mean on it, or the tuples that the expression of the
 -- settings has there at their position

@@ -30,7 +30,7 @@ use Rattle.cli_model.specs.Root.{Breaks, SpellIn}
 pub record BreaksExpression (ready : Ready) (expression : List ℕ) (refusal : Refusal) : Type 0 where
   pub large : MODULE_BYTES < length expression → refusal ≡ large_text (length ready.loaded.texts)
   pub cut : (broken : Refusal) → length expression ≤ MODULE_BYTES → tokens_of (length ready.loaded.texts) expression ≡ Err broken → refusal ≡ broken
-  pub told : (tokens : List Token) → length expression ≤ MODULE_BYTES → tokens_of (length ready.loaded.texts) expression ≡ Ok tokens → RefusesTokens ready.model ready.scopes.bits tokens refusal
+  pub told : (tokens : List Token) → length expression ≤ MODULE_BYTES → tokens_of (length ready.loaded.texts) expression ≡ Ok tokens → RefusesTokens ready.loaded ready.model ready.readings.types ready.scopes.bits tokens refusal
 
 -- the mode evaluates an expression, and that of the settings is refused so in a model of what is loaded
 pub record RefusesExpression (loaded : Loaded) (settings : Settings) (refusal : Refusal) : Type 0 where

@@ -108,8 +108,8 @@ fn value_asked(alloc: Global, ready: &Ready, expression: &Name) -> Result<Questi
     ensures refused { (refusal : _) → result ≡ Ok (Question.Refused refusal) →
         BreaksExpression ready.now expression.now refusal }
     ensures says { (value : _) → result ≡ Ok (Question.Value value) →
-        TextSays ready.now.loaded ready.now.model (length ready.now.loaded.texts) expression.now
-        (term_of value) }
+        TextSays ready.now.loaded ready.now.model ready.now.readings.types
+        (length ready.now.loaded.texts) expression.now (term_of value) }
 {
     let loaded = &ready.loaded;
     let count = loaded.texts.len();
@@ -118,7 +118,16 @@ fn value_asked(alloc: Global, ready: &Ready, expression: &Name) -> Result<Questi
     }
     let number = count as u32;
     let text = expression.text().as_bytes();
-    match read_value(alloc, loaded, &ready.model, &ready.scopes, number, text)? {
+    let types = &ready.readings.types;
+    match read_value(
+        alloc,
+        loaded,
+        &ready.model,
+        types,
+        &ready.scopes,
+        number,
+        text,
+    )? {
         ReadValue::Tree(value) => Ok(Question::Value(value)),
         ReadValue::Refused(refusal) => Ok(Question::Refused(refusal)),
     }

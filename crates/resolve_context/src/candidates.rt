@@ -269,6 +269,26 @@ fn spoil(setting: &Setting<'_>, root: &mut Root) {
     }
 }
 
+/// What the bare name of a body means; none where its types aren't known.
+pub fn body_meaning(
+    alloc: Global,
+    known: &Known,
+    body: u32,
+    integer: bool,
+) -> Result<Option<Meaning>, AllocError> {
+    let Some(what) = body_what(alloc, known, body)? else {
+        return Ok(None);
+    };
+    let widest = widest_of(&what);
+    Ok(Some(Meaning {
+        what,
+        marked: false,
+        relevant: true,
+        integer,
+        widest,
+    }))
+}
+
 fn body_candidate(
     alloc: Global,
     setting: &Setting<'_>,
@@ -288,21 +308,12 @@ fn body_candidate(
         Some(entry) => entry.instance,
     };
     let integer = is_integer(setting.known, instance);
-    let meaning = match body_what(alloc, setting.known, body)? {
+    let meaning = match body_meaning(alloc, setting.known, body, integer)? {
         None => {
             spoil(setting, root);
             formula_meaning(integer)
         }
-        Some(what) => {
-            let widest = widest_of(&what);
-            Meaning {
-                what,
-                marked: false,
-                relevant: true,
-                integer,
-                widest,
-            }
-        }
+        Some(meaning) => meaning,
     };
     Ok(Some(Candidate {
         target: Target::Body(body),

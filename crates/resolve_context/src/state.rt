@@ -7,7 +7,7 @@ use crate::faults::{Broken, Noted, note};
 use crate::known::Known;
 use crate::locals::Local;
 use base_types::Position;
-use resolve_drafts::CallSite;
+use resolve_drafts::{CallSite, Pick};
 use resolve_hierarchy::Hierarchy;
 use resolve_names::Names;
 use syntax_tree::Loaded;
@@ -41,12 +41,24 @@ pub struct Setting<'a> {
     pub is_quiet: bool,
 }
 
+/// What a name stands for.
+#[derive(Clone, Copy, Debug, Drop)]
+pub struct PickAt {
+    /// The number of its instance.
+    pub instance: u32,
+    /// The number of its sig, in an appended fact and in the bound of a field.
+    pub sig: Option<u32>,
+    pub pick: Pick,
+}
+
 /// What is gathered on the way.
 #[derive(Drop)]
 pub struct State {
     pub locals: Vec<Local>,
     pub least: Option<Noted>,
     pub calls: Vec<CallSite>,
+    /// What names stand for.
+    pub picks: Vec<PickAt>,
 }
 
 /// What is gathered of a root.

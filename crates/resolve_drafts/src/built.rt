@@ -5,6 +5,7 @@ ghost use Rattle.resolve_drafts.specs.Calls.{call_of, IsGiven};
 
 use base_types::Position;
 use core_tree::{Expr, Formula};
+use resolve_picks::Target;
 use std::alloc::{AllocError, Global};
 
 /// A call, with the place of the called name.
@@ -12,6 +13,13 @@ use std::alloc::{AllocError, Global};
 pub struct CallSite {
     pub body: u32,
     pub place: Position,
+}
+
+/// A name that is none in scope, with its place and what it stands for.
+#[derive(Clone, Copy, Debug, Drop)]
+pub struct Pick {
+    pub place: Position,
+    pub target: Target,
 }
 
 /// A call that waits for arguments.

@@ -5,12 +5,11 @@ ghost use Rattle.resolve_readings.specs.Readings.{Decides, IsWithin, count_choic
 ghost use Rattle.resolve_readings.specs.declared.part.Outcome.TheVariants as outcome;
 ghost use Rattle.resolve_drafts.specs.Settled.{outcome_of};
 
-use crate::built::{Built, CallSite};
+use crate::built::{Built, CallSite, Pick};
 use crate::draft::Draft;
-use crate::part::fixed;
 use crate::tree::built;
 use base_lists::Items;
-use resolve_readings::{Found, Meaning, Outcome, Part, Typing, decide, found};
+use resolve_readings::{Decision, Meaning, Outcome, Part, Typing, decide};
 use std::alloc::{AllocError, Global};
 
 /// A root under its reading.
@@ -23,6 +22,8 @@ pub struct Reading {
     pub meaning: Option<Meaning>,
     /// The calls in it, those in nested roots aside.
     pub calls: Items<CallSite>,
+    /// What the names in it stand for, those in nested roots aside, and those that are in scope.
+    pub picks: Items<Pick>,
 }
 
 /// What is settled of a root.
@@ -37,44 +38,22 @@ pub enum Settled {
     TooMany,
 }
 
-/// What the first of these means, if there is one.
-fn first(alloc: Global, all: &[Found]) -> Result<Option<Meaning>, AllocError> {
-    match all {
-        [one, ..] => Ok(Some(one.meaning.copy(alloc)?)),
-        [] => Ok(None),
-    }
-}
-
-/// What a part means under a choice.
-fn meaning_under(
-    alloc: Global,
-    typing: &Typing,
-    part: &Part,
-    choice: &[usize],
-) -> Result<Option<Meaning>, AllocError> {
-    let fixed = fixed(alloc, part, choice)?;
-    let all = found(alloc, typing, &fixed)?;
-    fixed.put_away();
-    first(alloc, all.as_slice())
-}
-
-/// The root under a choice.
+/// The root under a choice, by which it means this.
 fn read(
     alloc: Global,
-    typing: &Typing,
     draft: &Draft,
-    part: &Part,
     choice: Items<usize>,
+    meaning: Option<Meaning>,
 ) -> Result<Settled, AllocError>
     ensures { IfOk result (λ s. outcome_of s ≡ outcome.Read choice) }
 {
-    let meaning = meaning_under(alloc, typing, part, choice.as_slice())?;
-    let (built, calls) = built(alloc, draft, choice.as_slice())?;
+    let (built, calls, picks) = built(alloc, draft, choice.as_slice())?;
     Ok(Settled::Read(Reading {
         choice,
         built,
         meaning,
         calls: Items::from_vec(calls),
+        picks: Items::from_vec(picks),
     }))
 }
 
@@ -90,9 +69,9 @@ pub fn settle(
     ensures decided { IfOk result (λ s. Decides typing.now part.now (outcome_of s)) }
     ensures limit { IfOk result (λ s. IsWithin (count_choices part.now) (outcome_of s)) }
 {
-    let outcome = decide(alloc, typing, part)?;
+    let Decision { outcome, meaning } = decide(alloc, typing, part)?;
     match outcome {
-        Outcome::Read(choice) => read(alloc, typing, draft, part, choice),
+        Outcome::Read(choice) => read(alloc, draft, choice, meaning),
         Outcome::NoReading => Ok(Settled::NoReading),
         Outcome::Ambiguous => Ok(Settled::Ambiguous),
         Outcome::TooMany => Ok(Settled::TooMany),

@@ -7,7 +7,7 @@ mod draft;
 mod part;
 mod tree;
 
-pub use built::{Built, CallSite, Pending};
+pub use built::{Built, CallSite, Pending, Pick};
 pub use decided::{Reading, Settled, settle};
 pub use draft::{Candidate, Draft, Target};
 pub use part::part_of;

@@ -1,9 +1,10 @@
 //! Builds the resolved tree of a draft under a choice.
 
-use crate::built::{Built, CallSite, begun, give};
+use crate::built::{Built, CallSite, Pick, begun, give};
 use crate::draft::{Candidate, Draft, Target};
 use base_types::Position;
 use core_tree::{Comparison, Expr, Formula, IntOp, Multiplicity, RelationOp, UnaryRelation};
+use resolve_picks::Target as Picked;
 use resolve_readings::{Binary, Meaning, Multiplicity as Word, Unary, What};
 use std::alloc::{AllocError, Global};
 
@@ -57,12 +58,34 @@ fn candidate_tree(
     }
 }
 
-/// The trees that are made so far under a choice, how many names are behind, and the calls.
+/// What a candidate is that is no name in scope.
+fn picked(target: Target) -> Option<Picked> {
+    match target {
+        Target::Sig(sig) => Some(Picked::Sig(sig)),
+        Target::Int => Some(Picked::Int),
+        Target::Field(field) => Some(Picked::Field(field)),
+        Target::OwnField(field) => Some(Picked::Field(field)),
+        Target::Name(_) => None,
+        Target::Body(body) => Some(Picked::Body(body)),
+    }
+}
+
+/// Notes what a name stands for, where it is none in scope.
+fn pick(place: Position, target: Target, picks: &mut Vec<Pick>) -> Result<(), AllocError> {
+    if let Some(target) = picked(target) {
+        picks.push(Pick { place, target })?;
+    }
+    Ok(())
+}
+
+/// The trees that are made so far under a choice, how many names are behind, the calls, and what
+/// the names stand for.
 #[derive(Drop)]
 struct Building<'a> {
     choice: &'a [usize],
     at: usize,
     calls: Vec<CallSite>,
+    picks: Vec<Pick>,
     trees: Vec<Built>,
 }
 
@@ -80,7 +103,10 @@ fn name_tree(
     building.at = building.at.saturating_add(1);
     match candidates.get(number) {
         None => Ok(Built::Nothing),
-        Some(candidate) => candidate_tree(alloc, place, candidate, &mut building.calls),
+        Some(candidate) => {
+            pick(place, candidate.target, &mut building.picks)?;
+            candidate_tree(alloc, place, candidate, &mut building.calls)
+        }
     }
 }
 
@@ -347,16 +373,17 @@ fn add_built(alloc: Global, draft: &Draft, building: &mut Building<'_>) -> Resul
 }
 
 /// The resolved tree of a draft, in which the choice names a candidate for each name in turn, and
-/// the calls in it.
+/// the calls in it, and what its names stand for that are none in scope.
 pub fn built(
     alloc: Global,
     draft: &Draft,
     choice: &[usize],
-) -> Result<(Built, Vec<CallSite>), AllocError> {
+) -> Result<(Built, Vec<CallSite>, Vec<Pick>), AllocError> {
     let mut building = Building {
         choice,
         at: 0,
         calls: Vec::new(alloc),
+        picks: Vec::new(alloc),
         trees: Vec::new(alloc),
     };
     add_built(alloc, draft, &mut building)?;
@@ -365,7 +392,8 @@ pub fn built(
         choice: _,
         at: _,
         calls,
+        picks,
         trees: _,
     } = building;
-    Ok((tree, calls))
+    Ok((tree, calls, picks))
 }

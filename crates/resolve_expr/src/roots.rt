@@ -4,8 +4,8 @@ use base_types::Position;
 use core_tree::{Expr, Formula};
 use resolve_context::faults::Broken;
 use resolve_context::meanings::formula_meaning;
-use resolve_context::state::{Root, Setting, State, note_at};
-use resolve_drafts::{Built, CallSite, Draft, Reading, Settled, part_of, settle};
+use resolve_context::state::{PickAt, Root, Setting, State, note_at};
+use resolve_drafts::{Built, CallSite, Draft, Pick, Reading, Settled, part_of, settle};
 use resolve_readings::{Meaning, RootPlace, Unary, What};
 use resolve_types::Columns;
 use std::alloc::{AllocError, Global};
@@ -57,6 +57,30 @@ fn add_calls(
     Ok(())
 }
 
+/// The sig in whose appended fact, or in the bound of whose field, a root stands.
+fn sig_of(setting: &Setting<'_>) -> Option<u32> {
+    match setting.above {
+        [] => None,
+        [own, ..] => Some(*own),
+    }
+}
+
+/// Adds what the names of a reading stand for.
+fn add_picks(setting: &Setting<'_>, state: &mut State, picks: &[Pick]) -> Result<(), AllocError> {
+    if setting.is_quiet {
+        return Ok(());
+    }
+    let sig = sig_of(setting);
+    for pick in picks {
+        state.picks.push(PickAt {
+            instance: setting.instance,
+            sig,
+            pick: *pick,
+        })?;
+    }
+    Ok(())
+}
+
 /// The columns of what a root means, and so many more.
 fn width(meaning: &Meaning, more: u32) -> u32 {
     match &meaning.what {
@@ -78,6 +102,7 @@ fn taken(
         built,
         meaning,
         calls: _,
+        picks: _,
     } = reading;
     let Some(meaning) = meaning else {
         return None;
@@ -118,6 +143,7 @@ fn read(
     more: u32,
 ) -> Result<Option<(Built, Meaning)>, AllocError> {
     add_calls(setting, state, reading.calls.as_slice())?;
+    add_picks(setting, state, reading.picks.as_slice())?;
     Ok(taken(setting, state, at, reading, more))
 }
 

@@ -5,6 +5,7 @@ ghost use Rattle.resolve_check.specs.Kept.{IsModelButTypes};
 ghost use Rattle.resolve_model.specs.Refused.{IsFault};
 ghost use Rattle.resolve_names.specs.Twice.{HasNoneTwice};
 
+use crate::readings::readings_of;
 use crate::refused::refused;
 use base_types::Fault;
 use core_tree::{Body, Bound, CommandList, Formula, Model};
@@ -18,14 +19,23 @@ use resolve_paragraphs::{
     Claims, Edge, Ranks, Sources, all_appended, all_vars, call_ranks, literals, model_bodies,
     model_claims, model_commands, model_fields, model_sigs, ranked, settle_fields, type_bodies,
 };
+use resolve_read::Readings;
 use std::alloc::{AllocError, Global};
 use syntax_tree::Loaded;
+
+/// A resolved model, and what is told of the readings beside it.
+#[derive(Drop)]
+pub struct Resolved {
+    pub model: Model,
+    pub readings: Readings,
+}
 
 pub fn new_state(alloc: Global) -> State {
     State {
         locals: Vec::new(alloc),
         least: None,
         calls: Vec::new(alloc),
+        picks: Vec::new(alloc),
     }
 }
 
@@ -86,13 +96,13 @@ fn all_parts(
     })
 }
 
-/// The model, or the broken rule that counts first.
+/// The model with its readings, or the broken rule that counts first.
 fn modelled(
     alloc: Global,
     loaded: &Loaded,
     names: &Names,
     hierarchy: &Hierarchy,
-) -> Result<Result<Model, Noted>, AllocError> {
+) -> Result<Result<Resolved, Noted>, AllocError> {
     let literals = literals(alloc, loaded)?;
     let mut known = first_known(alloc, loaded, names, hierarchy, literals)?;
     let mut state = new_state(alloc);
@@ -108,7 +118,14 @@ fn modelled(
     if let Some(noted) = state.least {
         return Ok(Err(noted));
     }
-    ordered(alloc, &sources, parts)
+    match ordered(alloc, &sources, parts)? {
+        Err(noted) => Ok(Err(noted)),
+        Ok(model) => {
+            let picks = state.picks.as_slice();
+            let readings = readings_of(alloc, names, hierarchy, known, picks)?;
+            Ok(Ok(Resolved { model, readings }))
+        }
+    }
 }
 
 /// The model once no rule on names and readings is broken; or a call on a cycle of calls.
@@ -181,18 +198,27 @@ fn model_of(
     loaded: &Loaded,
     names: &Names,
     hierarchy: &Hierarchy,
-) -> Result<Model, Fault>
-    ensures kept { IfOk result IsModelButTypes }
+) -> Result<Resolved, Fault>
+    ensures kept { IfOk result (λ r. IsModelButTypes r.model) }
     ensures fault { IfErr result (IsFault loaded.now.texts loaded.now.instances) }
 {
     match modelled(alloc, loaded, names, hierarchy) {
         Err(_) => Err(Fault::Memory),
         Ok(Err(noted)) => Err(refused(loaded, noted)),
-        Ok(Ok(model)) => match kept(alloc, model) {
+        Ok(Ok(resolved)) => match kept_with(alloc, resolved) {
             Err(_) => Err(Fault::Memory),
-            Ok(model) => Ok(model),
+            Ok(resolved) => Ok(resolved),
         },
     }
+}
+
+/// The model that is kept, with its readings.
+fn kept_with(alloc: Global, resolved: Resolved) -> Result<Resolved, AllocError>
+    ensures { IfOk result (λ r. IsModelButTypes r.model) }
+{
+    let Resolved { model, readings } = resolved;
+    let model = kept(alloc, model)?;
+    Ok(Resolved { model, readings })
 }
 
 /// The hierarchy, with its fault.
@@ -232,6 +258,16 @@ pub fn resolve(alloc: Global, loaded: &Loaded) -> Result<Model, Fault>
     ensures none_twice { OnOk result (HasNoneTwice loaded.now.texts loaded.now.instances) }
     ensures fault { IfErr result (IsFault loaded.now.texts loaded.now.instances) }
 {
+    let Resolved { model, readings: _ } = resolve_with(alloc, loaded)?;
+    Ok(model)
+}
+
+/// The same, with what is told of the readings.
+pub fn resolve_with(alloc: Global, loaded: &Loaded) -> Result<Resolved, Fault>
+    ensures kept { IfOk result (λ r. IsModelButTypes r.model) }
+    ensures none_twice { OnOk result (HasNoneTwice loaded.now.texts loaded.now.instances) }
+    ensures fault { IfErr result (IsFault loaded.now.texts loaded.now.instances) }
+{
     let names = match names_of(alloc, loaded) {
         Err(fault) => return Err(fault),
         Ok(names) => names,
@@ -240,9 +276,9 @@ pub fn resolve(alloc: Global, loaded: &Loaded) -> Result<Model, Fault>
         Err(fault) => return Err(fault),
         Ok(hierarchy) => hierarchy,
     };
-    let model = match model_of(alloc, loaded, &names, &hierarchy) {
+    let resolved = match model_of(alloc, loaded, &names, &hierarchy) {
         Err(fault) => return Err(fault),
-        Ok(model) => model,
+        Ok(resolved) => resolved,
     };
-    Ok(model)
+    Ok(resolved)
 }

@@ -5,6 +5,7 @@ ghost use Rattle.core_tree.specs.Trees.{term_of};
 ghost use Rattle.resolve_check.specs.Kept.{IsRightValue};
 ghost use Rattle.resolve_model.specs.Refused.{IsValueFault};
 
+use crate::readings::picks_of;
 use crate::refused::refused_value;
 use crate::solve::{hierarchy_of, names_of, new_state};
 use base_types::Fault;
@@ -20,6 +21,7 @@ use resolve_expr::state::new_root;
 use resolve_hierarchy::Hierarchy;
 use resolve_names::Names;
 use resolve_paragraphs::{Sources, literals, setting_in, settle_fields, type_bodies};
+use resolve_picks::Picks;
 use std::alloc::{AllocError, Global};
 use syntax_tree::{Expr as Tree, Loaded};
 
@@ -39,6 +41,13 @@ fn tree_of(value: Resolved) -> Expr {
     tree
 }
 
+/// A resolved value, and what the names of its expression are taken to stand for.
+#[derive(Drop)]
+pub struct Value {
+    pub value: Expr,
+    pub picks: Picks,
+}
+
 /// The value, or the broken rule that counts first.
 fn valued(
     alloc: Global,
@@ -46,13 +55,14 @@ fn valued(
     names: &Names,
     hierarchy: &Hierarchy,
     tree: &Tree,
-) -> Result<Result<Expr, Option<Noted>>, AllocError> {
+) -> Result<Result<Value, Option<Noted>>, AllocError> {
     let literals = literals(alloc, loaded)?;
     let mut known = first_known(alloc, loaded, names, hierarchy, literals)?;
     let mut state = new_state(alloc);
     settle_fields(alloc, loaded, names, hierarchy, &mut known, &mut state)?;
     type_bodies(alloc, loaded, names, hierarchy, &mut known, &mut state)?;
     state.least = None;
+    state.picks.truncate(0);
     let sources = Sources {
         loaded,
         names,
@@ -66,7 +76,13 @@ fn valued(
     let start = first_place(tree);
     let draft = draft_of(alloc, piece)?;
     let value = settle_value(alloc, &setting, &mut state, root, start, draft)?;
-    Ok(tree_or(value, state.least))
+    match tree_or(value, state.least) {
+        Err(least) => Ok(Err(least)),
+        Ok(value) => {
+            let picks = picks_of(alloc, state.picks.as_slice())?;
+            Ok(Ok(Value { value, picks }))
+        }
+    }
 }
 
 /// The expression, where it fits the model. The rules of reading make no other; it is tested once more
@@ -93,6 +109,20 @@ pub fn resolve_value(
     ensures kept { IfOk result (λ e. IsRightValue model.now (term_of e)) }
     ensures fault { IfErr result IsValueFault }
 {
+    let Value { value, picks: _ } = resolve_value_with(alloc, loaded, model, tree)?;
+    Ok(value)
+}
+
+/// The same, with what the names of the expression are taken to stand for.
+pub fn resolve_value_with(
+    alloc: Global,
+    loaded: &Loaded,
+    model: &Model,
+    tree: &Tree,
+) -> Result<Value, Fault>
+    ensures kept { IfOk result (λ v. IsRightValue model.now (term_of v.value)) }
+    ensures fault { IfErr result IsValueFault }
+{
     let names = match names_of(alloc, loaded) {
         Err(_) => return Err(Fault::Memory),
         Ok(names) => names,
@@ -102,9 +132,9 @@ pub fn resolve_value(
         Ok(hierarchy) => hierarchy,
     };
     match valued(alloc, loaded, &names, &hierarchy, tree) {
-        Ok(Ok(value)) => match fitting(alloc, model, value) {
+        Ok(Ok(Value { value, picks })) => match fitting(alloc, model, value) {
             Err(_) => Err(Fault::Memory),
-            Ok(value) => Ok(value),
+            Ok(value) => Ok(Value { value, picks }),
         },
         Ok(Err(Some(noted))) => Err(refused_value(noted)),
         Ok(Err(None)) => Err(Fault::Memory),

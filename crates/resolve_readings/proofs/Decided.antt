@@ -50,7 +50,7 @@ second_true : (a b : Bool) → (a && b) ≡ true → b ≡ true
 second_true true b e = e
 second_true false b e = absurd cc
 
-which : {X : Type 0} (a b : Option X) (x : X) → first_of_two a b ≡ Some x → (a ≡ Some x) ⊎ (b ≡ Some x)
+pub which : {X : Type 0} (a b : Option X) (x : X) → first_of_two a b ≡ Some x → (a ≡ Some x) ⊎ (b ≡ Some x)
 which None b x e = inr e
 which (Some y) b x e = inl e
 

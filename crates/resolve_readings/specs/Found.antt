@@ -1,5 +1,5 @@
 -- The right choices of a part, computed from those of its parts.
-use Rattle.std.specs.Prelude.{◌&&◌, ◌||◌, ℕ, ◌+◌, Bool, true, false, not, List, [], ◌∷◌, ◌++◌, Option, Some, None}
+use Rattle.std.specs.Prelude.{◌≡◌, ◌&&◌, ◌||◌, ℕ, ◌+◌, Bool, true, false, not, List, [], ◌∷◌, ◌++◌, Option, Some, None}
 use Rattle.std.specs.List.{filter, filter_map}
 use Rattle.std.specs.Option.{option_map}
 use Rattle.resolve_types.specs.Types.{pairs}
@@ -8,6 +8,7 @@ use Rattle.resolve_readings.specs.Meanings.{single_of, pair_of, is_none}
 use Rattle.resolve_readings.specs.declared.meaning.Meaning.{Meaning}
 use Rattle.resolve_readings.specs.declared.part.Unary.{Unary}
 use Rattle.resolve_readings.specs.declared.part.Binary.{Binary}
+use Rattle.resolve_readings.specs.declared.part.Decision.{Decision}
 use Rattle.resolve_readings.specs.declared.part.Found.{Found}
 use Rattle.resolve_readings.specs.declared.part.Outcome.{Outcome}
 use Rattle.resolve_readings.specs.declared.part.Outcome.TheVariants as outcome
@@ -80,3 +81,7 @@ abbrev pub chosen_by : List Found → Option Found
 chosen_by all =
     first_of_two (single (passing false false all))
     (first_of_two (single (passing true false all)) (single (passing (not (is_none (passing true false all))) true all)))
+
+-- what is decided means what the chosen one does
+abbrev pub IsMeant : List Found → Decision → Type 0
+IsMeant all d = (choice : List ℕ) → d.outcome ≡ outcome.Read choice → (f : Found) × (chosen_by all ≡ Some f) × (f.choice ≡ choice) × (d.meaning ≡ Some f.meaning)

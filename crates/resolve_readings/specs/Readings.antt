@@ -5,6 +5,7 @@ use Rattle.std.specs.Option.{option_map}
 use Rattle.resolve_readings.specs.declared.part.Typing.{Typing}
 use Rattle.resolve_readings.specs.Meanings.{single_of, pair_of}
 use Rattle.resolve_readings.specs.declared.meaning.Meaning.{Meaning}
+use Rattle.resolve_readings.specs.declared.part.Decision.{Decision}
 use Rattle.resolve_readings.specs.declared.part.Outcome.{Outcome}
 use Rattle.resolve_readings.specs.declared.part.Outcome.TheVariants as outcome
 use Rattle.resolve_readings.specs.declared.part.Part.{Part, Name, Known, Single', Pair'}
@@ -81,3 +82,7 @@ IsWithin count outcome.TooMany = 4096 < count
 IsWithin count (outcome.Read choice) = count ≤ 4096
 IsWithin count outcome.NoReading = count ≤ 4096
 IsWithin count outcome.Ambiguous = count ≤ 4096
+
+-- a root that has a reading means this by it
+abbrev pub MeansSo : Typing → Part → Decision → Type 0
+MeansSo typing root d = (choice : Choice) → d.outcome ≡ outcome.Read choice → (m : Meaning) × (d.meaning ≡ Some m) × (read typing root choice ≡ Some (m, []))

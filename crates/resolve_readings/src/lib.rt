@@ -35,7 +35,6 @@ mod operate;
 mod part;
 mod root;
 
-pub use choices::found;
 pub use meaning::{Meaning, What};
-pub use part::{Binary, Found, Multiplicity, Outcome, Part, RootPlace, Typing, Unary};
+pub use part::{Binary, Decision, Found, Multiplicity, Outcome, Part, RootPlace, Typing, Unary};
 pub use root::decide;

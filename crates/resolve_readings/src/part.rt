@@ -124,6 +124,14 @@ pub struct Found {
     pub meaning: Meaning,
 }
 
+/// What is decided of a root, and what it means by its reading.
+#[derive(Drop)]
+pub struct Decision {
+    pub outcome: Outcome,
+    /// What the root means, where it has a reading.
+    pub meaning: Option<Meaning>,
+}
+
 /// What is decided of a root.
 #[derive(Drop)]
 pub enum Outcome {

@@ -1,12 +1,13 @@
 //! Which choice is the root's reading.
 
-ghost use Rattle.std.specs.Prelude.{◌≡◌, [], ◌∷◌, min, ◌*◌, ◌<◌, ◌≤◌, IfOk, MatchOption};
-ghost use Rattle.resolve_readings.specs.Readings.{Decides, IsDecided, IsWithin, count_choices};
-ghost use Rattle.resolve_readings.specs.Found.{single as single_of, passes, passing, chosen_by, outcome_of};
+ghost use Rattle.std.specs.Prelude.{◌≡◌, [], ◌∷◌, min, ◌*◌, ◌<◌, ◌≤◌, IfOk, MatchOption, Some};
+ghost use Rattle.resolve_readings.specs.Readings.{Decides, IsDecided, IsWithin, MeansSo, count_choices};
+ghost use Rattle.resolve_readings.specs.Found.{single as single_of, passes, passing, chosen_by, outcome_of, IsMeant};
+ghost use Rattle.resolve_readings.specs.declared.part.Outcome.TheVariants as outcome;
 ghost use Rattle.std.specs.Option.{option_copied};
 
 use crate::choices::found;
-use crate::part::{Found, Outcome, Part, Typing};
+use crate::part::{Decision, Found, Outcome, Part, Typing};
 use base_lists::Items;
 use std::alloc::{AllocError, Global};
 
@@ -81,34 +82,58 @@ fn chosen_one(all: &[Found]) -> Option<&Found>
     only(all, next(all, true, false).is_some(), true)
 }
 
+/// What is decided where this one is chosen.
+fn read_as(alloc: Global, one: &Found) -> Result<Decision, AllocError>
+    ensures outcome { IfOk result (λ d. d.outcome ≡ outcome.Read one.now.choice) }
+    ensures meaning { IfOk result (λ d. d.meaning ≡ Some one.now.meaning) }
+{
+    let choice = Items::from_slice(alloc, one.choice.as_slice())?;
+    let meaning = one.meaning.copy(alloc)?;
+    Ok(Decision {
+        outcome: Outcome::Read(choice),
+        meaning: Some(meaning),
+    })
+}
+
 /// What is decided of all right choices.
-fn pick(alloc: Global, all: &[Found]) -> Result<Outcome, AllocError>
-    ensures picked { IfOk result (λ o. o ≡ outcome_of all.now (chosen_by all.now)) }
-    ensures few { IfOk result (λ o. IsDecided o) }
+fn pick(alloc: Global, all: &[Found]) -> Result<Decision, AllocError>
+    ensures picked { IfOk result (λ d. d.outcome ≡ outcome_of all.now (chosen_by all.now)) }
+    ensures few { IfOk result (λ d. IsDecided d.outcome) }
+    ensures meaning { IfOk result (λ d. IsMeant all.now d) }
 {
     if all.is_empty() {
-        return Ok(Outcome::NoReading);
+        return Ok(Decision {
+            outcome: Outcome::NoReading,
+            meaning: None,
+        });
     }
     match chosen_one(all) {
         Some(one) => {
-            let choice = Items::from_slice(alloc, one.choice.as_slice())?;
-            Ok(Outcome::Read(choice))
+            let decision = read_as(alloc, one)?;
+            Ok(decision)
         }
-        None => Ok(Outcome::Ambiguous),
+        None => Ok(Decision {
+            outcome: Outcome::Ambiguous,
+            meaning: None,
+        }),
     }
 }
 
-/// The root's reading, or why it has none.
-pub fn decide(alloc: Global, typing: &Typing, root: &Part) -> Result<Outcome, AllocError>
-    ensures decided { IfOk result (λ o. Decides typing.now root.now o) }
-    ensures limit { IfOk result (λ o. IsWithin (count_choices root.now) o) }
+/// The root's reading and what the root means by it, or why it has none.
+pub fn decide(alloc: Global, typing: &Typing, root: &Part) -> Result<Decision, AllocError>
+    ensures decided { IfOk result (λ d. Decides typing.now root.now d.outcome) }
+    ensures limit { IfOk result (λ d. IsWithin (count_choices root.now) d.outcome) }
+    ensures meaning { IfOk result (MeansSo typing.now root.now) }
 {
     // TooManyReadings, S43: a root has at most 4,096 readings. The count stops at 4,097, one past
     // the limit.
     if choices(root) > 4096 {
-        return Ok(Outcome::TooMany);
+        return Ok(Decision {
+            outcome: Outcome::TooMany,
+            meaning: None,
+        });
     }
     let all = found(alloc, typing, root)?;
-    let outcome = pick(alloc, all.as_slice())?;
-    Ok(outcome)
+    let decision = pick(alloc, all.as_slice())?;
+    Ok(decision)
 }

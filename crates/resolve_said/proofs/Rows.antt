@@ -1,5 +1,5 @@
 -- A part more of a row, of a block, of a `let` or of declarations.
-use Rattle.std.proofs.Common.{◌≡◌, ◌∙◌, ℕ, zero, suc, ◌+◌, ◌-◌, ◌<◌, ◌≤◌, Bool, true, List, [], ◌∷◌, ◌++◌, map, length, take, drop, get_or, refl, sym, ap, subst, arith}
+use Rattle.std.proofs.Common.{◌≡◌, ◌∙◌, ℕ, ◌+◌, ◌-◌, ◌<◌, ◌≤◌, true, List, [], ◌∷◌, ◌++◌, map, length, take, drop, get_or, sym, ap, subst, arith}
 use Rattle.std.proofs.lemmas.List.{drop_all, take_all}
 use Rattle.syntax_tree.specs.declared.operator.Infix.{Infix}
 use Rattle.syntax_tree.specs.declared.expr.Named.{Named}
@@ -10,9 +10,9 @@ use Rattle.syntax_tree.specs.declared.expr.Expr.{Expr}
 use Rattle.core_tree.specs.declared.tree.Formula.{Formula}
 use Rattle.core_tree.specs.declared.tree.Variable.{Variable}
 use Rattle.core_tree.specs.Trees.{Claim, Term, claim_of, term_of, variable_of}
-use Rattle.resolve_said.specs.Locals.{Scope, under_names, under_decls, under_values}
+use Rattle.resolve_said.specs.Locals.{Scope, under_decls, under_values}
 use Rattle.resolve_said.specs.Operators.{Said, a_set, a_formula, Links, Lets, Takes, is_and}
-use Rattle.resolve_said.specs.Said.{Standing, Says, RowSays, first_operand, next_operand, ConjunctsSay, first_conjunct, next_conjunct, ItemsSay, no_item, next_item, StepsSay, no_step, ArgumentsSay, no_argument, next_argument, LetSays, let_body, let_value, DeclsSay, next_decl, VariablesSay, next_variable, apart_from}
+use Rattle.resolve_said.specs.Said.{Standing, Says, RowSays, first_operand, next_operand, ConjunctsSay, next_conjunct, ItemsSay, next_item, StepsSay, no_step, ArgumentsSay, no_argument, next_argument, LetSays, let_body, let_value, DeclsSay, next_decl, VariablesSay, next_variable, apart_from}
 use Rattle.resolve_said.proofs.Lists.{take_next, drop_next, take_back, take_none, take_whole, map_next, map_parts, take_length}
 use Rattle.resolve_said.proofs.Scopes.{values_behind}
 

@@ -1,6 +1,5 @@
 -- A name more in scope.
-use Rattle.std.proofs.Common.{◌≡◌, ◌∙◌, ℕ, ◌+◌, ◌<◌, ◌≤◌, List, [], ◌∷◌, ◌++◌, length, take, get_or, refl, sym, ap, subst}
-use Rattle.std.proofs.lemmas.List.{take_all}
+use Rattle.std.proofs.Common.{◌≡◌, ◌∙◌, ℕ, ◌+◌, ◌<◌, List, [], ◌∷◌, ◌++◌, length, take, get_or, refl, sym, ap, subst}
 use Rattle.syntax_tree.specs.declared.expr.Named.{Named}
 use Rattle.syntax_tree.specs.declared.expr.Decl.{Decl}
 use Rattle.syntax_tree.specs.declared.expr.Binding.{Binding}

@@ -1,5 +1,5 @@
 -- The sides of `in`.
-use Rattle.std.proofs.Common.{◌≡◌, ◌∙◌, true, false, Option, Some, None, sym, ap, ap₂, subst, Box, Global}
+use Rattle.std.proofs.Common.{◌≡◌, ◌∙◌, true, false, Some, None, sym, ap, ap₂, subst, Box, Global}
 use Rattle.syntax_tree.specs.declared.operator.Comparator.TheVariants as comparator
 use Rattle.syntax_tree.specs.declared.operator.Multiplicity.{Multiplicity as Word}
 use Rattle.core_tree.specs.declared.operators.Multiplicity.{Multiplicity}

@@ -1,5 +1,5 @@
 -- The last argument of a part.
-use Rattle.std.proofs.Common.{◌≡◌, ◌∙◌, ℕ, suc, ◌+◌, ◌-◌, ◌<◌, ◌≤◌, List, [], ◌∷◌, ◌++◌, length, map, take, get_or, refl, sym, ap, subst, arith, Vec, Box, Global}
+use Rattle.std.proofs.Common.{◌≡◌, ◌∙◌, ℕ, suc, ◌+◌, ◌-◌, ◌<◌, List, [], ◌∷◌, ◌++◌, length, map, take, get_or, refl, sym, ap, subst, arith, Vec, Box, Global}
 use Rattle.std.proofs.lemmas.List.{take_all}
 use Rattle.core_tree.specs.declared.operators.RelationOp.{RelationOp}
 use Rattle.core_tree.specs.declared.operators.RelationOp.TheVariants.{Join}

@@ -1,5 +1,5 @@
 -- Operators and words of the text in the terms of the model, and what each makes of its operands.
-use Rattle.std.specs.Prelude.{◌≡◌, ℕ, ◌+◌, ◌<◌, Bool, true, false, ◌&&◌, ◌||◌, not, IsTrue, List, [], ◌∷◌, ◌++◌, length, Option, Some, None, slice_get}
+use Rattle.std.specs.Prelude.{◌≡◌, ℕ, ◌<◌, Bool, true, false, ◌&&◌, ◌||◌, not, List, [], ◌∷◌, ◌++◌, length, Option, Some, None, slice_get}
 use Rattle.syntax_tree.specs.declared.operator.Infix.{Infix}
 use Rattle.syntax_tree.specs.declared.operator.Infix.TheVariants as infixed
 use Rattle.syntax_tree.specs.declared.operator.Prefix.{Prefix}
@@ -34,7 +34,7 @@ use Rattle.core_tree.specs.declared.operators.IntOp.TheVariants as integer
 use Rattle.core_tree.specs.declared.model.Body.{Body}
 use Rattle.core_tree.specs.declared.model.BodyForm.{BodyForm}
 use Rattle.core_tree.specs.declared.model.BodyForm.TheVariants.{Test, Term as Value}
-use Rattle.core_tree.specs.Trees.{Term, Terms, Variables, Claim, combine, product, unary, unary, count, arithmetic, choose_term, comprehension, sum_over, let_term, call_term, inside, equal, within, test, compare, negation, connect, choose_claim, for_all, counted, temporal, temporal_pair, let_claim, call_claim, term_list}
+use Rattle.core_tree.specs.Trees.{Term, Variables, Claim, combine, product, unary, unary, count, arithmetic, choose_term, comprehension, sum_over, let_term, call_term, inside, equal, within, test, compare, negation, connect, choose_claim, for_all, counted, temporal, temporal_pair, let_claim, call_claim, term_list}
 
 -- What an expression of a text says: a set; a formula; or the call of a body, by its number, that
 -- has these arguments and waits for more.

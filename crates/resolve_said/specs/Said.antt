@@ -1,8 +1,9 @@
 -- What the expressions of a text say, in the terms of the model: the name of each declaration is
 -- its number there, and each name in scope is numbered.
 --
--- Types play no part here. Where a name stands for several declarations, it says any one of them.
-use Rattle.std.specs.Prelude.{◌≡◌, ℕ, ◌+◌, Bool, true, false, if◌then◌else◌, List, [], ◌∷◌, ◌++◌, map, length, Contains, Option, Some, None, slice_get, codes, ℤ, pos, ◌-ℤ◌}
+-- Types play no part here. Where a name stands for several declarations, it says the one that it is
+-- taken to stand for.
+use Rattle.std.specs.Prelude.{◌≡◌, ℕ, ◌+◌, Bool, true, false, if◌then◌else◌, List, [], ◌∷◌, ◌++◌, length, Contains, Option, Some, None, slice_get, codes, pos, ◌-ℤ◌}
 use Rattle.std.specs.List.{list_any}
 use Rattle.std.specs.Str.{bytes_eq}
 use Rattle.base_types.specs.declared.place.Position.{Position}
@@ -20,12 +21,14 @@ use Rattle.syntax_tree.specs.declared.expr.Access.{Access}
 use Rattle.syntax_tree.specs.declared.expr.Access.TheVariants as access
 use Rattle.syntax_tree.specs.declared.expr.Expr.{Expr}
 use Rattle.syntax_tree.specs.declared.expr.Expr.TheVariants as expr
-use Rattle.syntax_tree.specs.declared.instance.SigRef.{SigRef}
 use Rattle.resolve_names.specs.declared.table.Decl.{Decl as Declared}
 use Rattle.resolve_names.specs.declared.table.Decl.TheVariants as decl
 use Rattle.resolve_names.specs.declared.table.Namespace.{Namespace}
 use Rattle.resolve_names.specs.Gathered.{number_in}
 use Rattle.resolve_names.specs.Visible.{Declaration, Sees}
+use Rattle.resolve_picks.specs.declared.target.Target.{Target}
+use Rattle.resolve_picks.specs.declared.target.Target.TheVariants as target
+use Rattle.resolve_picks.specs.Picks.{picked_in}
 use Rattle.core_tree.specs.declared.model.Sig.{Sig}
 use Rattle.core_tree.specs.declared.model.Body.{Body}
 use Rattle.core_tree.specs.declared.operators.Connective.TheVariants as connective
@@ -34,20 +37,22 @@ use Rattle.core_tree.specs.declared.operators.RelationOp.TheVariants as relation
 use Rattle.core_tree.specs.Trees.{Term, Claim, Binder, sig, field, name, univ, iden, empty, int, combine, prime, number, every, connect, temporal_pair, claim_list, variable_list}
 use Rattle.resolve_said.specs.declared.place.OwnField.{OwnField}
 use Rattle.resolve_said.specs.declared.place.Site.{Site}
-use Rattle.resolve_said.specs.Operators.{Said, a_set, a_formula, a_call, IsWhole, IsCall, Takes, Prefixes, Links, is_and, ComparesBy, Chooses, Collects, Lets, Quantifies}
-use Rattle.resolve_said.specs.Locals.{Scope, number_of, under_names, under_decls}
+use Rattle.resolve_said.specs.Operators.{Said, a_set, a_formula, IsWhole, IsCall, Takes, Prefixes, Links, is_and, ComparesBy, Chooses, Collects, Lets, Quantifies}
+use Rattle.resolve_said.specs.Locals.{Scope, number_of, under_decls}
 
 -- Where an expression stands: the names of all instances, the sigs and the bodies of the model, the
--- number of its own instance, and the fields that are joined to `this` where their name alone is written.
+-- number of its own instance, the fields that are joined to `this` where their name alone is written, and
+-- what the names at each place of the text are taken to stand for, where they aren't in scope.
 pub record Standing : Type 0 where
   pub scopes : List Namespace
   pub sigs : List Sig
   pub bodies : List Body
   pub instance : ℕ
   pub own : List OwnField
+  pub picks : Position → Option Target
 
 abbrev pub standing_of : Site → Standing
-standing_of s = record { scopes = s.names.now.scopes; sigs = s.model.now.sigs; bodies = s.model.now.bodies; instance = s.instance; own = s.own.now }
+standing_of s = record { scopes = s.names.now.scopes; sigs = s.model.now.sigs; bodies = s.model.now.bodies; instance = s.instance; own = s.own.now; picks = picked_in s.picks.now }
 
 -- ------------------------------------------------------------------ names
 
@@ -77,15 +82,24 @@ Stands at (decl.Parameter (Some r)) s = s ≡ a_set (sig (number_in at.scopes r)
 Stands at (decl.Field f) s = s ≡ a_set (field f)
 Stands at (decl.Body b) s = IsCall at.bodies b [] s
 
--- what a name says: the innermost name in scope, or a field of `this`, or a declaration that is seen
+-- what a declaration is in the model
+abbrev pub target_of : List Namespace → Declared → Target
+target_of scopes (decl.Sig r) = target.Sig (number_in scopes r)
+target_of scopes (decl.Parameter None) = target.Int
+target_of scopes (decl.Parameter (Some r)) = target.Sig (number_in scopes r)
+target_of scopes (decl.Field f) = target.Field f
+target_of scopes (decl.Body b) = target.Body b
+
+-- what a name says: the innermost name in scope, or the field of `this` or the declaration that is seen
+-- which it is taken to stand for
 pub data NameSays (at : Standing) (scope : Scope) (q : QualName) : Said → Type 0 where
   is_local : {text : List ℕ} {n : ℕ} → text_alone q ≡ Some text → number_of text scope ≡ Some n → NameSays at scope q (a_set (name n))
-  is_own : {text : List ℕ} (o : OwnField) → text_alone q ≡ Some text → number_of text scope ≡ None → Contains at.own o → o.name ≡ text → NameSays at scope q (a_set (combine relation.Join (name 0) (field o.field)))
-  is_declared : (d : Declaration) (s : Said) → IsShown at scope (text_alone q) → Sees at.scopes at.instance q d → Stands at d.1.what s → NameSays at scope q s
+  is_own : {text : List ℕ} (o : OwnField) → text_alone q ≡ Some text → number_of text scope ≡ None → Contains at.own o → o.name ≡ text → at.picks q.place ≡ Some (target.Field o.field) → NameSays at scope q (a_set (combine relation.Join (name 0) (field o.field)))
+  is_declared : (d : Declaration) (s : Said) → IsShown at scope (text_alone q) → Sees at.scopes at.instance q d → Stands at d.1.what s → at.picks q.place ≡ Some (target_of at.scopes d.1.what) → NameSays at scope q s
 
--- what a name behind `@` says: a field that is seen
+-- what a name behind `@` says: the field that is seen which it is taken to stand for
 abbrev pub FieldSays : Standing → QualName → ℕ → Type 0
-FieldSays at q f = (d : Declaration) × Sees at.scopes at.instance q d × (d.1.what ≡ decl.Field f)
+FieldSays at q f = (d : Declaration) × Sees at.scopes at.instance q d × (d.1.what ≡ decl.Field f) × (at.picks q.place ≡ Some (target.Field f))
 
 -- ------------------------------------------------------------------ constants
 

@@ -12,6 +12,7 @@ mod scope;
 mod variables;
 mod walk;
 
+pub use names::{is_target, text_alone};
 pub use place::{OwnField, Site};
 pub use said::{says_formula, says_set};
 pub use scope::Locals;

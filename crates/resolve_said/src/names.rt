@@ -6,23 +6,27 @@ ghost use Rattle.core_tree.specs.declared.operators.RelationOp.TheVariants as re
 ghost use Rattle.resolve_names.specs.declared.table.Decl.{Decl};
 ghost use Rattle.resolve_names.specs.declared.table.Decl.TheVariants as decl;
 ghost use Rattle.resolve_names.specs.Visible.{Declaration, Sees};
+ghost use Rattle.resolve_picks.specs.declared.target.Target.TheVariants as target;
+ghost use Rattle.resolve_picks.specs.Picks.{picked_in};
 ghost use Rattle.resolve_said.specs.declared.place.OwnField.{OwnField};
 ghost use Rattle.resolve_said.specs.Locals.{number_of, scope_of};
 ghost use Rattle.resolve_said.specs.Operators.{IsCall, a_call, a_formula, a_set};
 ghost use Rattle.resolve_said.specs.Parts.{said_by};
 ghost use Rattle.resolve_names.specs.Gathered.{number_in};
-ghost use Rattle.resolve_said.specs.Said.{FieldSays, NameSays, Stands, has_own, standing_of, text_alone};
+ghost use Rattle.resolve_said.specs.Said.{FieldSays, NameSays, Stands, has_own, standing_of, target_of, text_alone};
 
 use crate::part::{Part, has_value, is_tested, waits};
 use crate::place::{OwnField, Site};
 use crate::scope::{Locals, find, same_text};
+use base_types::Position;
 use core_tree::{Expr, Formula, Model, RelationOp};
 use resolve_names::{Decl, Names};
+use resolve_picks::{Picks, Target};
 use std::alloc::{AllocError, Global};
 use syntax_tree::{QualName, SigRef};
 
 /// The text of a name that has no path.
-fn text_alone(name: &QualName) -> Option<&str>
+pub fn text_alone(name: &QualName) -> Option<&str>
     ensures some { IfSome result (λ t. text_alone name.now ≡ Some t.now) }
     ensures none { IfNone result (text_alone name.now ≡ None) }
 {
@@ -165,20 +169,82 @@ fn stands(site: &Site<'_>, decl: Decl, part: &Part<'_>) -> bool
     }
 }
 
-/// Whether the part is what one of the declarations says by its name.
-fn any_stands(site: &Site<'_>, decls: &[Decl], part: &Part<'_>) -> bool
+/// Whether the target is the sig.
+fn is_sig_target(names: &Names, sig: SigRef, picked: Target) -> bool
+    ensures { result ≡ true → picked ≡ target.Sig (number_in names.now.scopes sig) }
+{
+    match picked {
+        Target::Sig(number) => number as u64 == sig_number(names, sig),
+        _ => false,
+    }
+}
+
+/// Whether the target is the integers.
+fn is_int_target(picked: Target) -> bool
+    ensures { result ≡ true → picked ≡ target.Int }
+{
+    match picked {
+        Target::Int => true,
+        _ => false,
+    }
+}
+
+/// Whether the target is the field.
+fn is_field_target(field: u32, picked: Target) -> bool
+    ensures { result ≡ true → picked ≡ target.Field field }
+{
+    match picked {
+        Target::Field(number) => number == field,
+        _ => false,
+    }
+}
+
+/// Whether the target is the body.
+fn is_body_target(body: u32, picked: Target) -> bool
+    ensures { result ≡ true → picked ≡ target.Body body }
+{
+    match picked {
+        Target::Body(number) => number == body,
+        _ => false,
+    }
+}
+
+/// Whether the target is what the declaration is in the model.
+pub fn is_target(names: &Names, decl: Decl, picked: Target) -> bool
+    ensures { result ≡ true → picked ≡ target_of names.now.scopes decl }
+{
+    match decl {
+        Decl::Sig(sig) => is_sig_target(names, sig, picked),
+        Decl::Parameter(None) => is_int_target(picked),
+        Decl::Parameter(Some(sig)) => is_sig_target(names, sig, picked),
+        Decl::Field(field) => is_field_target(field, picked),
+        Decl::Body(body) => is_body_target(body, picked),
+    }
+}
+
+/// Whether the target is the declaration, and the part is what that says by its name.
+fn is_picked(site: &Site<'_>, decl: Decl, picked: Target, part: &Part<'_>) -> bool
+    ensures { result ≡ true → Stands (standing_of site.now) decl (said_by part.now)
+        × (picked ≡ target_of site.now.names.now.scopes decl) }
+{
+    is_target(site.names, decl, picked) && stands(site, decl, part)
+}
+
+/// Whether the target is one of the declarations, and the part is what that says by its name.
+fn any_picked(site: &Site<'_>, decls: &[Decl], picked: Target, part: &Part<'_>) -> bool
     ensures { result ≡ true → (d : Decl) × Contains decls.now d
-        × Stands (standing_of site.now) d (said_by part.now) }
+        × Stands (standing_of site.now) d (said_by part.now)
+        × (picked ≡ target_of site.now.names.now.scopes d) }
 {
     for decl in decls {
-        if stands(site, *decl, part) {
+        if is_picked(site, *decl, picked, part) {
             return true;
         }
     }
     false
 }
 
-/// Whether the part is what one of the declarations says that the name stands for.
+/// Whether the part is what the declaration says that the name is taken to stand for.
 fn is_declared(
     alloc: Global,
     site: &Site<'_>,
@@ -187,13 +253,20 @@ fn is_declared(
 ) -> Result<bool, AllocError>
     ensures { IfOk result (λ b. b ≡ true → (d : Declaration)
         × Sees site.now.names.now.scopes site.now.instance name.now d
-        × Stands (standing_of site.now) d.1.what (said_by part.now)) }
+        × Stands (standing_of site.now) d.1.what (said_by part.now)
+        × (picked_in site.now.picks.now name.now.place
+        ≡ Some (target_of site.now.names.now.scopes d.1.what))) }
 {
     if site.instance as usize >= site.names.scopes.len() {
         return Ok(false);
     }
-    let found = site.names.candidates(alloc, site.instance, name)?;
-    Ok(any_stands(site, found.as_slice(), part))
+    match site.picks.picked(name.place) {
+        None => Ok(false),
+        Some(picked) => {
+            let found = site.names.candidates(alloc, site.instance, name)?;
+            Ok(any_picked(site, found.as_slice(), picked, part))
+        }
+    }
 }
 
 /// Whether one of the declarations is the field.
@@ -222,7 +295,17 @@ fn field_of(part: &Part<'_>) -> Option<u32>
     }
 }
 
-/// Whether the part is a field that the name behind `@` stands for.
+/// Whether the name at this place is taken to stand for the field.
+fn is_picked_field(picks: &Picks, place: Position, field: u32) -> bool
+    ensures { result ≡ true → picked_in picks.now place ≡ Some (target.Field field) }
+{
+    match picks.picked(place) {
+        None => false,
+        Some(picked) => is_field_target(field, picked),
+    }
+}
+
+/// Whether the part is the field that the name behind `@` is taken to stand for.
 pub fn says_field(
     alloc: Global,
     site: &Site<'_>,
@@ -238,6 +321,9 @@ pub fn says_field(
     match field_of(part) {
         None => Ok(false),
         Some(number) => {
+            if !is_picked_field(site.picks, name.place, number) {
+                return Ok(false);
+            }
             let found = site.names.candidates(alloc, site.instance, name)?;
             Ok(has_field(found.as_slice(), number))
         }
@@ -316,15 +402,18 @@ fn own_field_of(part: &Part<'_>) -> Option<u32>
     }
 }
 
-/// Whether the part is a field of that name, joined to `this`.
-fn says_own(site: &Site<'_>, text: &str, part: &Part<'_>) -> bool
+/// Whether the part is the field of that name that the name at this place is taken to stand for,
+/// joined to `this`.
+fn says_own(site: &Site<'_>, place: Position, text: &str, part: &Part<'_>) -> bool
     ensures { result ≡ true → (o : OwnField) × Contains site.now.own.now o
         × (o.name ≡ text.now)
+        × (picked_in site.now.picks.now place ≡ Some (target.Field o.field))
         × (said_by part.now ≡ a_set (combine relation.Join (name 0) (field o.field))) }
 {
     match own_field_of(part) {
         None => false,
-        Some(number) => is_own(site.own, text, number),
+        Some(number) => is_own(site.own, text, number)
+            && is_picked_field(site.picks, place, number),
     }
 }
 
@@ -343,7 +432,7 @@ fn says_outer(
 {
     let _ = locals;
     if has_own(site.own, text) {
-        return Ok(says_own(site, text, part));
+        return Ok(says_own(site, name.place, text, part));
     }
     let said = is_declared(alloc, site, name, part)?;
     Ok(said)

@@ -3,6 +3,7 @@
 use base_types::Name;
 use core_tree::Model;
 use resolve_names::Names;
+use resolve_picks::Picks;
 
 /// A field that is joined to `this` where its name alone is written.
 #[derive(Drop)]
@@ -23,4 +24,6 @@ pub struct Site<'a> {
     pub instance: u32,
     /// The fields of `this`, where there is one.
     pub own: &'a [OwnField],
+    /// What the names at each place of the text are taken to stand for, where they aren't in scope.
+    pub picks: &'a Picks,
 }

@@ -6,7 +6,8 @@ use Rattle.syntax_tree.specs.declared.expr.Expr.{Expr}
 use Rattle.syntax_tree.specs.declared.module.Parameters.{Parameters}
 use Rattle.syntax_tree.specs.declared.module.SigName.{SigName}
 use Rattle.resolve_said.specs.Locals.{Scope, under_decls}
-use Rattle.resolve_told.specs.Bodies.{Declared, as_expr, this_by, this_scope, named_by, decls_of, parameters_of, scope_in}
+use Rattle.resolve_told.specs.Parameters.{as_expr, decls_of}
+use Rattle.resolve_told.specs.Bodies.{Declared, this_by, this_scope, named_by, parameters_of, scope_in}
 
 pub parameters_are : (all : List Declared) (has_this : Bool) (tree : Option Expr) (receiver : Option SigName) (ps : Option Parameters) →
     has_this ≡ is_some receiver → tree ≡ option_map as_expr receiver → all ≡ this_by tree ++ named_by (this_scope has_this) (decls_of ps) → all ≡ parameters_of receiver ps

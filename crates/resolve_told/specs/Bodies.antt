@@ -1,13 +1,10 @@
 -- The predicates and functions of a model, as the texts declare them.
 use Rattle.std.specs.Prelude.{◌≡◌, ◌⊎◌, ℕ, ◌+◌, ◌==◌, if◌then◌else◌, slice_index, Bool, true, false, List, [], ◌∷◌, ◌++◌, codes, Option, Some, None, option_map, is_some}
-use Rattle.syntax_tree.specs.declared.operator.Constant.TheVariants as constant
 use Rattle.syntax_tree.specs.declared.operator.Multiplicity.{Multiplicity as Word}
 use Rattle.syntax_tree.specs.declared.expr.Named.{Named}
 use Rattle.syntax_tree.specs.declared.expr.Decl.{Decl}
 use Rattle.syntax_tree.specs.declared.expr.Expr.{Expr}
-use Rattle.syntax_tree.specs.declared.expr.Expr.TheVariants as expr
 use Rattle.syntax_tree.specs.declared.module.SigName.{SigName}
-use Rattle.syntax_tree.specs.declared.module.SigName.TheVariants as written
 use Rattle.syntax_tree.specs.declared.module.Parameters.{Parameters}
 use Rattle.syntax_tree.specs.declared.module.Pred.{Pred}
 use Rattle.syntax_tree.specs.declared.module.Fun.{Fun}
@@ -32,7 +29,11 @@ use Rattle.resolve_said.specs.Locals.{Scope, under_names, under_decls}
 use Rattle.resolve_said.specs.Operators.{word_of}
 use Rattle.resolve_said.specs.Said.{Standing, SaysSet, SaysFormula, apart_from}
 use Rattle.resolve_told.specs.Lists.{OneByOne}
-use Rattle.resolve_told.specs.Says.{outside}
+use Rattle.resolve_read.specs.declared.types.Readings.{Readings}
+use Rattle.resolve_told_sigs.specs.Integers.{integers_of}
+use Rattle.resolve_told_sigs.specs.Says.{outside}
+use Rattle.resolve_told.specs.Parameters.{as_expr, decls_of}
+use Rattle.resolve_told.specs.Reads.{PredicateReads, FunctionReads}
 
 -- a predicate or a function, with the number of its instance
 abbrev pub Declaration : Type 0
@@ -73,11 +74,6 @@ abbrev pub named_by : Scope → List (Decl Expr) → List Declared
 named_by scope [] = []
 named_by scope (d ∷ ds) = named_from scope d 0 d.names ++ named_by (under_names scope d.names) ds
 
--- the name of a sig as an expression
-abbrev pub as_expr : SigName → Expr
-as_expr (written.Int place) = expr.Constant place constant.Int
-as_expr (written.Name q) = expr.Name q
-
 -- where something stands before the dot, `this` is in scope, and its bound is what stands there
 abbrev pub this_scope : Bool → Scope
 this_scope false = []
@@ -86,10 +82,6 @@ this_scope true = codes "this" ∷ []
 abbrev pub this_by : Option Expr → List Declared
 this_by None = []
 this_by (Some e) = record { name = codes "this"; apart = 0; scope = []; word = None; bound = e } ∷ []
-
-abbrev pub decls_of : Option Parameters → List (Decl Expr)
-decls_of None = []
-decls_of (Some ps) = ps.decls
 
 -- the parameters of a predicate or function: `this`, where something stands before the dot, and those in brackets
 abbrev pub parameters_of : Option SigName → Option Parameters → List Declared
@@ -144,13 +136,15 @@ module _ (at : Standing) where
     pub said : SaysSet at (scope_in f.receiver f.parameters) f.value (term_of value)
     pub bound : IsBound (scope_in f.receiver f.parameters) f.result.word f.result.tree result
 
--- the body of a predicate or function
-abbrev pub IsBody : List Namespace → Model → Declaration → Body → Type 0
-IsBody scopes model (k, paragraph.Pred p) b = IsPredicate (outside scopes model k) model p b
-IsBody scopes model (k, paragraph.Fun f) b = IsFunction (outside scopes model k) model f b
-IsBody scopes model (k, _) b = ⊥
+module _ (scopes : List Namespace) (model : Model) (readings : Readings) (integers : Option ℕ) where
+  -- the body of number n is that of a predicate or function, whose readings are right
+  abbrev pub IsBody : ℕ → Declaration → Body → Type 0
+  IsBody n (k, paragraph.Pred p) b = IsPredicate (outside scopes model readings k) model p b × PredicateReads scopes readings integers k n p
+  IsBody n (k, paragraph.Fun f) b = IsFunction (outside scopes model readings k) model f b × FunctionReads scopes readings integers k n f
+  IsBody n (k, _) b = ⊥
 
 -- The bodies of the model are just those of the predicates and functions that the texts of all instances declare, one by one in
 -- their order. Of their ranks nothing is said.
-abbrev pub AreBodiesTold : List Text → List Instance → List Namespace → Model → Type 0
-AreBodiesTold texts instances scopes model = OneByOne (λ n d b. IsBody scopes model d b) (bodies_from texts 0 instances) model.bodies
+abbrev pub AreBodiesTold : List Text → List Instance → List Namespace → Model → Readings → Type 0
+AreBodiesTold texts instances scopes model readings =
+    OneByOne (IsBody scopes model readings (integers_of texts instances)) (bodies_from texts 0 instances) model.bodies

@@ -34,9 +34,10 @@ use Rattle.resolve_names.specs.declared.table.Namespace.{Namespace}
 use Rattle.resolve_names.specs.Visible.{Declaration as Seen, Sees, Leads, path_of, last_of}
 use Rattle.resolve_types.specs.declared.member.Member.TheVariants as member
 use Rattle.resolve_hierarchy.specs.Rules.{Names, paragraphs_in}
-use Rattle.resolve_said.specs.Said.{Standing, SaysSet, SaysFormula}
+use Rattle.resolve_said.specs.Said.{Standing, SaysSet}
 use Rattle.resolve_told.specs.Lists.{OneByOne}
-use Rattle.resolve_told.specs.Says.{outside}
+use Rattle.resolve_read.specs.declared.types.Readings.{Readings}
+use Rattle.resolve_told_sigs.specs.Says.{outside, SaysAlone}
 use Rattle.resolve_told.specs.Bodies.{Declared, bodies_from, parameters_of}
 
 -- the commands among paragraphs, in their order
@@ -182,13 +183,13 @@ module _ (texts : List Text) (instances : List Instance) where
     pub there : slice_get instances k ≡ Some instance
     pub declared : Declares (paragraphs_in texts instance) text a
 
-  module _ (scopes : List Namespace) (model : Model) where
+  module _ (scopes : List Namespace) (model : Model) (readings : Readings) where
     -- body b is a predicate, and it is run
     pub record RunsBody (b : ℕ) (c : Claim) : Type 0 where
       pub instance : ℕ
       pub predicate : Pred
       pub declared : slice_get (bodies_from texts 0 instances) b ≡ Some (instance, paragraph.Pred predicate)
-      pub runs : RunsWith (outside scopes model instance) b (parameters_of predicate.receiver predicate.parameters) c
+      pub runs : RunsWith (outside scopes model readings instance) b (parameters_of predicate.receiver predicate.parameters) c
 
     -- the name stands for an assertion, and this says what its block does
     pub record Asserts (q : QualName) (c : Claim) : Type 0 where
@@ -196,7 +197,7 @@ module _ (texts : List Text) (instances : List Instance) where
       pub assertion : Block
       pub led : Leads scopes 0 q.is_own (path_of q.parts) instance
       pub declared : IsAssertion instance (last_of q.parts) assertion
-      pub said : SaysFormula (outside scopes model instance) [] assertion.block c
+      pub said : SaysAlone scopes model readings instance assertion.block c
 
     -- `run` and `check` with a name: a predicate, whose number stands beside it, holds for some values of its parameters; an
     -- assertion does not hold
@@ -206,8 +207,8 @@ module _ (texts : List Text) (instances : List Instance) where
 
     -- the same with a block, which holds or does not hold
     abbrev pub BlockAsks : Bool → Expr → Claim → Type 0
-    BlockAsks false e c = SaysFormula (outside scopes model 0) [] e c
-    BlockAsks true e c = Denies (SaysFormula (outside scopes model 0) [] e) c
+    BlockAsks false e c = SaysAlone scopes model readings 0 e c
+    BlockAsks true e c = Denies (SaysAlone scopes model readings 0 e) c
 
     abbrev pub AsksBlock : Bool → Expr → Option ℕ → Claim → Type 0
     AsksBlock is_check e body c = (body ≡ None) × BlockAsks is_check e c

@@ -1,5 +1,7 @@
 pub mod Lists
-pub mod Says
+pub mod Parameters
+pub mod Reads
+pub mod Spots
 pub mod Bodies
 pub mod Commands
 pub mod Views

@@ -1,6 +1,6 @@
 //! What a command asks is compared with what its text says.
 
-ghost use Rattle.std.specs.Prelude.{◌≡◌, ◌<◌, true, false, [], map, length, nat_eq, IfOk, IfSome, IsTrue, Contains};
+ghost use Rattle.std.specs.Prelude.{◌≡◌, ◌<◌, true, false, map, length, nat_eq, IfOk, IfSome, IsTrue, Contains};
 ghost use Rattle.core_tree.specs.declared.operators.Quantity.TheVariants as quantities;
 ghost use Rattle.core_tree.specs.Trees as trees;
 ghost use Rattle.core_tree.specs.Trees.{claim_of, term_of, variable_of};
@@ -8,23 +8,27 @@ ghost use Rattle.resolve_names.specs.declared.table.Decl.TheVariants as named;
 ghost use Rattle.resolve_names.specs.Marks.{IsMarked};
 ghost use Rattle.resolve_names.specs.Visible.{last_of, path_of, Leads};
 ghost use Rattle.syntax_tree.specs.declared.module.Paragraph.TheVariants as written;
-ghost use Rattle.resolve_said.specs.Said.{standing_of, SaysFormula};
+ghost use Rattle.resolve_said.specs.Said.{standing_of};
 ghost use Rattle.resolve_told.specs.Bodies.{parameters_of};
 ghost use Rattle.resolve_told.specs.Commands.{IsOwnCall, IsVariable, RunsSome, RunsWith, RunsBody, HasName, IsCalled, Declares, IsAssertion, Asserts, Denies, AsksName, BlockAsks, AsksBlock, Asks, IsSeenBody};
 ghost use Rattle.resolve_told.specs.Lists.{OneByOne};
-ghost use Rattle.resolve_told.specs.Says as says;
+ghost use Rattle.resolve_told_sigs.specs.Says as says;
+ghost use Rattle.resolve_told_sigs.specs.Says.{SaysAlone};
 ghost use Rattle.resolve_told.specs.CommandViews.{HasBodies};
 ghost use Rattle.resolve_told.specs.Views.{declared};
 
-use crate::inside::{is_formula_said, is_set_said, outside};
-use crate::parameters::{Declared, all_parameters, has_receiver, receiver_tree};
+use crate::inside::{is_set_said, outside};
+use crate::parameters::{Declared, all_parameters, has_receiver};
+use crate::receiver::receiver_tree;
 use crate::scopes::decl_at;
 use crate::texts::{Declaration, paragraphs_of};
 use crate::words::{same_number, same_text};
 use base_types::Name;
 use core_tree::{Expr, Formula, Model, Quantity, Variable};
 use resolve_names::{Decl, Names};
+use resolve_read::Readings;
 use resolve_said::Site;
+use resolve_told_sigs::says_alone;
 use std::alloc::{AllocError, Global};
 use syntax_tree::{Claim, Expr as Tree, Loaded, Paragraph, Pred, QualName, Subject};
 
@@ -34,6 +38,8 @@ pub struct Sources<'a> {
     pub loaded: &'a Loaded,
     pub names: &'a Names,
     pub model: &'a Model,
+    /// What is told of the readings.
+    pub readings: &'a Readings,
     /// The predicates and functions that the texts declare.
     pub bodies: &'a [Declaration<'a>],
 }
@@ -321,6 +327,30 @@ fn predicate_of<'a>(paragraph: &'a Paragraph) -> Option<&'a Pred>
     }
 }
 
+/// Whether a formula says that this predicate of an instance, which is the body of this number, holds for some values of its
+/// parameters.
+fn runs_declared(
+    alloc: Global,
+    sources: &Sources<'_>,
+    instance: u32,
+    body: u32,
+    predicate: &Pred,
+    formula: &Formula,
+) -> Result<bool, AllocError>
+    ensures { IfOk result (λ b. IsTrue b → RunsWith (says.outside sources.now.names.now.scopes
+        sources.now.model.now sources.now.readings.now instance) body
+        (parameters_of predicate.now.receiver predicate.now.parameters)
+        (claim_of formula.now)) }
+{
+    match outside(sources.names, sources.model, sources.readings, instance) {
+        None => Ok(false),
+        Some(site) => {
+            let is_right = runs_predicate(alloc, &site, body, predicate, formula)?;
+            Ok(is_right)
+        }
+    }
+}
+
 /// Whether a formula runs the predicate that is the body of this number.
 fn runs_body(
     alloc: Global,
@@ -330,8 +360,8 @@ fn runs_body(
 ) -> Result<bool, AllocError>
     requires { HasBodies sources.now }
     ensures { IfOk result (λ b. IsTrue b → RunsBody sources.now.loaded.now.texts
-        sources.now.loaded.now.instances sources.now.names.now.scopes sources.now.model.now body
-        (claim_of formula.now)) }
+        sources.now.loaded.now.instances sources.now.names.now.scopes sources.now.model.now
+        sources.now.readings.now body (claim_of formula.now)) }
 {
     let place = body as usize;
     if place >= sources.bodies.len() {
@@ -341,8 +371,8 @@ fn runs_body(
     match predicate_of(one.paragraph) {
         None => Ok(false),
         Some(predicate) => {
-            let site = outside(sources.names, sources.model, one.instance);
-            let is_right = runs_predicate(alloc, &site, body, predicate, formula)?;
+            let instance = one.instance;
+            let is_right = runs_declared(alloc, sources, instance, body, predicate, formula)?;
             Ok(is_right)
         }
     }
@@ -360,8 +390,8 @@ fn runs_named(
     ensures named { IfOk result (λ b. IsTrue b → IsSeenBody sources.now.names.now.scopes name.now
         body) }
     ensures runs { IfOk result (λ b. IsTrue b → RunsBody sources.now.loaded.now.texts
-        sources.now.loaded.now.instances sources.now.names.now.scopes sources.now.model.now body
-        (claim_of formula.now)) }
+        sources.now.loaded.now.instances sources.now.names.now.scopes sources.now.model.now
+        sources.now.readings.now body (claim_of formula.now)) }
 {
     let is_named = names_body(alloc, sources.names, name, body)?;
     if !is_named {
@@ -381,8 +411,8 @@ fn runs(
 ) -> Result<bool, AllocError>
     requires { HasBodies sources.now }
     ensures { IfOk result (λ b. IsTrue b → AsksName sources.now.loaded.now.texts
-        sources.now.loaded.now.instances sources.now.names.now.scopes sources.now.model.now false
-        name.now body (claim_of formula.now)) }
+        sources.now.loaded.now.instances sources.now.names.now.scopes sources.now.model.now
+        sources.now.readings.now false name.now body (claim_of formula.now)) }
 {
     match body {
         None => Ok(false),
@@ -541,7 +571,7 @@ fn asserts(
 ) -> Result<bool, AllocError>
     ensures { IfOk result (λ b. IsTrue b → Asserts sources.now.loaded.now.texts
         sources.now.loaded.now.instances sources.now.names.now.scopes sources.now.model.now
-        name.now (claim_of formula.now)) }
+        sources.now.readings.now name.now (claim_of formula.now)) }
 {
     let found = named_assertion(alloc, sources.loaded, sources.names, name)?;
     match found {
@@ -562,11 +592,19 @@ fn says_block(
     block: &Tree,
     formula: &Formula,
 ) -> Result<bool, AllocError>
-    ensures { IfOk result (λ b. IsTrue b → SaysFormula (says.outside sources.now.names.now.scopes
-        sources.now.model.now instance) [] block.now (claim_of formula.now)) }
+    ensures { IfOk result (λ b. IsTrue b → SaysAlone sources.now.names.now.scopes
+        sources.now.model.now sources.now.readings.now instance block.now (claim_of formula.now)) }
 {
-    let site = outside(sources.names, sources.model, instance);
-    let is_said = is_formula_said(alloc, &site, false, &[], block, formula)?;
+    let (names, model) = (sources.names, sources.model);
+    let is_said = says_alone(
+        alloc,
+        names,
+        model,
+        sources.readings,
+        instance,
+        block,
+        formula,
+    )?;
     Ok(is_said)
 }
 
@@ -589,7 +627,7 @@ fn checks(
 ) -> Result<bool, AllocError>
     ensures { IfOk result (λ b. IsTrue b → Denies (Asserts sources.now.loaded.now.texts
         sources.now.loaded.now.instances sources.now.names.now.scopes sources.now.model.now
-        name.now) (claim_of formula.now)) }
+        sources.now.readings.now name.now) (claim_of formula.now)) }
 {
     match denied_by(formula) {
         None => Ok(false),
@@ -607,9 +645,8 @@ fn denies_block(
     block: &Tree,
     formula: &Formula,
 ) -> Result<bool, AllocError>
-    ensures { IfOk result (λ b. IsTrue b → Denies (SaysFormula (says.outside
-        sources.now.names.now.scopes sources.now.model.now 0) [] block.now) (claim_of
-        formula.now)) }
+    ensures { IfOk result (λ b. IsTrue b → Denies (SaysAlone sources.now.names.now.scopes
+        sources.now.model.now sources.now.readings.now 0 block.now) (claim_of formula.now)) }
 {
     match denied_by(formula) {
         None => Ok(false),
@@ -629,8 +666,8 @@ fn checks_alone(
     formula: &Formula,
 ) -> Result<bool, AllocError>
     ensures { IfOk result (λ b. IsTrue b → AsksName sources.now.loaded.now.texts
-        sources.now.loaded.now.instances sources.now.names.now.scopes sources.now.model.now true
-        name.now body (claim_of formula.now)) }
+        sources.now.loaded.now.instances sources.now.names.now.scopes sources.now.model.now
+        sources.now.readings.now true name.now body (claim_of formula.now)) }
 {
     match body {
         Some(_) => Ok(false),
@@ -653,7 +690,7 @@ fn asks_name(
     requires { HasBodies sources.now }
     ensures { IfOk result (λ b. IsTrue b → AsksName sources.now.loaded.now.texts
         sources.now.loaded.now.instances sources.now.names.now.scopes sources.now.model.now
-        is_check name.now body (claim_of formula.now)) }
+        sources.now.readings.now is_check name.now body (claim_of formula.now)) }
 {
     if is_check {
         let is_right = checks_alone(alloc, sources, name, body, formula)?;
@@ -673,7 +710,7 @@ fn block_asks(
 ) -> Result<bool, AllocError>
     ensures { IfOk result (λ b. IsTrue b → BlockAsks sources.now.loaded.now.texts
         sources.now.loaded.now.instances sources.now.names.now.scopes sources.now.model.now
-        is_check block.now (claim_of formula.now)) }
+        sources.now.readings.now is_check block.now (claim_of formula.now)) }
 {
     if is_check {
         let is_right = denies_block(alloc, sources, block, formula)?;
@@ -694,7 +731,7 @@ fn asks_block(
 ) -> Result<bool, AllocError>
     ensures { IfOk result (λ b. IsTrue b → AsksBlock sources.now.loaded.now.texts
         sources.now.loaded.now.instances sources.now.names.now.scopes sources.now.model.now
-        is_check block.now body (claim_of formula.now)) }
+        sources.now.readings.now is_check block.now body (claim_of formula.now)) }
 {
     match body {
         Some(_) => Ok(false),
@@ -717,7 +754,7 @@ pub fn asks(
     requires { HasBodies sources.now }
     ensures { IfOk result (λ b. IsTrue b → Asks sources.now.loaded.now.texts
         sources.now.loaded.now.instances sources.now.names.now.scopes sources.now.model.now
-        is_check subject.now body (claim_of formula.now)) }
+        sources.now.readings.now is_check subject.now body (claim_of formula.now)) }
 {
     match subject {
         Subject::Name(name) => {

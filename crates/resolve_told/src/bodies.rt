@@ -8,20 +8,36 @@ ghost use Rattle.resolve_said.specs.Locals.{under_decls};
 ghost use Rattle.resolve_said.specs.Said.{standing_of, SaysSet, SaysFormula};
 ghost use Rattle.resolve_told.specs.Bodies.{this_scope, scope_in, parameters_of, IsBound, IsParameter, AreParameters, IsPredicate, IsFunction, IsBody, AreBodiesTold};
 ghost use Rattle.resolve_told.specs.Lists.{OneByOne};
+ghost use Rattle.resolve_told.specs.Reads.{PredicateReads, FunctionReads};
 ghost use Rattle.resolve_told.specs.Views.{declaration, declared};
+ghost use Rattle.resolve_told_sigs.specs.Says as says;
 
 use crate::inside::{is_formula_said, is_set_said, outside};
-use crate::parameters::{Declared, all_parameters, decls_of, has_receiver, receiver_tree};
+use crate::parameters::{Declared, all_parameters, has_receiver};
+use crate::reads::{is_function_read, is_predicate_read};
+use crate::receiver::{decls_of, receiver_tree};
 use crate::texts::{Declaration, all_bodies};
 use crate::words::{has_word, is_bound_word, same_number, same_text};
 use core_tree::{Body, BodyForm, Bound, Expr, Formula, Model, Parameter};
 use resolve_check::parameter_columns;
 use resolve_names::Names;
+use resolve_read::Readings;
 use resolve_said::Site;
+use resolve_told_sigs::integers_of;
 use std::alloc::{AllocError, Global};
 use syntax_tree::{
     Decl, Expr as Tree, Fun, Loaded, Multiplicity as Word, Paragraph, Parameters, Pred, SigName,
 };
+
+/// What bodies are compared with.
+#[derive(Clone, Copy, Drop)]
+struct Told<'a> {
+    names: &'a Names,
+    model: &'a Model,
+    readings: &'a Readings,
+    /// The instance of the integers that are opened implicitly.
+    integers: Option<u32>,
+}
 
 /// Whether a bound says what its text says, where these names are in scope.
 fn is_bound(
@@ -296,69 +312,151 @@ fn is_function(
     }
 }
 
-/// Whether a body is that of a paragraph of an instance.
-fn is_paragraph(
+/// Whether a body is that of a predicate of an instance.
+fn is_predicate_said(
     alloc: Global,
-    names: &Names,
-    model: &Model,
+    told: &Told<'_>,
     instance: u32,
-    paragraph: &Paragraph,
+    predicate: &Pred,
     body: &Body,
 ) -> Result<bool, AllocError>
     requires { body.now.instance ≡ instance }
-    ensures { IfOk result (λ b. IsTrue b → IsBody names.now.scopes model.now
-        (instance, paragraph.now) body.now) }
+    ensures { IfOk result (λ b. IsTrue b → IsPredicate (says.outside told.now.names.now.scopes
+        told.now.model.now told.now.readings.now instance) told.now.model.now predicate.now
+        body.now) }
 {
-    let site = outside(names, model, instance);
-    match paragraph {
+    match outside(told.names, told.model, told.readings, instance) {
+        None => Ok(false),
+        Some(site) => {
+            let is_said = is_predicate(alloc, &site, predicate, body)?;
+            Ok(is_said)
+        }
+    }
+}
+
+/// Whether the body of this number is that of a predicate of an instance, whose readings are right.
+fn is_predicate_of(
+    alloc: Global,
+    told: &Told<'_>,
+    instance: u32,
+    number: u32,
+    predicate: &Pred,
+    body: &Body,
+) -> Result<bool, AllocError>
+    requires { body.now.instance ≡ instance }
+    ensures said { IfOk result (λ b. IsTrue b → IsPredicate (says.outside told.now.names.now.scopes
+        told.now.model.now told.now.readings.now instance) told.now.model.now predicate.now
+        body.now) }
+    ensures read { IfOk result (λ b. IsTrue b → PredicateReads told.now.names.now.scopes
+        told.now.readings.now told.now.integers instance number predicate.now) }
+{
+    let is_said = is_predicate_said(alloc, told, instance, predicate, body)?;
+    if !is_said {
+        return Ok(false);
+    }
+    let (names, readings, integers) = (told.names, told.readings, told.integers);
+    let is_read = is_predicate_read(
+        alloc, names, readings, integers, instance, number, predicate,
+    )?;
+    Ok(is_read)
+}
+
+/// Whether a body is that of a function of an instance.
+fn is_function_said(
+    alloc: Global,
+    told: &Told<'_>,
+    instance: u32,
+    function: &Fun,
+    body: &Body,
+) -> Result<bool, AllocError>
+    requires { body.now.instance ≡ instance }
+    ensures { IfOk result (λ b. IsTrue b → IsFunction (says.outside told.now.names.now.scopes
+        told.now.model.now told.now.readings.now instance) told.now.model.now function.now
+        body.now) }
+{
+    match outside(told.names, told.model, told.readings, instance) {
+        None => Ok(false),
+        Some(site) => {
+            let is_said = is_function(alloc, &site, function, body)?;
+            Ok(is_said)
+        }
+    }
+}
+
+/// Whether the body of this number is that of a function of an instance, whose readings are right.
+fn is_function_of(
+    alloc: Global,
+    told: &Told<'_>,
+    instance: u32,
+    number: u32,
+    function: &Fun,
+    body: &Body,
+) -> Result<bool, AllocError>
+    requires { body.now.instance ≡ instance }
+    ensures said { IfOk result (λ b. IsTrue b → IsFunction (says.outside told.now.names.now.scopes
+        told.now.model.now told.now.readings.now instance) told.now.model.now function.now
+        body.now) }
+    ensures read { IfOk result (λ b. IsTrue b → FunctionReads told.now.names.now.scopes
+        told.now.readings.now told.now.integers instance number function.now) }
+{
+    let is_said = is_function_said(alloc, told, instance, function, body)?;
+    if !is_said {
+        return Ok(false);
+    }
+    let (names, readings, integers) = (told.names, told.readings, told.integers);
+    let is_read = is_function_read(alloc, names, readings, integers, instance, number, function)?;
+    Ok(is_read)
+}
+
+/// Whether the body of this number is that of a predicate or a function, whose readings are right.
+fn is_body(
+    alloc: Global,
+    told: &Told<'_>,
+    number: u32,
+    written: &Declaration<'_>,
+    body: &Body,
+) -> Result<bool, AllocError>
+    ensures { IfOk result (λ b. IsTrue b → IsBody told.now.names.now.scopes told.now.model.now
+        told.now.readings.now told.now.integers number (declaration written.now) body.now) }
+{
+    if !same_number(body.instance, written.instance) {
+        return Ok(false);
+    }
+    let instance = written.instance;
+    match written.paragraph {
         Paragraph::Pred(predicate) => {
-            let is_right = is_predicate(alloc, &site, predicate, body)?;
+            let is_right = is_predicate_of(alloc, told, instance, number, predicate, body)?;
             Ok(is_right)
         }
         Paragraph::Fun(function) => {
-            let is_right = is_function(alloc, &site, function, body)?;
+            let is_right = is_function_of(alloc, told, instance, number, function, body)?;
             Ok(is_right)
         }
         _ => Ok(false),
     }
 }
 
-/// Whether a body is that of a predicate or a function.
-fn is_body(
-    alloc: Global,
-    names: &Names,
-    model: &Model,
-    written: &Declaration<'_>,
-    body: &Body,
-) -> Result<bool, AllocError>
-    ensures { IfOk result (λ b. IsTrue b → IsBody names.now.scopes model.now
-        (declaration written.now) body.now) }
-{
-    if !same_number(body.instance, written.instance) {
-        return Ok(false);
-    }
-    let instance = written.instance;
-    let is_right = is_paragraph(alloc, names, model, instance, written.paragraph, body)?;
-    Ok(is_right)
-}
-
 /// Whether bodies are those of these predicates and functions, one by one.
 #[tactic(auto, using(crate::proofs::Walk::pair_all))]
 fn are_bodies(
     alloc: Global,
-    names: &Names,
-    model: &Model,
+    told: &Told<'_>,
     all: &[Declaration<'_>],
     bodies: &[Body],
 ) -> Result<bool, AllocError>
-    ensures { IfOk result (λ b. IsTrue b → OneByOne (λ n d c. IsBody names.now.scopes model.now d c)
-        (map declaration all.now) bodies.now) }
+    ensures { IfOk result (λ b. IsTrue b → OneByOne (IsBody told.now.names.now.scopes
+        told.now.model.now told.now.readings.now told.now.integers) (map declaration all.now)
+        bodies.now) }
 {
     if all.len() != bodies.len() {
         return Ok(false);
     }
+    if all.len() > u32::MAX as usize {
+        // There are few bodies.
+        return Err(AllocError);
+    }
     for place in 0..all.len() {
-        let is_right = is_body(alloc, names, model, &all[place], &bodies[place])?;
+        let is_right = is_body(alloc, told, place as u32, &all[place], &bodies[place])?;
         if !is_right {
             return Ok(false);
         }
@@ -367,18 +465,26 @@ fn are_bodies(
 }
 
 /// Whether the bodies of a model are just those of the predicates and functions that the texts declare, one by one in their
-/// order: with their parameters, and formulas and expressions that say what the texts say. Of their ranks nothing is asked.
+/// order: with their parameters, and formulas and expressions that say what the texts say, by the readings of their roots. Of
+/// their ranks nothing is asked.
 pub fn are_bodies_told(
     alloc: Global,
     loaded: &Loaded,
     names: &Names,
     model: &Model,
+    readings: &Readings,
 ) -> Result<bool, AllocError>
     ensures { IfOk result (λ b. IsTrue b → AreBodiesTold loaded.now.texts loaded.now.instances
-        names.now.scopes model.now) }
+        names.now.scopes model.now readings.now) }
 {
     let all = all_bodies(alloc, loaded)?;
     let bodies = model.bodies.as_slice();
-    let are_right = are_bodies(alloc, names, model, all.as_slice(), bodies)?;
+    let told = Told {
+        names,
+        model,
+        readings,
+        integers: integers_of(loaded),
+    };
+    let are_right = are_bodies(alloc, &told, all.as_slice(), bodies)?;
     Ok(are_right)
 }

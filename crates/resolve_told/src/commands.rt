@@ -11,6 +11,7 @@ use crate::scopes::is_scope;
 use crate::texts::{all_bodies, all_commands};
 use core_tree::{Command, CommandKind, Model};
 use resolve_names::Names;
+use resolve_read::Readings;
 use std::alloc::{AllocError, Global};
 use syntax_tree::{Command as Written, Loaded};
 
@@ -61,7 +62,7 @@ fn is_command(
     requires { HasBodies sources.now }
     ensures { IfOk result (λ b. IsTrue b → IsCommand sources.now.loaded.now.texts
         sources.now.loaded.now.instances sources.now.names.now.scopes sources.now.model.now
-        written.now command.now) }
+        sources.now.readings.now written.now command.now) }
 {
     let is_there = is_placed(alloc, written, command)?;
     if !is_there {
@@ -95,7 +96,8 @@ fn are_commands(
     requires { HasBodies sources.now }
     ensures { IfOk result (λ b. IsTrue b → OneByOne (λ n w c. IsCommand
         sources.now.loaded.now.texts sources.now.loaded.now.instances sources.now.names.now.scopes
-        sources.now.model.now w c) (map command_of written.now) commands.now) }
+        sources.now.model.now sources.now.readings.now w c) (map command_of written.now)
+        commands.now) }
 {
     if written.len() != commands.len() {
         return Ok(false);
@@ -116,15 +118,17 @@ pub fn are_commands_told(
     loaded: &Loaded,
     names: &Names,
     model: &Model,
+    readings: &Readings,
 ) -> Result<bool, AllocError>
     ensures { IfOk result (λ b. IsTrue b → AreCommandsTold loaded.now.texts loaded.now.instances
-        names.now.scopes model.now) }
+        names.now.scopes model.now readings.now) }
 {
     let bodies = all_bodies(alloc, loaded)?;
     let sources = Sources {
         loaded,
         names,
         model,
+        readings,
         bodies: bodies.as_slice(),
     };
     let written = all_commands(alloc, loaded)?;

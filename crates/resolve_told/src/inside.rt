@@ -1,29 +1,41 @@
 //! What stands in the text of an instance outside of all sigs, where parameters are in scope.
 
-ghost use Rattle.std.specs.Prelude.{◌≡◌, IfOk, IsTrue};
+ghost use Rattle.std.specs.Prelude.{◌≡◌, IfOk, IfSome, IsTrue};
 ghost use Rattle.core_tree.specs.Trees.{claim_of, term_of};
 ghost use Rattle.resolve_said.specs.Locals.{under_decls};
 ghost use Rattle.resolve_said.specs.Said.{standing_of, SaysSet, SaysFormula};
 ghost use Rattle.resolve_told.specs.Bodies.{this_scope};
-ghost use Rattle.resolve_told.specs.Says as says;
+ghost use Rattle.resolve_told_sigs.specs.Says as says;
 
 use core_tree::{Expr, Formula, Model};
 use resolve_names::Names;
+use resolve_read::Readings;
 use resolve_said::{Locals, Site, says_formula, says_set};
+use resolve_told_sigs::picks_of;
 use std::alloc::{AllocError, Global};
 use syntax_tree::{Decl, Expr as Tree};
 
-/// The text of an instance, outside of all sigs.
-pub fn outside<'a>(names: &'a Names, model: &'a Model, instance: u32) -> Site<'a>
-    ensures standing { standing_of result ≡ says.outside names.now.scopes model.now instance }
-    ensures instance { result.instance ≡ instance }
-    ensures model { result.model.now ≡ model.now }
+/// The text of an instance, outside of all sigs; none where nothing is told of its names.
+pub fn outside<'a>(
+    names: &'a Names,
+    model: &'a Model,
+    readings: &'a Readings,
+    instance: u32,
+) -> Option<Site<'a>>
+    ensures standing { IfSome result (λ s. standing_of s
+        ≡ says.outside names.now.scopes model.now readings.now instance) }
+    ensures instance { IfSome result (λ s. s.instance ≡ instance) }
+    ensures model { IfSome result (λ s. s.model.now ≡ model.now) }
 {
-    Site {
-        names,
-        model,
-        instance,
-        own: &[],
+    match picks_of(readings, instance) {
+        None => None,
+        Some(picks) => Some(Site {
+            names,
+            model,
+            instance,
+            own: &[],
+            picks,
+        }),
     }
 }
 

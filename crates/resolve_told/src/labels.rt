@@ -1,6 +1,6 @@
 //! What a command is called.
 
-ghost use Rattle.std.specs.Prelude.{◌≡◌, ◌++◌, map, option_map, flat_map, IfOk, OnOk, IsTrue, string_bytes};
+ghost use Rattle.std.specs.Prelude.{◌≡◌, ◌++◌, option_map, flat_map, IfOk, OnOk, IsTrue, string_bytes};
 ghost use Rattle.resolve_told.specs.Commands.{subject_name, place_of_name, own_path, parts_spelled, spelled, label_or, with_slash};
 ghost use Rattle.resolve_told.specs.CommandViews.{seen_name};
 

@@ -1,18 +1,15 @@
 //! The parameters of a predicate or a function, as they are declared.
 
-ghost use Rattle.std.specs.Prelude.{◌≡◌, ◌++◌, [], ◌∷◌, map, option_map, is_some, IfOk, OnOk};
-ghost use Rattle.syntax_tree.specs.declared.expr.Expr.TheVariants as trees;
+ghost use Rattle.std.specs.Prelude.{◌≡◌, ◌++◌, [], ◌∷◌, map, is_some, IfOk, OnOk};
 ghost use Rattle.resolve_said.specs.Locals.{under_decls};
 ghost use Rattle.resolve_said.specs.Said.{apart_from};
-ghost use Rattle.resolve_told.specs.Bodies.{as_expr, named_by, named_from, decls_of, this_by, this_scope};
+ghost use Rattle.resolve_told.specs.Bodies.{named_by, named_from, this_by, this_scope};
+ghost use Rattle.resolve_told.specs.Parameters.{decls_of};
 ghost use Rattle.resolve_told.specs.Views.{declared};
 
-use base_lists::Items;
-use base_types::Name;
+use crate::receiver::decls_of;
 use std::alloc::{AllocError, Global};
-use syntax_tree::{
-    Constant, Decl, Expr as Tree, Multiplicity as Word, Named, Parameters, QualName, SigName,
-};
+use syntax_tree::{Decl, Expr as Tree, Multiplicity as Word, Named, Parameters, SigName};
 
 /// A parameter as it is declared.
 #[derive(Clone, Copy, Drop)]
@@ -26,55 +23,6 @@ pub struct Declared<'a> {
     pub before: &'a [Decl<Tree>],
     pub word: Option<Word>,
     pub bound: &'a Tree,
-}
-
-fn copied_parts(alloc: Global, parts: &[Name]) -> Result<Items<Name>, AllocError>
-    ensures { IfOk result (λ all. all ≡ parts.now) }
-{
-    let mut all = Items::new(alloc);
-    for part in parts {
-        let copy = Name::copy(alloc, part.text())?;
-        all.push(copy)?;
-    }
-    Ok(all)
-}
-
-/// A name as an expression.
-fn name_tree(alloc: Global, name: &QualName) -> Result<Tree, AllocError>
-    ensures { IfOk result (λ t. t ≡ trees.Name name.now) }
-{
-    let parts = copied_parts(alloc, name.parts.as_slice())?;
-    Ok(Tree::Name(QualName {
-        place: name.place,
-        is_own: name.is_own,
-        parts,
-    }))
-}
-
-/// The name of a sig as an expression.
-fn sig_tree(alloc: Global, name: &SigName) -> Result<Tree, AllocError>
-    ensures { IfOk result (λ t. t ≡ as_expr name.now) }
-{
-    match name {
-        SigName::Int(place) => Ok(Tree::Constant(*place, Constant::Int)),
-        SigName::Name(name) => {
-            let tree = name_tree(alloc, name)?;
-            Ok(tree)
-        }
-    }
-}
-
-/// What stands before the dot, as an expression.
-pub fn receiver_tree(alloc: Global, receiver: &Option<SigName>) -> Result<Option<Tree>, AllocError>
-    ensures { IfOk result (λ t. t ≡ option_map as_expr receiver.now) }
-{
-    match receiver {
-        None => Ok(None),
-        Some(name) => {
-            let tree = sig_tree(alloc, name)?;
-            Ok(Some(tree))
-        }
-    }
 }
 
 /// From how many of the names before it the name at a place differs.
@@ -165,16 +113,6 @@ fn add_this<'a>(receiver: &'a Option<Tree>, all: &mut Vec<Declared<'a>>) -> Resu
             })?;
             Ok(())
         }
-    }
-}
-
-/// What stands in brackets.
-pub fn decls_of(parameters: &Option<Parameters>) -> &[Decl<Tree>]
-    ensures { result.now ≡ decls_of parameters.now }
-{
-    match parameters {
-        None => &[],
-        Some(parameters) => parameters.decls.as_slice(),
     }
 }
 

@@ -9,6 +9,7 @@ use crate::commands::are_commands_told;
 use core_tree::Model;
 use resolve_names::{Names, names};
 use resolve_places::is_placed;
+use resolve_read::Readings;
 use resolve_told_literals::are_literals_told;
 use resolve_told_opens::are_opens_told;
 use resolve_told_sigs::are_sigs_told;
@@ -29,25 +30,30 @@ fn names_of(alloc: Global, loaded: &Loaded) -> Result<Names, AllocError>
 /// that they declare, its commands are those of the root, and each of its formulas says what its text says. It has a sig for each
 /// literal in them, and its sigs are exact where their opens say so.
 ///
-/// It takes a model before the relation parameters of a command are fields. Where a name of the texts stands for several
-/// declarations that are seen, any one of them will do.
-pub fn is_of_texts(alloc: Global, loaded: &Loaded, model: &Model) -> Result<bool, AllocError>
-    ensures { IfOk result (λ b. IsTrue b → IsOfTexts loaded.now model.now) }
+/// It takes a model before the relation parameters of a command are fields. Each name of a root stands for the candidate that the
+/// root's reading chooses: what the names are taken to stand for is told, with the types of all declarations, and tested too.
+pub fn is_of_texts(
+    alloc: Global,
+    loaded: &Loaded,
+    model: &Model,
+    readings: &Readings,
+) -> Result<bool, AllocError>
+    ensures { IfOk result (λ b. IsTrue b → IsOfTexts loaded.now model.now readings.now) }
 {
     let placed = is_placed(alloc, loaded, model)?;
     if !placed {
         return Ok(false);
     }
     let names = names_of(alloc, loaded)?;
-    let sigs = are_sigs_told(alloc, loaded, &names, model)?;
+    let sigs = are_sigs_told(alloc, loaded, &names, model, readings)?;
     if !sigs {
         return Ok(false);
     }
-    let bodies = are_bodies_told(alloc, loaded, &names, model)?;
+    let bodies = are_bodies_told(alloc, loaded, &names, model, readings)?;
     if !bodies {
         return Ok(false);
     }
-    let commands = are_commands_told(alloc, loaded, &names, model)?;
+    let commands = are_commands_told(alloc, loaded, &names, model, readings)?;
     if !commands {
         return Ok(false);
     }

@@ -4,7 +4,7 @@ use Rattle.std.proofs.lemmas.Option.{same_Some, slice_get_within}
 use Rattle.syntax_tree.specs.declared.instance.Instance.{Instance}
 use Rattle.syntax_tree.specs.declared.instance.Text.{Text}
 use Rattle.core_tree.specs.declared.model.Sig.{Sig}
-use Rattle.resolve_told_literals.specs.Told.{AreLiteralsTold, HasLabel, IsWritten, quoted}
+use Rattle.resolve_told_literals.specs.Told.{AreLiteralsTold, HasLabel, IsWritten, LabelsDiffer, quoted}
 use Rattle.resolve_told_literals.specs.Marks.{AreFound, Finds}
 
 module _ (sigs : List Sig) where
@@ -16,8 +16,8 @@ module _ (sigs : List Sig) where
   inside n a has = slice_get_within sigs n has.0 has.1
 
   pub told : (texts : List Text) (instances : List Instance) (string first : ℕ) (find : List ℕ → Option ℕ) → first ≡ string + 1 → HasLabel sigs string (codes "String") →
-      Finds sigs first (length sigs) find → AreFound find (IsWritten texts instances) first (length sigs) → AreLiteralsTold texts instances sigs
-  told texts instances string first find next is_string finds found = record {
+      Finds sigs first (length sigs) find → AreFound find (IsWritten texts instances) first (length sigs) → LabelsDiffer sigs → AreLiteralsTold texts instances sigs
+  told texts instances string first find next is_string finds found differ = record {
     string = string;
     is_string = is_string;
     each = λ n label low has.
@@ -27,7 +27,11 @@ module _ (sigs : List Sig) where
         let it = found.found t written in
         let there = finds.each (quoted t) it.0 it.1 in
         (it.0, omega (arith, next, there.0), there.1);
-    once = λ m n label low high left right.
-        same_Some m n (sym (finds.every m left.0 (omega (arith, next, low)) (inside m label left) left.1) ∙ ap find (left.2 ∙ sym right.2)
-        ∙ finds.every n right.0 (omega (arith, next, high)) (inside n label right) right.1);
+    differ = differ;
   }
+
+  -- where each sig is found by its label
+  pub differing : (find : List ℕ → Option ℕ) → Finds sigs 0 (length sigs) find → LabelsDiffer sigs
+  differing find finds m n label left right =
+      same_Some m n (sym (finds.every m left.0 (omega arith) (inside m label left) left.1) ∙ ap find (left.2 ∙ sym right.2)
+      ∙ finds.every n right.0 (omega arith) (inside n label right) right.1)

@@ -24,11 +24,16 @@ quoted text = 34 ∷ text ++ 34 ∷ []
 abbrev pub HasLabel : List Sig → ℕ → List ℕ → Type 0
 HasLabel sigs n label = (d : Sig) × (slice_get sigs n ≡ Some d) × (d.label ≡ label)
 
--- The sigs behind `String` are just those of the literals that the texts of the instances write, one of each.
+-- no two sigs have one label
+abbrev pub LabelsDiffer : List Sig → Type 0
+LabelsDiffer sigs = (m n : ℕ) (label : List ℕ) → HasLabel sigs m label → HasLabel sigs n label → m ≡ n
+
+-- The sigs behind `String` are just those of the literals that the texts of the instances write, one of each: as of all sigs, no two
+-- have one label.
 pub record AreLiteralsTold (texts : List Text) (instances : List Instance) (sigs : List Sig) : Type 0 where
   -- the number of `String`
   pub string : ℕ
   pub is_string : HasLabel sigs string (codes "String")
   pub each : (n : ℕ) (label : List ℕ) → string < n → HasLabel sigs n label → (text : List ℕ) × IsWritten texts instances text × (label ≡ quoted text)
   pub every : (text : List ℕ) → IsWritten texts instances text → (n : ℕ) × (string < n) × HasLabel sigs n (quoted text)
-  pub once : (m n : ℕ) (label : List ℕ) → string < m → string < n → HasLabel sigs m label → HasLabel sigs n label → m ≡ n
+  pub differ : LabelsDiffer sigs

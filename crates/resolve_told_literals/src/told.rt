@@ -1,13 +1,23 @@
 //! The literals of a model are compared with those of its texts.
 
 ghost use Rattle.std.specs.Prelude.{IfOk, IsTrue, codes};
-ghost use Rattle.resolve_told_literals.specs.Told.{AreLiteralsTold, HasLabel};
+ghost use Rattle.resolve_told_literals.specs.Told.{AreLiteralsTold, HasLabel, LabelsDiffer};
 
 use crate::labels::{numbers_from, string_number};
 use crate::marks::are_found;
 use core_tree::{Model, Sig};
 use std::alloc::{AllocError, Global};
 use syntax_tree::Loaded;
+
+/// Whether no two sigs have one label.
+fn labels_differ(alloc: Global, sigs: &[Sig]) -> Result<bool, AllocError>
+    ensures { IfOk result (λ b. IsTrue b → LabelsDiffer sigs.now) }
+{
+    match numbers_from(alloc, sigs, 0)? {
+        None => Ok(false),
+        Some(_numbers) => Ok(true),
+    }
+}
 
 /// The same where `String` has this number.
 fn are_told_behind(
@@ -23,6 +33,9 @@ fn are_told_behind(
     if string >= sigs.len() {
         return Ok(false);
     }
+    if !labels_differ(alloc, sigs)? {
+        return Ok(false);
+    }
     let first = string + 1;
     match numbers_from(alloc, sigs, first)? {
         None => Ok(false),
@@ -34,7 +47,7 @@ fn are_told_behind(
 }
 
 /// Whether the sigs behind `String` are just those of the literals that the texts of the instances write, one of each: the label
-/// of each is a literal with its quotes.
+/// of each is a literal with its quotes. Of all sigs no two have one label.
 pub fn are_literals_told(alloc: Global, loaded: &Loaded, model: &Model) -> Result<bool, AllocError>
     ensures { IfOk result (λ b. IsTrue b → AreLiteralsTold loaded.now.texts loaded.now.instances
         model.now.sigs) }

@@ -4,3 +4,4 @@ pub mod Own
 pub mod Says
 pub mod Walks
 pub mod Told
+pub mod Integers

@@ -2,7 +2,7 @@
 --
 -- Sigs, fields, facts and assertions have numbers, each kind in load order and then text order. A spot has the numbers of those
 -- that come next, and each declaration leads from one spot to the next.
-use Rattle.std.specs.Prelude.{◌≡◌, ℕ, ◌+◌, ◌<◌, ◌≤◌, Bool, true, false, if◌then◌else◌, List, length, codes, Option, Some, None, slice_get}
+use Rattle.std.specs.Prelude.{◌≡◌, ℕ, ◌+◌, ◌<◌, ◌≤◌, Bool, true, false, if◌then◌else◌, List, map, take, length, codes, Option, Some, None, slice_get}
 use Rattle.syntax_tree.specs.declared.expr.Expr.{Expr as Tree}
 use Rattle.syntax_tree.specs.declared.expr.Named.{Named}
 use Rattle.syntax_tree.specs.declared.module.Claim.{Claim as WrittenClaim}
@@ -28,7 +28,12 @@ use Rattle.core_tree.specs.declared.tree.Formula.{Formula}
 use Rattle.core_tree.specs.Trees.{claim_of, term_of}
 use Rattle.resolve_names.specs.declared.table.Namespace.{Namespace}
 use Rattle.resolve_names.specs.Gathered.{module_in}
+use Rattle.resolve_types.specs.declared.columns.Columns.{Columns}
+use Rattle.resolve_readings.specs.declared.meaning.Meaning.{Meaning}
 use Rattle.resolve_said.specs.declared.place.OwnField.{OwnField}
+use Rattle.resolve_read.specs.declared.types.Readings.{Readings}
+use Rattle.resolve_told_types.specs.Kinds.{kinds_of}
+use Rattle.resolve_told_types.specs.Told.{AreSigTypes}
 use Rattle.resolve_told_sigs.specs.declared.fields.ListSpot.{ListSpot}
 use Rattle.resolve_told_sigs.specs.declared.sigs.SigSpot.{SigSpot}
 use Rattle.resolve_told_sigs.specs.declared.table.FieldDecl.{FieldDecl}
@@ -36,18 +41,22 @@ use Rattle.resolve_told_sigs.specs.declared.told.Sources.{Sources}
 use Rattle.resolve_told_sigs.specs.declared.walk.Spot.{Spot}
 use Rattle.resolve_told_sigs.specs.Kinds.{IsKind}
 use Rattle.resolve_told_sigs.specs.Own.{AreOwn}
-use Rattle.resolve_told_sigs.specs.Says.{SaysAlone, SaysOfThis, SaysSetOfThis}
+use Rattle.resolve_told_sigs.specs.Integers.{integers_of}
+use Rattle.resolve_told_sigs.specs.Says.{SaysAlone, SaysOfThis, SaysBound, IsSigTyped, IsFieldTyped, set_in}
 use Rattle.resolve_told_sigs.specs.Walks.{Walks}
 use Rattle.resolve_told_sigs.specs.Words.{IsQuoted, bound_word, field_label, has_field_word, has_qualifier, sig_label, sig_word}
 
--- the names of all instances, the model, and the fields that are declared
+-- the names of all instances, the model, the fields that are declared, what is told of the readings, and the instance of the integers
+-- that are opened implicitly
 pub record Given : Type 0 where
   pub scopes : List Namespace
   pub model : Model
   pub fields : List FieldDecl
+  pub readings : Readings
+  pub integers : Option ℕ
 
 abbrev pub given : Sources → Given
-given s = record { scopes = s.names.now.scopes; model = s.model.now; fields = s.fields.now }
+given s = record { scopes = s.names.now.scopes; model = s.model.now; fields = s.fields.now; readings = s.readings.now; integers = s.integers }
 
 -- ------------------------------------------------------------------ fields
 
@@ -57,21 +66,23 @@ pub record IsWorded (j : ℕ) (g : WrittenField) (columns : ℕ) (d : FieldBound
   pub disj_list : d.disj_list ≡ (if has_field_word word.Disj g.words then Some j else None)
   pub disj_values : d.disj_values ≡ g.is_disjoint
 
--- the bound of a field of list j of sig s in instance k, with the fields before it as those of `this`
-pub record IsBound (at : Given) (k s j : ℕ) (g : WrittenField) (columns : ℕ) (d : FieldBound) : Type 0 where
+-- the bound of field n, which is of list j of sig s in instance k, with the fields before it as those of `this`
+pub record IsBound (at : Given) (k s j n : ℕ) (g : WrittenField) (columns : ℕ) (d : FieldBound) : Type 0 where
   pub words : IsWorded j g columns d
   pub own : List OwnField
   pub are_own : AreOwn at.model.sigs at.fields k s j own
-  pub says : SaysSetOfThis at.scopes at.model k own g.bound.tree (term_of d.bound.expr)
+  pub type : Columns
+  pub says : SaysBound at.scopes at.model at.readings k s own g.bound (term_of d.bound.expr) type
+  pub typed : IsFieldTyped at.readings at.integers k s n type
 
--- a field of that list by its name, where its sig has this label
-pub record IsField (at : Given) (k s : ℕ) (label : List ℕ) (j : ℕ) (g : WrittenField) (name : Named) (f : Field) : Type 0 where
+-- field n, which is of that list, by its name, where its sig has this label
+pub record IsField (at : Given) (k s : ℕ) (label : List ℕ) (j n : ℕ) (g : WrittenField) (name : Named) (f : Field) : Type 0 where
   pub label_is : f.label ≡ field_label label name.name
   pub is_var : f.is_var ≡ has_field_word word.Var g.words
   pub owner : f.owner ≡ Some s
   pub bound : FieldBound
   pub declared : f.declared ≡ Some bound
-  pub is_bound : IsBound at k s j g f.columns bound
+  pub is_bound : IsBound at k s j n g f.columns bound
 
 -- what is known of it as a declaration
 pub record IsEntry (k s j : ℕ) (g : WrittenField) (name : Named) (d : FieldDecl) : Type 0 where
@@ -88,7 +99,7 @@ pub record IsFieldAt (at : Given) (k s : ℕ) (label : List ℕ) (j : ℕ) (g : 
   pub is_entry : IsEntry k s j g name entry
   pub field : Field
   pub there : slice_get at.model.fields n ≡ Some field
-  pub is_field : IsField at k s label j g name field
+  pub is_field : IsField at k s label j n g name field
   pub next_is : next ≡ n + 1
 
 -- the fields of a list
@@ -117,7 +128,7 @@ abbrev pub IsAppended : Given → (k s n : ℕ) → Option Tree → Option Formu
 IsAppended at k s n None appended = appended ≡ None
 IsAppended at k s n (Some block) None = ⊥
 IsAppended at k s n (Some block) (Some formula) =
-    (own : List OwnField) × AreOwn at.model.sigs at.fields k s n own × SaysOfThis at.scopes at.model k own block (claim_of formula)
+    (own : List OwnField) × AreOwn at.model.sigs at.fields k s n own × SaysOfThis at.scopes at.model at.readings k s own block (claim_of formula)
 
 -- sig s by its name, in an instance of this number and label
 pub record IsSig (at : Given) (label : List ℕ) (k s : ℕ) (g : WrittenSig) (name : Named) (d : Sig) : Type 0 where
@@ -131,6 +142,7 @@ pub record IsSigAt (at : Given) (label : List ℕ) (k : ℕ) (g : WrittenSig) (h
   pub sig : Sig
   pub stands : slice_get at.model.sigs here.sig ≡ Some sig
   pub is_sig : IsSig at label k here.sig g name sig
+  pub typed : IsSigTyped at.readings at.integers k here.sig
   pub fields : AreLists at k here.sig sig.label here.field g.fields there.field
   pub next_is : there.sig ≡ here.sig + 1
 
@@ -142,22 +154,24 @@ pub record IsPlain (is_abstract : Bool) (m : Multiplicity) (d : Sig) : Type 0 wh
   pub appended : d.appended ≡ None
 
 -- the next sig is a member of the enum of number s
-pub record IsMemberAt (at : Given) (label : List ℕ) (s n : ℕ) (name : Named) (next : ℕ) : Type 0 where
+pub record IsMemberAt (at : Given) (label : List ℕ) (k s n : ℕ) (name : Named) (next : ℕ) : Type 0 where
   pub sig : Sig
   pub stands : slice_get at.model.sigs n ≡ Some sig
   pub label_is : sig.label ≡ sig_label label name.name
   pub plain : IsPlain false multiplicity.One sig
   pub kind : sig.kind ≡ Extends s
+  pub typed : IsSigTyped at.readings at.integers k n
   pub next_is : next ≡ n + 1
 
 -- the sigs of an enum: itself, and its members behind it
-pub record AreEnum (at : Given) (label : List ℕ) (e : Enumeration) (n next : ℕ) : Type 0 where
+pub record AreEnum (at : Given) (label : List ℕ) (k : ℕ) (e : Enumeration) (n next : ℕ) : Type 0 where
   pub sig : Sig
   pub stands : slice_get at.model.sigs n ≡ Some sig
   pub label_is : sig.label ≡ sig_label label e.name.name
   pub plain : IsPlain true multiplicity.Set sig
   pub kind : sig.kind ≡ Top
-  pub members : Walks (IsMemberAt at label n) (n + 1) e.members next
+  pub typed : IsSigTyped at.readings at.integers k n
+  pub members : Walks (IsMemberAt at label k n) (n + 1) e.members next
 
 pub record IsStringSig (d : Sig) : Type 0 where
   pub label_is : d.label ≡ codes "String"
@@ -187,13 +201,13 @@ pub record IsFact (at : Given) (k : ℕ) (c : WrittenClaim) (f : Fact) : Type 0 
   pub instance : f.instance ≡ k
   pub place : f.place ≡ c.place
   pub name : f.name ≡ title_of c.name
-  pub says : SaysAlone at.scopes at.model k c.block (claim_of f.formula)
+  pub says : SaysAlone at.scopes at.model at.readings k c.block (claim_of f.formula)
 
 pub record IsAssertion (at : Given) (k : ℕ) (c : WrittenClaim) (a : Assert) : Type 0 where
   pub instance : a.instance ≡ k
   pub place : a.place ≡ c.place
   pub name : a.name ≡ title_of c.name
-  pub says : SaysAlone at.scopes at.model k c.block (claim_of a.formula)
+  pub says : SaysAlone at.scopes at.model at.readings k c.block (claim_of a.formula)
 
 -- the fact or assertion of number n
 abbrev pub HasFact : Given → ℕ → WrittenClaim → ℕ → Type 0
@@ -213,7 +227,7 @@ pub record AreSigsAt (at : Given) (label : List ℕ) (here : Spot) (g : WrittenS
   pub next_is : there ≡ record here { sig = there.sig; field = there.field }
 
 pub record IsEnumAt (at : Given) (label : List ℕ) (here : Spot) (e : Enumeration) (there : Spot) : Type 0 where
-  pub sigs : AreEnum at label e here.sig there.sig
+  pub sigs : AreEnum at label here.instance e here.sig there.sig
   pub next_is : there ≡ record here { sig = there.sig }
 
 pub record IsFactAt (at : Given) (here : Spot) (c : WrittenClaim) (there : Spot) : Type 0 where
@@ -252,6 +266,19 @@ IsFree f = f.owner ≡ None
 abbrev pub AreFree : ℕ → List Field → Type 0
 AreFree n fields = (k : ℕ) (f : Field) → n ≤ k → slice_get fields k ≡ Some f → IsFree f
 
+abbrev pub type_in : Meaning → Option Columns
+type_in m = set_in m.what
+
+-- The types of the sigs are those of the hierarchy, in which `String` stands behind those that are declared. There is one for each
+-- sig of it, and one for each field that is declared.
+pub record AreTyped (at : Given) (there : Spot) : Type 0 where
+  pub sigs : length at.readings.types.sigs ≡ there.sig + 1
+  pub fields : length at.readings.types.fields ≡ there.field
+  pub string : at.readings.types.string ≡ there.sig
+  pub types : List Columns
+  pub each : map type_in at.readings.types.sigs ≡ map Some types
+  pub right : AreSigTypes (kinds_of (take (there.sig + 1) at.model.sigs)) at.readings.types.typing.lines types at.readings.types.univ at.readings.types.typing.iden
+
 -- behind what is declared stand `String`, the sigs of the literals, and fields without an owner
 pub record IsWhole (at : Given) (there : Spot) : Type 0 where
   pub strings : AreStrings at.model.sigs there.sig
@@ -259,15 +286,20 @@ pub record IsWhole (at : Given) (there : Spot) : Type 0 where
   pub fields : length at.fields ≡ there.field
   pub facts : length at.model.facts ≡ there.fact
   pub asserts : length at.model.asserts ≡ there.assertion
+  pub types : AreTyped at there
 
 abbrev pub first_spot : Spot
 first_spot = record { instance = 0; sig = 0; field = 0; fact = 0; assertion = 0 }
 
--- The model says just what the texts declare of sigs, fields, facts and assertions. Which sigs are exact, and the columns and types
--- of fields, are left out.
-pub record AreSigsTold (texts : List Text) (instances : List Instance) (scopes : List Namespace) (model : Model) : Type 0 where
+abbrev pub given_by : List Text → List Instance → List Namespace → Model → Readings → List FieldDecl → Given
+given_by texts instances scopes model readings fields = record { scopes = scopes; model = model; fields = fields; readings = readings; integers = integers_of texts instances }
+
+-- The model says just what the texts declare of sigs, fields, facts and assertions, by these readings, which are the right ones, as
+-- are the types of sigs and fields that they tell. Which sigs are exact, and the columns and types that the model itself has of its
+-- fields, are left out.
+pub record AreSigsTold (texts : List Text) (instances : List Instance) (scopes : List Namespace) (model : Model) (readings : Readings) : Type 0 where
   -- what is declared of each field, by its number
   pub fields : List FieldDecl
   pub last : Spot
-  pub told : Walks (IsInstanceAt texts (record { scopes = scopes; model = model; fields = fields })) first_spot instances last
-  pub whole : IsWhole (record { scopes = scopes; model = model; fields = fields }) last
+  pub told : Walks (IsInstanceAt texts (given_by texts instances scopes model readings fields)) first_spot instances last
+  pub whole : IsWhole (given_by texts instances scopes model readings fields) last

@@ -44,8 +44,9 @@ fn is_fact(
     if !is_titled(&fact.name, &written.name) {
         return Ok(false);
     }
-    let (names, model) = (sources.names, sources.model);
-    let says = says_alone(alloc, names, model, instance, &written.block, &fact.formula)?;
+    let (names, model, readings) = (sources.names, sources.model, sources.readings);
+    let (block, formula) = (&written.block, &fact.formula);
+    let says = says_alone(alloc, names, model, readings, instance, block, formula)?;
     Ok(says)
 }
 
@@ -85,8 +86,9 @@ fn is_assertion(
     if !is_titled(&made.name, &written.name) {
         return Ok(false);
     }
-    let (names, model) = (sources.names, sources.model);
-    let says = says_alone(alloc, names, model, instance, &written.block, &made.formula)?;
+    let (names, model, readings) = (sources.names, sources.model, sources.readings);
+    let (block, formula) = (&written.block, &made.formula);
+    let says = says_alone(alloc, names, model, readings, instance, block, formula)?;
     Ok(says)
 }
 

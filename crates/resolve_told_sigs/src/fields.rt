@@ -6,9 +6,10 @@ ghost use Rattle.resolve_told_sigs.specs.Walks.{Walks};
 ghost use Rattle.resolve_told_sigs.specs.Told.{AreLists, IsBound, IsEntry, IsField, IsFieldAt, IsListAt, IsWorded, given};
 
 use crate::own::own_fields;
-use crate::says::says_set_of_this;
+use crate::says::said_bound;
 use crate::table::FieldDecl;
 use crate::told::Sources;
+use crate::typed::is_field_typed;
 use crate::words::{
     bound_word, has_field_word, is_field_label, next, same_bool, same_multiplicity, same_text,
 };
@@ -53,7 +54,7 @@ fn is_worded(list: u32, written: &Written, columns: u32, bound: &FieldBound) -> 
         && same_bool(bound.disj_values, written.is_disjoint)
 }
 
-/// Whether a bound says what its text says.
+/// Whether the bound of the field of this number says what its text says.
 fn is_bound(
     alloc: Global,
     sources: &Sources<'_>,
@@ -61,29 +62,30 @@ fn is_bound(
     instance: u32,
     sig: u32,
     list: u32,
+    number: u32,
     written: &Written,
     columns: u32,
     bound: &FieldBound,
 ) -> Result<bool, AllocError>
     requires { AreOwn sources.now.model.now.sigs sources.now.fields.now instance sig list own.now }
-    ensures { IfOk result (λ b. IsTrue b → IsBound (given sources.now) instance sig list written.now
-        columns bound.now) }
+    ensures { IfOk result (λ b. IsTrue b → IsBound (given sources.now) instance sig list number
+        written.now columns bound.now) }
 {
     if !is_worded(list, written, columns, bound) {
         return Ok(false);
     }
-    let tree = &written.bound.tree;
-    let expr = &bound.bound.expr;
-    let says = says_set_of_this(
-        alloc,
-        sources.names,
-        sources.model,
-        instance,
-        own,
-        tree,
-        expr,
-    )?;
-    Ok(says)
+    let (names, model, readings) = (sources.names, sources.model, sources.readings);
+    let (text, expr) = (&written.bound, &bound.bound.expr);
+    match said_bound(
+        alloc, names, model, readings, instance, sig, own, text, expr,
+    )? {
+        None => Ok(false),
+        Some(found) => {
+            let integers = sources.integers;
+            let typed = is_field_typed(alloc, readings, integers, instance, sig, number, &found)?;
+            Ok(typed)
+        }
+    }
 }
 
 /// Whether a field says what its text says.
@@ -93,6 +95,7 @@ fn is_field(
     own: &[OwnField],
     owner: &Owner<'_>,
     list: u32,
+    number: u32,
     written: &Written,
     name: &Named,
     made: &Field,
@@ -100,7 +103,7 @@ fn is_field(
     requires { AreOwn sources.now.model.now.sigs sources.now.fields.now owner.now.instance
         owner.now.sig list own.now }
     ensures { IfOk result (λ b. IsTrue b → IsField (given sources.now) owner.now.instance
-        owner.now.sig owner.now.label.now list written.now name.now made.now) }
+        owner.now.sig owner.now.label.now list number written.now name.now made.now) }
 {
     if !is_field_label(alloc, made.label.text(), owner.label, name.name.text())? {
         return Ok(false);
@@ -120,7 +123,7 @@ fn is_field(
             let columns = made.columns;
             let (instance, sig) = (owner.instance, owner.sig);
             let told = is_bound(
-                alloc, sources, own, instance, sig, list, written, columns, bound,
+                alloc, sources, own, instance, sig, list, number, written, columns, bound,
             )?;
             Ok(told)
         }
@@ -187,7 +190,7 @@ fn field_at(
         return Ok(None);
     }
     let made = sources.model.fields.get(place);
-    if !is_field(alloc, sources, own, owner, list, written, name, made)? {
+    if !is_field(alloc, sources, own, owner, list, at, written, name, made)? {
         return Ok(None);
     }
     let after = next(at)?;

@@ -10,6 +10,7 @@ use crate::kinds::is_kind;
 use crate::own::own_fields;
 use crate::says::says_of_this;
 use crate::told::Sources;
+use crate::typed::is_sig_typed;
 use crate::words::{
     has_qualifier, is_quoted, is_sig_label, next, same_bool, same_multiplicity, same_text, sig_word,
 };
@@ -54,9 +55,11 @@ fn says_block(
     match own_fields(alloc, sigs, sources.fields, instance, sig, lists)? {
         None => Ok(false),
         Some(own) => {
-            let (names, model) = (sources.names, sources.model);
+            let (names, model, readings) = (sources.names, sources.model, sources.readings);
             let own = own.as_slice();
-            let says = says_of_this(alloc, names, model, instance, own, block, formula)?;
+            let says = says_of_this(
+                alloc, names, model, readings, instance, sig, own, block, formula,
+            )?;
             Ok(says)
         }
     }
@@ -150,6 +153,9 @@ fn sig_at(
     if !is_sig(alloc, sources, label, instance, at.sig, written, name, made)? {
         return Ok(None);
     }
+    if !is_sig_typed(sources.readings, sources.integers, instance, at.sig) {
+        return Ok(None);
+    }
     let owner = Owner {
         instance,
         sig: at.sig,
@@ -218,12 +224,13 @@ fn member_at(
     alloc: Global,
     sources: &Sources<'_>,
     label: &str,
+    instance: u32,
     first: u32,
     at: u32,
     name: &Named,
 ) -> Result<Option<u32>, AllocError>
-    ensures { IfOk result (λ o. IfSome o (IsMemberAt (given sources.now) label.now first at
-        name.now)) }
+    ensures { IfOk result (λ o. IfSome o (IsMemberAt (given sources.now) label.now instance first
+        at name.now)) }
 {
     let place = at as usize;
     if place >= sources.model.sigs.len() {
@@ -236,6 +243,9 @@ fn member_at(
     if !is_plain(false, Multiplicity::One, made) || !does_extend(&made.kind, first) {
         return Ok(None);
     }
+    if !is_sig_typed(sources.readings, sources.integers, instance, at) {
+        return Ok(None);
+    }
     let after = next(at)?;
     Ok(Some(after))
 }
@@ -245,16 +255,17 @@ fn members_at(
     alloc: Global,
     sources: &Sources<'_>,
     label: &str,
+    instance: u32,
     first: u32,
     at: u32,
     members: &[Named],
 ) -> Result<Option<u32>, AllocError>
-    ensures { IfOk result (λ o. IfSome o (Walks (IsMemberAt (given sources.now) label.now first) at
-        members.now)) }
+    ensures { IfOk result (λ o. IfSome o (Walks (IsMemberAt (given sources.now) label.now instance
+        first) at members.now)) }
 {
     let mut here = at;
     for name in members {
-        match member_at(alloc, sources, label, first, here, name)? {
+        match member_at(alloc, sources, label, instance, first, here, name)? {
             None => return Ok(None),
             Some(there) => here = there,
         }
@@ -267,10 +278,12 @@ pub fn enum_at(
     alloc: Global,
     sources: &Sources<'_>,
     label: &str,
+    instance: u32,
     written: &Enumeration,
     at: u32,
 ) -> Result<Option<u32>, AllocError>
-    ensures { IfOk result (λ o. IfSome o (AreEnum (given sources.now) label.now written.now at)) }
+    ensures { IfOk result (λ o. IfSome o (AreEnum (given sources.now) label.now instance
+        written.now at)) }
 {
     let place = at as usize;
     if place >= sources.model.sigs.len() {
@@ -283,9 +296,12 @@ pub fn enum_at(
     if !is_plain(true, Multiplicity::Set, made) || !is_top(&made.kind) {
         return Ok(None);
     }
+    if !is_sig_typed(sources.readings, sources.integers, instance, at) {
+        return Ok(None);
+    }
     let second = next(at)?;
     let members = written.members.as_slice();
-    let after = members_at(alloc, sources, label, at, second, members)?;
+    let after = members_at(alloc, sources, label, instance, at, second, members)?;
     Ok(after)
 }
 

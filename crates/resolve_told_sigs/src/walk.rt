@@ -59,7 +59,7 @@ fn behind_enum(
     ensures { IfOk result (λ o. IfSome o (λ there. IsEnumAt (given sources.now) label.now at
         written.now there)) }
 {
-    match enum_at(alloc, sources, label, written, at.sig)? {
+    match enum_at(alloc, sources, label, at.instance, written, at.sig)? {
         None => Ok(None),
         Some(sig) => Ok(Some(Spot {
             instance: at.instance,

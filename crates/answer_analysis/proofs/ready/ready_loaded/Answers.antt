@@ -8,27 +8,34 @@ use Rattle.core_tree.specs.declared.model.Command.{Command}
 use Rattle.core_tree.specs.declared.model.Model.{Model}
 use Rattle.form_skolem.specs.Opened.{IsOpened}
 use Rattle.resolve_check.specs.Kept.{IsModelButTypes}
+use Rattle.resolve_model.specs.declared.solve.Resolved.{Resolved}
 use Rattle.resolve_told.specs.Texts.{IsOfTexts}
-use Rattle.answer_analysis.specs.Found.{IsModelIn}
+use Rattle.answer_analysis.specs.Found.{IsModelIn, OpensResolved}
 use Rattle.answer_analysis.proofs.ready.ready_loaded.Goals as goal
 
 of_chosen : (o : Option Command) (command : Command) (P : Command → Type 0) → o ≡ Some command → IfSome o P → P command
 of_chosen o command P is held = subst (λ (x : Option Command). IfSome x P) is held
 
-model_in : (loaded : Loaded) (number : ℕ) (resolved told opened model : Model) → IsModelButTypes resolved → told ≡ resolved → IsOfTexts loaded told →
-    IsOpened told number opened → model ≡ opened → IsModel model → IsModelIn loaded number model
-model_in loaded number resolved told opened model kept same of_texts opens is is_model = record {
+-- the model is the one that the texts declare by what was told, opened
+opens_resolved : (loaded : Loaded) (number : ℕ) (resolved told : Resolved) (opened model : Model) → IsModelButTypes resolved.model → told ≡ resolved → IsOfTexts loaded told.model told.readings →
+    IsOpened told.model number opened → model ≡ opened → OpensResolved loaded number model told.readings
+opens_resolved loaded number resolved told opened model kept same of_texts opens is = record {
+  resolved = told.model;
+  kept = subst (λ (r : Resolved). IsModelButTypes r.model) (sym same) kept;
+  of_texts = of_texts;
+  opens = subst (λ (m : Model). IsOpened told.model number m) (sym is) opens;
+}
+
+model_in : (loaded : Loaded) (number : ℕ) (resolved told : Resolved) (opened model : Model) → IsModelButTypes resolved.model → told ≡ resolved → IsOfTexts loaded told.model told.readings →
+    IsOpened told.model number opened → model ≡ opened → IsModel model → IsModelIn loaded number model
+model_in loaded number resolved told opened model kept same of_texts opened_is is is_model = record {
   kept = is_model;
-  opened = record {
-    resolved = told;
-    kept = subst IsModelButTypes (sym same) kept;
-    of_texts = of_texts;
-    opens = subst (λ (m : Model). IsOpened told number m) (sym is) opens;
-  };
+  readings = told.readings;
+  opened = opens_resolved loaded number resolved told opened model kept same of_texts opened_is is;
 }
 
 pub open_params-requires : goal.open_params-requires
-open_params-requires c = subst IsModelButTypes (sym c.in_ok-told.ensures.same) c.in_ok-resolved.ensures.kept
+open_params-requires c = subst (λ (r : Resolved). IsModelButTypes r.model) (sym c.in_ok-told.ensures.same) c.in_ok-resolved.ensures.kept
 
 pub scopes_of-requires : goal.scopes_of-requires
 scopes_of-requires c = model_in _ _ _ _ _ _ c.in_ok-resolved.ensures.kept c.in_ok-told.ensures.same c.in_ok-told.ensures.told c.in_ok-opened.ensures.opened c.in_ok-model.ensures.same c.in_ok-model.ensures.kept
@@ -53,7 +60,7 @@ pub returns-clause-ready : goal.returns-clause-ready
 returns-clause-ready c = record {
   kept = c.in_ok-model.ensures.kept;
   plain = c.in_ok-model.ensures.plain;
-  opened = (model_in _ _ _ _ _ _ c.in_ok-resolved.ensures.kept c.in_ok-told.ensures.same c.in_ok-told.ensures.told c.in_ok-opened.ensures.opened c.in_ok-model.ensures.same c.in_ok-model.ensures.kept).opened;
+  opened = opens_resolved _ _ _ _ _ _ c.in_ok-resolved.ensures.kept c.in_ok-told.ensures.same c.in_ok-told.ensures.told c.in_ok-opened.ensures.opened c.in_ok-model.ensures.same;
   named = c.in_ok-placed.ensures.named c.if-not-placed.false;
   placed = c.in_ok-placed.ensures.placed c.if-not-placed.false;
   command = c.get-chosen.result.now;

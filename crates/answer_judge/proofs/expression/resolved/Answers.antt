@@ -1,16 +1,13 @@
-use Rattle.std.proofs.Common.{◌≡◌, [], inl, subst, sym}
-use Rattle.core_tree.specs.Trees.{Term, term_of}
+use Rattle.std.proofs.Common.{inl, subst}
+use Rattle.core_tree.specs.Trees.{term_of}
 use Rattle.resolve_model.specs.Refused.{IsValueFault}
-use Rattle.resolve_said.specs.Said.{SaysSet}
-use Rattle.answer_judge.specs.Expression.{in_root}
-use Rattle.answer_judge.proofs.Reading.{if_read}
+use Rattle.answer_judge.proofs.Reading.{checked_read}
 use Rattle.answer_judge.proofs.expression.resolved.Goals as goal
 
-pub returns-else-not-said-clause-says : goal.returns-else-not-said-clause-says
-returns-else-not-said-clause-says c =
-    let says = c.in_ok-said-in-Ok.ensures c.if-not-said.false in
-    if_read (λ t. t ≡ term_of c.in-Ok.value) (SaysSet (in_root c.args.loaded.now c.args.model.now) [] c.args.tree.now)
-    (λ t same. subst (SaysSet (in_root c.args.loaded.now c.args.model.now) [] c.args.tree.now) (sym same) says) c.checked.result c.checked.ensures.same
+pub returns-else-not-said : goal.returns-else-not-said
+returns-else-not-said c =
+    checked_read c.args.loaded.now c.args.model.now c.args.types.now c.args.scopes.now.bits c.args.tree.now c.args.first (term_of c.in-Ok.found.value) c.in-Ok.ensures.kept
+    (c.in_ok-said-in-Ok.ensures c.if-not-said.false) c.checked.result c.checked.ensures
 
-pub returns-in-Err-Refused-clause-read : goal.returns-in-Err-Refused-clause-read
-returns-in-Err-Refused-clause-read c = inl (rw c.in-Err-Refused.field-0-is (subst IsValueFault c.in-Err-Refused.field-0-is c.in-Err-Refused.ensures.fault))
+pub returns-in-Err-Refused : goal.returns-in-Err-Refused
+returns-in-Err-Refused c = inl (rw c.in-Err-Refused.field-0-is (subst IsValueFault c.in-Err-Refused.field-0-is c.in-Err-Refused.ensures.fault))

@@ -1,13 +1,9 @@
-use Rattle.std.proofs.Common.{◌≡◌, ◌∙◌, ℕ, ◌+◌, ◌-◌, List, length, map, take, refl, sym, ap, subst, arith, Option, SFits, w64, rules}
+use Rattle.std.proofs.Common.{◌∙◌, sym, ap, subst, SFits, w64, rules}
 use Rattle.std.proofs.lemmas.Int.{to_z-of_z}
-use Rattle.syntax_tree.specs.declared.expr.Expr.{Expr}
-use Rattle.syntax_tree.specs.declared.expr.Expr.TheVariants as expr
-use Rattle.core_tree.specs.declared.tree.Formula.{Formula}
-use Rattle.core_tree.specs.Trees.{claim_of, number, term_of}
+use Rattle.core_tree.specs.Trees.{number}
 use Rattle.resolve_said.specs.Locals.{scope_of}
-use Rattle.resolve_said.specs.Operators.{Said, a_set, Compares, equals, plainly, negated}
-use Rattle.resolve_said.specs.Parts.{said_by}
-use Rattle.resolve_said.specs.Said.{Says, NameSays, IsShown, is_local, is_declared, a_name, a_field, this, a_constant, a_number, a_negative, a_literal, standing_of}
+use Rattle.resolve_said.specs.Operators.{Said, a_set}
+use Rattle.resolve_said.specs.Said.{Says, a_name, a_field, a_number, a_negative, a_literal, standing_of}
 use Rattle.resolve_said.proofs.leaves.says_leaf.Goals as goal
 
 pub returns-in_ok-said-in-Name : goal.returns-in_ok-said-in-Name

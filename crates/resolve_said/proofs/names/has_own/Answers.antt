@@ -1,4 +1,4 @@
-use Rattle.std.proofs.Common.{◌≡◌, ◌∙◌, List, ℕ, sym, ap}
+use Rattle.std.proofs.Common.{◌∙◌, List, ℕ, sym, ap}
 use Rattle.std.specs.Str.{bytes_eq}
 use Rattle.resolve_said.proofs.Sums.{own_next, own_here, own_end}
 use Rattle.resolve_said.proofs.names.has_own.Goals as goal

@@ -1,4 +1,3 @@
-use Rattle.std.proofs.Common.{◌≡◌, ◌∙◌, refl, sym, ap, subst, arith, List}
 use Rattle.resolve_said.proofs.Taken.{value_case}
 use Rattle.resolve_said.proofs.names.is_value.Goals as goal
 

@@ -9,4 +9,4 @@ returns-in_ok-said-in-None c = λ h.
     let d = c.in_ok-said-in-None.ensures h in
     is_declared d.0 (said_by c.args.part.now)
     (subst (λ (o : Option (List ℕ)). IsShown (standing_of c.args.site.now) (scope_of c.args.locals.now) o) (sym c.in-None.ensures.none) tt)
-    d.1 d.2
+    d.1 d.2 d.3

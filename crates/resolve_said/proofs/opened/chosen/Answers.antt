@@ -1,4 +1,3 @@
-use Rattle.std.proofs.Common.{◌≡◌, ◌∙◌, refl, sym, ap, subst, arith, List}
 use Rattle.resolve_said.specs.Operators.{sets, formulas}
 use Rattle.resolve_said.proofs.opened.chosen.Goals as goal
 

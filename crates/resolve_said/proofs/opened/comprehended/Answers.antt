@@ -1,4 +1,3 @@
-use Rattle.std.proofs.Common.{◌≡◌, ◌∙◌, refl, sym, ap, subst, arith, List}
 use Rattle.resolve_said.specs.Operators.{collects}
 use Rattle.core_tree.proofs.RowLemmas.{comprehension_is}
 use Rattle.resolve_said.proofs.opened.comprehended.Goals as goal

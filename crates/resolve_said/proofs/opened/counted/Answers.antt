@@ -1,4 +1,3 @@
-use Rattle.std.proofs.Common.{◌≡◌, ◌∙◌, refl, sym, ap, subst, arith, List}
 use Rattle.resolve_said.specs.Operators.{for_some}
 use Rattle.core_tree.proofs.RowLemmas.{counted_is}
 use Rattle.resolve_said.proofs.opened.counted.Goals as goal

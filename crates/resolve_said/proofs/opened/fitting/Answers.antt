@@ -1,5 +1,4 @@
-use Rattle.std.proofs.Common.{◌≡◌, ◌∙◌, sym}
-use Rattle.resolve_said.proofs.Sides.{inside_case, arrows_case, word_case}
+use Rattle.resolve_said.proofs.Sides.{word_case}
 use Rattle.resolve_said.proofs.opened.fitting.Goals as goal
 
 pub returns-else-not-has_word : goal.returns-else-not-has_word

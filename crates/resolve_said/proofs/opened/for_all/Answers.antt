@@ -1,4 +1,3 @@
-use Rattle.std.proofs.Common.{◌≡◌, ◌∙◌, refl, sym, ap, subst, arith, List}
 use Rattle.resolve_said.specs.Operators.{for_each}
 use Rattle.core_tree.proofs.RowLemmas.{for_all_is}
 use Rattle.resolve_said.proofs.opened.for_all.Goals as goal

@@ -1,4 +1,4 @@
-use Rattle.std.proofs.Common.{◌≡◌, ◌∙◌, refl, sym, ap, subst, arith, List}
+use Rattle.std.proofs.Common.{◌∙◌, sym}
 use Rattle.resolve_said.specs.Operators.{negates, shifts, tests}
 use Rattle.resolve_said.proofs.opened.formula_operand.Goals as goal
 

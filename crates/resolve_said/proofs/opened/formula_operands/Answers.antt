@@ -1,4 +1,3 @@
-use Rattle.std.proofs.Common.{◌≡◌, ◌∙◌, refl, sym, ap, subst, arith, List}
 use Rattle.resolve_said.specs.Operators.{connects, follows}
 use Rattle.resolve_said.proofs.opened.formula_operands.Goals as goal
 

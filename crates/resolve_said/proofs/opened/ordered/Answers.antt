@@ -1,4 +1,3 @@
-use Rattle.std.proofs.Common.{◌≡◌, ◌∙◌, refl, sym, ap, subst, arith, List}
 use Rattle.resolve_said.specs.Operators.{orders}
 use Rattle.resolve_said.proofs.opened.ordered.Goals as goal
 

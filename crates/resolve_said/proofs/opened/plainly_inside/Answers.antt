@@ -1,5 +1,5 @@
-use Rattle.std.proofs.Common.{◌≡◌, ◌∙◌, sym}
-use Rattle.resolve_said.proofs.Sides.{inside_case, arrows_case, word_case}
+use Rattle.std.proofs.Common.{◌∙◌, sym}
+use Rattle.resolve_said.proofs.Sides.{inside_case}
 use Rattle.resolve_said.proofs.opened.plainly_inside.Goals as goal
 
 pub returns-else-has_words : goal.returns-else-has_words

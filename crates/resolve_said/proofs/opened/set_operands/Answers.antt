@@ -1,4 +1,3 @@
-use Rattle.std.proofs.Common.{◌≡◌, ◌∙◌, refl, sym, ap, subst, arith, List}
 use Rattle.resolve_said.specs.Operators.{relates, calculates}
 use Rattle.resolve_said.proofs.opened.set_operands.Goals as goal
 

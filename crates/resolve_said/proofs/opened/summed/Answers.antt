@@ -1,4 +1,3 @@
-use Rattle.std.proofs.Common.{◌≡◌, ◌∙◌, refl, sym, ap, subst, arith, List}
 use Rattle.resolve_said.specs.Operators.{sums}
 use Rattle.core_tree.proofs.RowLemmas.{sum_over_is}
 use Rattle.resolve_said.proofs.opened.summed.Goals as goal

@@ -1,4 +1,3 @@
-use Rattle.std.proofs.Common.{◌≡◌, ◌∙◌, refl, sym, ap, subst, arith, List}
 use Rattle.resolve_said.specs.Operators.{in_set, in_formula}
 use Rattle.resolve_said.proofs.opened.under_let.Goals as goal
 

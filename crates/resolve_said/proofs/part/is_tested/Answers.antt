@@ -1,4 +1,4 @@
-use Rattle.std.proofs.Common.{◌≡◌, ◌∙◌, refl, sym, ap, subst, arith, List}
+use Rattle.std.proofs.Common.{◌∙◌}
 use Rattle.resolve_said.specs.Operators.{is_tested}
 use Rattle.resolve_said.proofs.part.is_tested.Goals as goal
 

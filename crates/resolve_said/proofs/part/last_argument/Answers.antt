@@ -1,4 +1,4 @@
-use Rattle.std.proofs.Common.{◌≡◌, ◌∙◌, refl, sym, ap, subst, arith, List}
+use Rattle.std.proofs.Common.{arith}
 use Rattle.resolve_said.proofs.Taken.{last_case}
 use Rattle.resolve_said.proofs.part.last_argument.Goals as goal
 

@@ -1,4 +1,3 @@
-use Rattle.std.proofs.Common.{◌≡◌, ◌∙◌, refl, sym, ap, subst, arith, List}
 use Rattle.resolve_said.proofs.Taken.{formula_case}
 use Rattle.resolve_said.proofs.part.split_formula.Goals as goal
 

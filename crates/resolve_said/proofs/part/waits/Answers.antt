@@ -1,4 +1,4 @@
-use Rattle.std.proofs.Common.{◌≡◌, ◌∙◌, refl, sym, ap, subst, arith, List}
+use Rattle.std.proofs.Common.{arith}
 use Rattle.resolve_said.specs.Operators.{waits}
 use Rattle.resolve_said.proofs.part.waits.Goals as goal
 

@@ -1,4 +1,4 @@
-use Rattle.std.proofs.Common.{◌≡◌, ◌∙◌, ℕ, ◌+◌, ◌-◌, ◌≤◌, List, ◌++◌, length, take, drop, ap, arith}
+use Rattle.std.proofs.Common.{arith}
 use Rattle.resolve_said.proofs.Lists.{take_range}
 use Rattle.resolve_said.proofs.variables.variables_from.Goals as goal
 

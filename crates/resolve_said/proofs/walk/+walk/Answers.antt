@@ -1,4 +1,4 @@
-use Rattle.std.proofs.Common.{◌≡◌, ◌∙◌, ℕ, ◌+◌, ◌-◌, List, length, get_or, refl, sym, ap, subst, arith}
+use Rattle.std.proofs.Common.{◌≡◌, ◌∙◌, ◌+◌, ◌-◌, List, length, get_or, refl, sym, ap, subst, arith}
 use Rattle.syntax_tree.specs.declared.expr.Named.{Named}
 use Rattle.resolve_said.specs.Locals.{scope_of}
 use Rattle.resolve_said.specs.Parts.{said_by}

@@ -1,4 +1,4 @@
-use Rattle.std.proofs.Common.{◌≡◌, ◌-◌, ◌≤◌, ◌∷◌, map, take, drop, length}
+use Rattle.std.proofs.Common.{◌-◌, ◌≤◌, ◌∷◌, map, take, drop, length}
 use Rattle.syntax_tree.specs.declared.expr.Expr.{Expr}
 use Rattle.core_tree.specs.Trees.{Claim, claim_of, variable_of}
 use Rattle.resolve_said.specs.Locals.{scope_of, under_values}

@@ -6,5 +6,6 @@ use Rattle.resolve_told.proofs.bodies.are_bodies.Goals as goal
 
 pub loop-place-preserved : goal.loop-place-preserved
 loop-place-preserved c =
-    pair_more (λ n d b. IsBody c.args.names.now.scopes c.args.model.now d b) declaration c.args.all.now c.args.bodies.now c.loop-place.place c.index-all-place.result c.index-bodies-place.result
+    let told = c.args.told.now in
+    pair_more (IsBody told.names.now.scopes told.model.now told.readings.now told.integers) declaration c.args.all.now c.args.bodies.now c.loop-place.place c.index-all-place.result c.index-bodies-place.result
     (omega arith) (omega arith) c.index-all-place.is c.index-bodies-place.is c.loop-place.invariant (c.in_ok-is_right.ensures c.if-not-is_right.false)

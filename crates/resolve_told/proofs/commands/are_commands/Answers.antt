@@ -7,10 +7,10 @@ use Rattle.resolve_told.proofs.commands.are_commands.Goals as goal
 pub loop-place-preserved : goal.loop-place-preserved
 loop-place-preserved c =
     let s = c.args.sources.now in
-    pair_more (λ n w d. IsCommand s.loaded.now.texts s.loaded.now.instances s.names.now.scopes s.model.now w d) command_of c.args.written.now c.args.commands.now c.loop-place.place c.index-written-place.result c.index-commands-place.result
+    pair_more (λ n w d. IsCommand s.loaded.now.texts s.loaded.now.instances s.names.now.scopes s.model.now s.readings.now w d) command_of c.args.written.now c.args.commands.now c.loop-place.place c.index-written-place.result c.index-commands-place.result
     (omega arith) (omega arith) c.index-written-place.is c.index-commands-place.is c.loop-place.invariant (c.in_ok-is_right.ensures c.if-not-is_right.false)
 
 pub returns : goal.returns
 returns c = λ yes.
-    pair_all (λ n w d. IsCommand c.args.sources.now.loaded.now.texts c.args.sources.now.loaded.now.instances c.args.sources.now.names.now.scopes c.args.sources.now.model.now w d) command_of c.args.written.now c.args.commands.now c.loop-place.place
+    pair_all (λ n w d. IsCommand c.args.sources.now.loaded.now.texts c.args.sources.now.loaded.now.instances c.args.sources.now.names.now.scopes c.args.sources.now.model.now c.args.sources.now.readings.now w d) command_of c.args.written.now c.args.commands.now c.loop-place.place
     (omega arith) (omega arith) c.loop-place.invariant

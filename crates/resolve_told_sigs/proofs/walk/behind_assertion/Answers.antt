@@ -1,5 +1,4 @@
-use Rattle.std.proofs.Common.{◌≡◌, ℕ, ap}
-use Rattle.resolve_told_sigs.specs.declared.walk.Spot.{Spot}
+use Rattle.std.proofs.Common.{ℕ, ap}
 use Rattle.resolve_told_sigs.proofs.walk.behind_assertion.Goals as goal
 
 pub returns : goal.returns

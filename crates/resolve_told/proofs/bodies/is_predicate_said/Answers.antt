@@ -1,0 +1,9 @@
+use Rattle.std.proofs.Common.{subst}
+use Rattle.resolve_said.specs.Said.{standing_of}
+use Rattle.resolve_told.specs.Bodies.{IsPredicate}
+use Rattle.resolve_told.proofs.bodies.is_predicate_said.Goals as goal
+
+pub returns-in_ok-is_said-in-Some : goal.returns-in_ok-is_said-in-Some
+returns-in_ok-is_said-in-Some c = λ same.
+    subst (λ at. IsPredicate at c.args.told.now.model.now c.args.predicate.now c.args.body.now) c.in-Some.ensures.standing
+    (subst (λ m. IsPredicate (standing_of c.in-Some.site) m c.args.predicate.now c.args.body.now) c.in-Some.ensures.model (c.in_ok-is_said-in-Some.ensures same))

@@ -1,0 +1,4 @@
+mod LineLaws
+mod Lists
+mod OuterLaws
+mod TypeLaws
