@@ -22,6 +22,7 @@ pub record Occurrence : Type 0 where
   pub name : QualName
   pub is_field : Bool
 
+-- the name stands in the expression, in whose scope are these names
 pub data Occurs : Scope → Expr → Occurrence → Type 0 where
   a_name : {scope : Scope} {e : Expr} {q : QualName} → e ≡ expr.Name q → Occurs scope e (record { scope = scope; name = q; is_field = false })
   a_field : {scope : Scope} {e : Expr} {p : Position} {q : QualName} → e ≡ expr.At p q → Occurs scope e (record { scope = scope; name = q; is_field = true })

@@ -20,14 +20,17 @@ with_picks at picks = record at { picks = picks }
 abbrev pub names_of : Scope → Names
 names_of scope = map (λ (l : Local). l.name) scope
 
+-- Two ways to take names, by both of which an expression is read as a root in its place, agree on its names, and it means the same.
 abbrev pub RootsAgree : Type 0
 RootsAgree = (at : At) (picks : Position → Option Target) (scope : Scope) (w : RootPlace) (e : Expr) (m n : Meaning) →
     RootReads at scope w e m → RootReads (with_picks at picks) scope w e n → (m ≡ n) × Agree at.picks picks (names_of scope) e
 
+-- two by both of which each root of a formula has its reading agree on the names of the formula
 abbrev pub FormulasAgree : Type 0
 FormulasAgree = (at : At) (picks : Position → Option Target) (scope : Scope) (e : Expr) →
     IsRead at scope e → IsRead (with_picks at picks) scope e → Agree at.picks picks (names_of scope) e
 
+-- two by both of which the bound of a declaration is read agree on its names, and it has the same type
 abbrev pub BoundsAgree : Type 0
 BoundsAgree = (at : At) (picks : Position → Option Target) (scope : Scope) (w : Option Word) (e : Expr) (c d : Columns) →
     BoundReads at scope w e c → BoundReads (with_picks at picks) scope w e d → (c ≡ d) × Agree at.picks picks (names_of scope) e
